@@ -1,0 +1,4 @@
+pub mod Outcome
+pub mod OneOutcome
+pub mod Number
+pub mod Counts
