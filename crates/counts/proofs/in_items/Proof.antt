@@ -14,7 +14,7 @@ enum-told c = search needs
 
 -- src/lib.rt:94:1
 returns : tie.Need-returns
-returns c = ?
+returns c = cc
 
 -- src/lib.rt:94:1
 returns-2 : tie.Need-returns-2

@@ -16,7 +16,7 @@ in-bytes-requires c κs = search needs
 
 -- src/lib.rt:78:5
 returns : tie.Need-returns
-returns c = ?
+returns c = cc
 
 pub plus-spec : {M : Type 1} → statement M
 plus-spec = tie.close (tie.spec sum-requires in-bytes-requires returns)

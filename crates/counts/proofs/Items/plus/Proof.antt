@@ -16,7 +16,7 @@ in-items-requires c κs = search needs
 
 -- src/lib.rt:56:5
 returns : tie.Need-returns
-returns c = ?
+returns c = cc
 
 pub plus-spec : {M : Type 1} → statement M
 plus-spec = tie.close (tie.spec sum-requires in-items-requires returns)

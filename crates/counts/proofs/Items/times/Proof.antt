@@ -16,7 +16,7 @@ in-items-requires c κs = search needs
 
 -- src/lib.rt:63:5
 returns : tie.Need-returns
-returns c = ?
+returns c = cc
 
 pub times-spec : {M : Type 1} → statement M
 times-spec = tie.close (tie.spec product-requires in-items-requires returns)

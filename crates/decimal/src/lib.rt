@@ -1,0 +1,2 @@
+// Decimal digits.
+pub const BASE: u64 = 10;
