@@ -1,2 +1,5 @@
 pub mod Bytes
 pub mod Value
+pub mod Grammar
+pub mod Nesting
+pub mod Promise
