@@ -1,3 +1,9 @@
 pub mod Texts
 pub mod Layers
 pub mod Same
+pub mod Reading
+pub mod Told
+pub mod Tokens
+pub mod Between
+pub mod Pairs
+pub mod Values

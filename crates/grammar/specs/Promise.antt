@@ -16,8 +16,8 @@ abbrev pub GivesIn : ℕ → List ℕ → Value → Type 0
 GivesIn k s v = Gives s v × Within v k
 
 -- u can be completed to a text of the relation R
-abbrev pub Completable : (List ℕ → Value → Type 0) → List ℕ → Type 0
-Completable R u = (t : List ℕ) × (v : Value) × R (u ++ t) v
+abbrev pub Completable : {A : Type 0} → (List ℕ → A → Type 0) → List ℕ → Type 0
+Completable {A} R u = (t : List ℕ) × (v : A) × R (u ++ t) v
 
 -- behind u the next byte of q can not stand, whatever follows; where q has none, the text can not end
 abbrev pub Barred : (List ℕ → Value → Type 0) → List ℕ → List ℕ → Type 0
