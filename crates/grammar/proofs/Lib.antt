@@ -7,3 +7,6 @@ pub mod Tokens
 pub mod Between
 pub mod Pairs
 pub mod Values
+pub mod Complete
+pub mod Limits
+pub mod Whole

@@ -112,7 +112,7 @@ module _ (P P⁺ : List ℕ → Value → Type 0) (inP : (u : List ℕ) (v : Val
   told-kind told-open (Opens sh) s h is = told-open sh s h is
 
 -- ---- no bracket may be open
-value-zero : (s : List ℕ) → value 0 s ≡ chosen (kindOf (headOf s)) s (λ h. deep s)
+pub value-zero : (s : List ℕ) → value 0 s ≡ chosen (kindOf (headOf s)) s (λ h. deep s)
 unfolding value
 value-zero s = refl
 
@@ -134,7 +134,7 @@ told-too-deep h s hk is =
     (deep s, ([], refl, (48 ∷ [], integer false 0, unsigned nought), subst (λ x. Completable (Layer 1) (x ∷ [])) e (emptied h), subst (λ x. isOpen x ≡ true) e (opens h), λ r al. value-zero r ∙ ap (λ x. chosen x r (λ h. deep r)) (ap kindOf (alike-head s r al) ∙ hk)))
 
 -- ---- brackets may be open
-value-suc : (k : ℕ) (s : List ℕ) → value (suc k) s ≡ chosen (kindOf (headOf s)) s (λ h. bracketed (value k) h (tailOf s))
+pub value-suc : (k : ℕ) (s : List ℕ) → value (suc k) s ≡ chosen (kindOf (headOf s)) s (λ h. bracketed (value k) h (tailOf s))
 unfolding value
 value-suc k s = refl
 
