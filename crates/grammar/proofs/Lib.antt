@@ -10,3 +10,4 @@ pub mod Values
 pub mod Complete
 pub mod Limits
 pub mod Whole
+pub mod Kept
