@@ -11,3 +11,4 @@ pub mod Complete
 pub mod Limits
 pub mod Whole
 pub mod Kept
+pub mod Examples
