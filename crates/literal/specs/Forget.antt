@@ -1,0 +1,23 @@
+-- The value that was read, without its places in the text: what document 01's grammar (crate grammar) speaks of. Definitions only. Assumes nothing.
+use Rattle.grammar.specs.Value as value
+use Rattle.grammar.specs.Value.{Value, Values, Items}
+use Rattle.literal.specs.Node.{Node, Nodes, Pairs, string, integer, True, False, None, list, tuple, dict, end-of-nodes, node-then, end-of-pairs, pair-then}
+
+unfoldable mutual
+  pub forget : Node → Value
+  forget (string p w) = value.string w
+  forget (integer p minus n) = value.integer minus n
+  forget (True p) = value.True
+  forget (False p) = value.False
+  forget (None p) = value.None
+  forget (list p ns) = value.list (forgetAll ns)
+  forget (tuple p ns) = value.tuple (forgetAll ns)
+  forget (dict p ps) = value.dict (forgetPairs ps)
+
+  pub forgetAll : Nodes → Values
+  forgetAll end-of-nodes = value.end-of-values
+  forgetAll (node-then n ns) = value.value-then (forget n) (forgetAll ns)
+
+  pub forgetPairs : Pairs → Items
+  forgetPairs end-of-pairs = value.end-of-items
+  forgetPairs (pair-then k v ps) = value.item-then (forget k) (forget v) (forgetPairs ps)

@@ -1,0 +1,63 @@
+// What stands between the items of a bracket. No function here has a `requires`. `close` is the closing bracket.
+ghost use mathlib.Core.Path.{_≡_};
+ghost use Rattle.literal.specs.Brackets.{gapAt, thenAt, needAt, endedAt};
+use super::Parsed;
+use super::bytes::blanks;
+use super::bytes::peek;
+
+// Where an item may stand: the closing bracket, which ends before the position; an item that begins there; or a fault there.
+pub enum Gap {
+    Shut(usize),
+    Item(usize),
+    Stray(usize),
+}
+
+// Behind the opening bracket or a comma.
+pub fn gap_at(text: &[u8], at: usize, close: u8) -> Gap
+    ensures { λ r. ⌜ r ≡ gapAt (now (text .entry)) at close ⌝ }
+{
+    let p = blanks(text, at);
+    if peek(text, p) == close as u16 {
+        Gap::Shut(p + 1)
+    } else {
+        Gap::Item(p)
+    }
+}
+
+// Behind an item that ends before `at`.
+pub fn then_at(text: &[u8], at: usize, close: u8) -> Gap
+    ensures { λ r. ⌜ r ≡ thenAt (now (text .entry)) at close ⌝ }
+{
+    let p = blanks(text, at);
+    let b = peek(text, p);
+    if b == close as u16 {
+        return Gap::Shut(p + 1);
+    }
+    if b == 44 {
+        return gap_at(text, p + 1, close);
+    }
+    Gap::Stray(p)
+}
+
+// The byte b, behind blanks.
+pub fn need(text: &[u8], at: usize, b: u8) -> Parsed
+    ensures { λ r. ⌜ r ≡ needAt (now (text .entry)) at b ⌝ }
+{
+    let p = blanks(text, at);
+    if peek(text, p) == b as u16 {
+        Parsed::Value(p + 1)
+    } else {
+        Parsed::Fault(p)
+    }
+}
+
+// How a bracket ends at a gap where no item stands.
+pub fn ended(g: Gap) -> Parsed
+    ensures { λ r. ⌜ r ≡ endedAt g ⌝ }
+{
+    match g {
+        Gap::Shut(e) => Parsed::Value(e),
+        Gap::Item(p) => Parsed::Fault(p),
+        Gap::Stray(p) => Parsed::Fault(p),
+    }
+}

@@ -1,0 +1,131 @@
+// Reads a Python literal (document 01, "The literal"). Positions are indices of the text. No function here has a `requires`.
+pub mod bytes;
+pub mod gaps;
+pub mod strings;
+pub mod tokens;
+
+ghost use mathlib.Core.Path.{_≡_};
+ghost use Rattle.literal.specs.Got.{pos};
+ghost use Rattle.literal.specs.Brackets.{listBy, tupleBy, pairBy};
+ghost use Rattle.literal.specs.Literal.{literalOf, value as valueOf};
+use bytes::blanks;
+use bytes::is_open;
+use bytes::peek;
+use gaps::Gap;
+use gaps::ended;
+use gaps::gap_at;
+use gaps::need;
+use gaps::then_at;
+use grammar::OPEN;
+use tokens::token;
+
+// What reading finds: a value that ends before the position; refusal 6 at the position; refusal 7 there.
+pub enum Parsed {
+    Value(usize),
+    Fault(usize),
+    Deep(usize),
+}
+
+// A value that begins at `at`, where `room` brackets more may open at once.
+pub fn value(text: &[u8], at: usize, room: usize) -> Parsed
+    ensures { λ r. ⌜ r ≡ pos (valueOf room (now (text .entry)) at) ⌝ }
+{
+    let b = peek(text, at);
+    if !is_open(b) {
+        return token(text, at);
+    }
+    if room == 0 {
+        return Parsed::Deep(at);
+    }
+    if b == 91 {
+        return list(text, at + 1, 93, room - 1);
+    }
+    if b == 40 {
+        return tuple(text, at + 1, room - 1);
+    }
+    dict(text, at + 1, room - 1)
+}
+
+// Values parted by commas, optional last comma, up to the closing bracket.
+fn list(text: &[u8], from: usize, close: u8, room: usize) -> Parsed
+    ensures { λ r. ⌜ r ≡ pos (listBy (valueOf room (now (text .entry))) (now (text .entry)) from close) ⌝ }
+{
+    let mut g = gap_at(text, from, close);
+    loop {
+        let Gap::Item(p) = g else {
+            return ended(g);
+        };
+        let r = value(text, p, room);
+        let Parsed::Value(q) = r else {
+            return r;
+        };
+        g = then_at(text, q, close);
+    }
+}
+
+// Nothing, or a value with its comma and then as in a list.
+fn tuple(text: &[u8], from: usize, room: usize) -> Parsed
+    ensures { λ r. ⌜ r ≡ pos (tupleBy (valueOf room (now (text .entry))) (now (text .entry)) from) ⌝ }
+{
+    let g = gap_at(text, from, 41);
+    let Gap::Item(p) = g else {
+        return ended(g);
+    };
+    let r = value(text, p, room);
+    let Parsed::Value(q) = r else {
+        return r;
+    };
+    let c = need(text, q, 44);
+    let Parsed::Value(e) = c else {
+        return c;
+    };
+    list(text, e, 41, room)
+}
+
+// Pairs parted by commas, optional last comma, up to the brace.
+fn dict(text: &[u8], from: usize, room: usize) -> Parsed
+    ensures { λ r. ⌜ r ≡ pos (listBy (pairBy (valueOf room (now (text .entry))) (now (text .entry))) (now (text .entry)) from 125) ⌝ }
+{
+    let mut g = gap_at(text, from, 125);
+    loop {
+        let Gap::Item(p) = g else {
+            return ended(g);
+        };
+        let r = pair(text, p, room);
+        let Parsed::Value(q) = r else {
+            return r;
+        };
+        g = then_at(text, q, 125);
+    }
+}
+
+// A key, a colon and a value.
+fn pair(text: &[u8], at: usize, room: usize) -> Parsed
+    ensures { λ r. ⌜ r ≡ pos (pairBy (valueOf room (now (text .entry))) (now (text .entry)) at) ⌝ }
+{
+    let r = value(text, at, room);
+    let Parsed::Value(q) = r else {
+        return r;
+    };
+    let c = need(text, q, 58);
+    let Parsed::Value(e) = c else {
+        return c;
+    };
+    value(text, blanks(text, e), room)
+}
+
+// The whole text: exactly one value, with blanks around it.
+pub fn literal(text: &[u8]) -> Parsed
+    ensures { λ r. ⌜ r ≡ pos (literalOf (now (text .entry))) ⌝ }
+{
+    let r = value(text, blanks(text, 0), OPEN);
+    let Parsed::Value(q) = r else {
+        return r;
+    };
+    let e = blanks(text, q);
+    if e == text.len() {
+        Parsed::Value(e)
+    } else {
+        Parsed::Fault(e)
+    }
+}
