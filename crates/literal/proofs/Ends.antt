@@ -70,7 +70,7 @@ run-within f (b ∷ l) = go (f b) (run-within f l)
     go true ih = omega arith
     go false ih = omega arith
 
-past-within : (f : ℕ → Bool) (s : List ℕ) (at : ℕ) → at ≤ length s → past f s at ≤ length s
+pub past-within : (f : ℕ → Bool) (s : List ℕ) (at : ℕ) → at ≤ length s → past f s at ≤ length s
 unfolding past
 past-within f s at le = omega (arith, run-within f (drop at s), length-drop at s)
 
@@ -91,7 +91,7 @@ natural-ahead s at = first (eqb (byteAt s at) 48) refl
     first true h = let lt = byte-in s at 48 (eqb-true _ _ h) (lit< tt) in omega arith
     first false h = more (isDigit (byteAt s at)) refl
 
-abbrev Bytes : List ℕ → Type 0
+abbrev pub Bytes : List ℕ → Type 0
 Bytes [] = Unit {0}
 Bytes (c ∷ w) = (c < 256) × Bytes w
 

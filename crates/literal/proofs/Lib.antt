@@ -4,3 +4,10 @@ pub mod Matching
 pub mod Words
 pub mod Ends
 pub mod Steps
+pub mod Rows
+pub mod View
+pub mod Left
+pub mod AgreeTokens
+pub mod AgreeBrackets
+pub mod AgreeValue
+pub mod Meaning

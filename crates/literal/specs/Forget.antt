@@ -1,6 +1,7 @@
 -- The value that was read, without its places in the text: what document 01's grammar (crate grammar) speaks of. Definitions only. Assumes nothing.
 use Rattle.grammar.specs.Value as value
 use Rattle.grammar.specs.Value.{Value, Values, Items}
+use Rattle.literal.specs.Got.{Got, got, fault, deep}
 use Rattle.literal.specs.Node.{Node, Nodes, Pairs, string, integer, True, False, None, list, tuple, dict, end-of-nodes, node-then, end-of-pairs, pair-then}
 
 unfoldable mutual
@@ -21,3 +22,9 @@ unfoldable mutual
   pub forgetPairs : Pairs → Items
   forgetPairs end-of-pairs = value.end-of-items
   forgetPairs (pair-then k v ps) = value.item-then (forget k) (forget v) (forgetPairs ps)
+
+-- the outcome of a reading, with the value that was read
+abbrev pub forgot : Got Node → Got Value
+forgot (got n e) = got (forget n) e
+forgot (fault p) = fault p
+forgot (deep p) = deep p

@@ -34,9 +34,3 @@ abbrev pub outcome : {A : Type 0} → Got A → Outcome A
 outcome (got a e) = gives a
 outcome (fault p) = refused 6
 outcome (deep p) = refused 7
-
--- where it stands: behind the value, or at the byte of the fault or of the bracket; a fault at the text's end has the text's length
-abbrev pub place : {A : Type 0} → Got A → ℕ
-place (got a e) = e
-place (fault p) = p
-place (deep p) = p

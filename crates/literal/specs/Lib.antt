@@ -6,3 +6,5 @@ pub mod Strings
 pub mod Brackets
 pub mod Literal
 pub mod Forget
+pub mod Rows
+pub mod Answer

@@ -6,6 +6,7 @@ pub mod tokens;
 
 ghost use mathlib.Core.Path.{_≡_};
 ghost use Rattle.literal.specs.Got.{pos};
+ghost use Rattle.literal.specs.Answer.{Keeps};
 ghost use Rattle.literal.specs.Brackets.{listBy, tupleBy, pairBy};
 ghost use Rattle.literal.specs.Literal.{literalOf, value as valueOf};
 use bytes::blanks;
@@ -117,6 +118,7 @@ fn pair(text: &[u8], at: usize, room: usize) -> Parsed
 // The whole text: exactly one value, with blanks around it.
 pub fn literal(text: &[u8]) -> Parsed
     ensures { λ r. ⌜ r ≡ pos (literalOf (now (text .entry))) ⌝ }
+    ensures { λ r. ⌜ Keeps (now (text .entry)) r ⌝ }
 {
     let r = value(text, blanks(text, 0), OPEN);
     let Parsed::Value(q) = r else {

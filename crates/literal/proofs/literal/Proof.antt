@@ -3,6 +3,7 @@ use mathlib.Core.Path.{_≡_, sym, ap, subst, _∙_}
 use Rattle.literal.specs.Got.{pos}
 use Rattle.literal.specs.declared.Parsed.{Parsed}
 use Rattle.literal.proofs.Steps.{Stops, stops, literal-is, alone-done, alone-more, alone-stop}
+use Rattle.literal.proofs.Meaning.{literal-keeps}
 use borrow.Author.Needs.{needs}
 use Rattle.literal.proofs.literal.Statement.{statement}
 use Rattle.literal.proofs.literal.Tie as tie
@@ -21,7 +22,8 @@ returns c =
     let s = c .before .before .before .before .args .text .now in
     let p = c .before .before .blanks .result in
     let st = subst (λ (x : Parsed). Stops x) (c .before .value .ensures) (stops (c .before .value .result) (c .match .keys2)) in
-    c .before .value .ensures ∙ alone-stop s _ st ∙ ap pos (literal-is s p (c .before .before .blanks .ensures))
+    let e = c .before .value .ensures ∙ alone-stop s _ st ∙ ap pos (literal-is s p (c .before .before .blanks .ensures)) in
+    (e, literal-keeps s _ e)
 
 blanks-requires-2 : tie.Need-blanks-requires-2
 blanks-requires-2 c κs = search needs
@@ -31,14 +33,16 @@ returns-2 c =
     let s = c .before .before .before .before .before .before .before .before .args .text .now in
     let p = c .before .before .before .before .before .before .blanks .result in
     let hv = sym (c .before .before .before .r .given .1) ∙ c .before .before .before .before .before .value .ensures in
-    alone-done s _ _ _ hv (c .before .blanks2 .ensures) (c .if1 .taken) ∙ ap pos (literal-is s p (c .before .before .before .before .before .before .blanks .ensures))
+    let e = alone-done s _ _ _ hv (c .before .blanks2 .ensures) (c .if1 .taken) ∙ ap pos (literal-is s p (c .before .before .before .before .before .before .blanks .ensures)) in
+    (e, literal-keeps s _ e)
 
 returns-3 : tie.Need-returns-3
 returns-3 c =
     let s = c .before .before .before .before .before .before .before .before .args .text .now in
     let p = c .before .before .before .before .before .before .blanks .result in
     let hv = sym (c .before .before .before .r .given .1) ∙ c .before .before .before .before .before .value .ensures in
-    alone-more s _ _ _ hv (c .before .blanks2 .ensures) (c .if1 .left) ∙ ap pos (literal-is s p (c .before .before .before .before .before .before .blanks .ensures))
+    let e = alone-more s _ _ _ hv (c .before .blanks2 .ensures) (c .if1 .left) ∙ ap pos (literal-is s p (c .before .before .before .before .before .before .blanks .ensures)) in
+    (e, literal-keeps s _ e)
 
 pub literal-spec : {M : Type 1} → statement M
 literal-spec =
