@@ -24,7 +24,7 @@ use Rattle.literal.specs.Node.{Node, Pair, pair}
 use Rattle.literal.specs.Forget.{forget}
 use Rattle.literal.specs.Got.{Got, got, fault, deep, pos, with}
 use Rattle.literal.specs.Text.{byteAt, skip}
-use Rattle.literal.specs.Brackets.{gapAt, thenAt, needAt, items, listBy, tupleBy, pairBy}
+use Rattle.literal.specs.Brackets.{gapAt, thenAt, needAt, items, listBy, tupleBy, keyBy, pairBy}
 use Rattle.literal.specs.declared.Parsed.the-variants.{Value as Ends, Fault, Deep}
 use Rattle.literal.specs.declared.gaps.Gap.{Gap}
 use Rattle.literal.specs.declared.gaps.Gap.the-variants.{Shut, Item, Stray}
@@ -193,44 +193,39 @@ abbrev pub forgetPair : Pair → DictItem
 forgetPair e = item (forget (e .key)) (forget (e .value))
 
 module _ (rd : ℕ → Got Node) (rd′ : List ℕ → Read Value) (s : List ℕ) (rd-agrees : (p : ℕ) → p ≤ length s → Agrees forget s (rd p) (rd′ (drop p s))) where
-  module _ (q : ℕ) (k : Node) (k′ : Value) (le : q ≤ length s) (fk : forget k ≡ k′) where
-    abbrev Colon : Type 0
-    Colon = Agrees forgetPair s (elim (needAt s q 58) [ Ends e ↦ with (λ e. pair k) (rd (skip s e)) | Fault a ↦ fault a | Deep a ↦ deep a ])
-        (elim (eqb (headOf (reading.skip (drop q s))) 58) [ true ↦ reading.with (item k′) (rd′ (reading.skip (tailOf (reading.skip (drop q s))))) | false ↦ promise.fault (reading.skip (drop q s)) ])
+  -- both readings behind a key
+  abbrev Keyed : Got Node → Got Pair
+  Keyed g = elim g [ got k p ↦ with (λ e. pair k) (rd p) | fault a ↦ fault a | deep a ↦ deep a ]
 
-    colon-agrees : eqb (byteAt s (skip s q)) 58 ≡ true → Colon
+  abbrev Coloned : ℕ → Node → Got Node
+  Coloned q k = elim (needAt s q 58) [ Ends e ↦ got k (skip s e) | Fault a ↦ fault a | Deep a ↦ deep a ]
+
+  abbrev Coloned′ : Value → List ℕ → Read DictItem
+  Coloned′ k′ r = elim (eqb (headOf (reading.skip r)) 58) [ true ↦ reading.with (item k′) (rd′ (reading.skip (tailOf (reading.skip r)))) | false ↦ promise.fault (reading.skip r) ]
+
+  module _ (q : ℕ) (k : Node) (k′ : Value) (le : q ≤ length s) (fk : forget k ≡ k′) where
+    colon-agrees : eqb (byteAt s (skip s q)) 58 ≡ true → Agrees forgetPair s (Keyed (Coloned q k)) (Coloned′ k′ (drop q s))
     unfolding needAt
     colon-agrees h =
         let inside = byte-in s (skip s q) 58 (eqb-true _ _ h) (lit< tt) in
-        rw (needAt, h, head-test s q 58 h, skip-left s q, tail-left s (skip s q), skip-left s (skip s q + 1))
+        rw (Keyed, Coloned, needAt, h, Coloned′, head-test s q 58 h, skip-left s q, tail-left s (skip s q), skip-left s (skip s q + 1))
         (agrees-with forget forgetPair (λ e. pair k) (item k′) s (λ e a. ap (λ (x : Value). item x (forget a)) fk) _ _ (rd-agrees (skip s (skip s q + 1)) (past-within isBlank s (skip s q + 1) (omega arith))))
 
-    stray-colon : eqb (byteAt s (skip s q)) 58 ≡ false → Colon
+    stray-colon : eqb (byteAt s (skip s q)) 58 ≡ false → Agrees forgetPair s (Keyed (Coloned q k)) (Coloned′ k′ (drop q s))
     unfolding needAt
-    stray-colon h = rw (needAt, h, head-test s q 58 h) (here-skip s q le)
+    stray-colon h = rw (Keyed, Coloned, needAt, h, Coloned′, head-test s q 58 h) (here-skip s q le)
 
-    colon : Colon
+    colon : Agrees forgetPair s (Keyed (Coloned q k)) (Coloned′ k′ (drop q s))
     colon = go (eqb (byteAt s (skip s q)) 58) refl
       where
-        go : (t : Bool) → eqb (byteAt s (skip s q)) 58 ≡ t → Colon
+        go : (t : Bool) → eqb (byteAt s (skip s q)) 58 ≡ t → Agrees forgetPair s (Keyed (Coloned q k)) (Coloned′ k′ (drop q s))
         go true h = colon-agrees h
         go false h = stray-colon h
 
   key-agrees : (r : Got Node) (r′ : Read Value) → Agrees forget s r r′
-      → Agrees forgetPair s (elim r [
-        | got k q ↦ elim (needAt s q 58) [ Ends e ↦ with (λ e. pair k) (rd (skip s e)) | Fault a ↦ fault a | Deep a ↦ deep a ]
-        | fault a ↦ fault a
-        | deep a ↦ deep a
-      ])
-      (elim r′ [
-        | promise.got k′ q′ ↦ elim (eqb (headOf (reading.skip q′)) 58) [ true ↦ reading.with (item k′) (rd′ (reading.skip (tailOf (reading.skip q′)))) | false ↦ promise.fault (reading.skip q′) ]
-        | promise.fault q′ ↦ promise.fault q′
-        | promise.deep q′ ↦ promise.deep q′
-      ])
-  key-agrees (got k q) (promise.got k′ q′) ((le-q, e), fk) =
-      subst (λ (y : List ℕ). Agrees forgetPair s (elim (needAt s q 58) [ Ends e ↦ with (λ e. pair k) (rd (skip s e)) | Fault a ↦ fault a | Deep a ↦ deep a ])
-      (elim (eqb (headOf (reading.skip y)) 58) [ true ↦ reading.with (item k′) (rd′ (reading.skip (tailOf (reading.skip y)))) | false ↦ promise.fault (reading.skip y) ])) (sym e)
-      (colon q k k′ le-q fk)
+      → Agrees forgetPair s (Keyed (elim r [ got k q ↦ Coloned q k | fault a ↦ fault a | deep a ↦ deep a ]))
+      (elim r′ [ promise.got k′ q′ ↦ Coloned′ k′ q′ | promise.fault q′ ↦ promise.fault q′ | promise.deep q′ ↦ promise.deep q′ ])
+  key-agrees (got k q) (promise.got k′ q′) ((le-q, e), fk) = subst (λ (y : List ℕ). Agrees forgetPair s (Keyed (Coloned q k)) (Coloned′ k′ y)) (sym e) (colon q k k′ le-q fk)
   key-agrees (fault a) (promise.fault b) x = x
   key-agrees (deep a) (promise.deep b) x = x
   key-agrees (got k q) (promise.fault b) x = absurd x
@@ -241,5 +236,5 @@ module _ (rd : ℕ → Got Node) (rd′ : List ℕ → Read Value) (s : List ℕ
   key-agrees (deep a) (promise.fault b) x = absurd x
 
   pub pair-agrees : (p : ℕ) → p ≤ length s → Agrees forgetPair s (pairBy rd s p) (paired rd′ (drop p s))
-  unfolding pairBy paired
+  unfolding pairBy keyBy paired
   pair-agrees p le = key-agrees (rd p) (rd′ (drop p s)) (rd-agrees p le)

@@ -20,7 +20,7 @@ use Rattle.literal.specs.Got.{Got, got, fault, deep, pos, with, giving}
 use Rattle.literal.specs.Text.{byteAt, kindOf, run, past, skip}
 use Rattle.literal.specs.Strings.{pieceAt, Spelled, ends, heard, pieces, spelled}
 use Rattle.literal.specs.Tokens.{naturalAt, wordAt, word-true, word-false, word-none, tokenAt}
-use Rattle.literal.specs.Brackets.{gapAt, thenAt, needAt, items, listBy, tupleBy, pairBy}
+use Rattle.literal.specs.Brackets.{gapAt, thenAt, needAt, items, listBy, tupleBy, keyBy, pairBy}
 use Rattle.literal.specs.Literal.{bracketBy, value}
 use Rattle.literal.specs.declared.Parsed.{Parsed}
 use Rattle.literal.specs.declared.Parsed.the-variants.{Value, Fault, Deep}
@@ -276,26 +276,34 @@ module _ {A : Type 0} (rd : ℕ → Got A) (s : List ℕ) (rd-ahead : (p : ℕ) 
       first (Item p) h = item p h (rd p) (rd-ahead p)
 
 module _ (rd : ℕ → Got Node) (s : List ℕ) (rd-ahead : (p : ℕ) → Ahead p (length s) (pos (rd p))) where
-  pub pair-ahead : (at : ℕ) → Ahead at (length s) (pos (pairBy rd s at))
-  unfolding pairBy
-  pair-ahead at = key (rd at) (rd-ahead at)
+  pub key-ahead : (at : ℕ) → Ahead at (length s) (pos (keyBy rd s at))
+  unfolding keyBy
+  key-ahead at = key (rd at) (rd-ahead at)
     where
       colon : (q : ℕ) (k : Node) → at < q → (r : Parsed) → Ahead q (length s) r
-          → Ahead at (length s) (pos {A = Pair} (elim r [ Value e ↦ with (λ e. pair k) (rd (skip s e)) | Fault a ↦ fault a | Deep a ↦ deep a ]))
-      colon q k lt (Value e) h =
-          rw (pos-with (λ e. pair k) (rd (skip s e))) (ahead-from at (skip s e) (length s) (pos (rd (skip s e))) (omega (arith, past-from isBlank s e)) (rd-ahead (skip s e)))
+          → Ahead at (length s) (pos {A = Node} (elim r [ Value e ↦ got k (skip s e) | Fault a ↦ fault a | Deep a ↦ deep a ]))
+      colon q k lt (Value e) h = omega (arith, past-from isBlank s e, past-within isBlank s e (h .1))
       colon q k lt (Fault a) h = tt
       colon q k lt (Deep a) h = tt
 
       key : (r : Got Node) → Ahead at (length s) (pos r)
-          → Ahead at (length s) (pos {A = Pair} (elim r [
-            | got k q ↦ elim (needAt s q 58) [ Value e ↦ with (λ e. pair k) (rd (skip s e)) | Fault a ↦ fault a | Deep a ↦ deep a ]
+          → Ahead at (length s) (pos {A = Node} (elim r [
+            | got k q ↦ elim (needAt s q 58) [ Value e ↦ got k (skip s e) | Fault a ↦ fault a | Deep a ↦ deep a ]
             | fault a ↦ fault a
             | deep a ↦ deep a
           ]))
       key (got k q) h = colon q k (h .0) (needAt s q 58) (need-ahead s q 58 (lit< tt))
       key (fault a) h = tt
       key (deep a) h = tt
+
+  pub pair-ahead : (at : ℕ) → Ahead at (length s) (pos (pairBy rd s at))
+  unfolding pairBy
+  pair-ahead at = go (keyBy rd s at) (key-ahead at)
+    where
+      go : (r : Got Node) → Ahead at (length s) (pos r) → Ahead at (length s) (pos {A = Pair} (elim r [ got k p ↦ with (λ e. pair k) (rd p) | fault a ↦ fault a | deep a ↦ deep a ]))
+      go (got k p) h = rw (pos-with (λ e. pair k) (rd p)) (ahead-from at p (length s) (pos (rd p)) (omega arith) (rd-ahead p))
+      go (fault a) h = tt
+      go (deep a) h = tt
 
   bracket-ahead : (at : ℕ) → Ahead at (length s) (pos (bracketBy rd s at))
   unfolding bracketBy

@@ -19,7 +19,7 @@ use Rattle.literal.specs.Node.{Node, span, list, tuple, dict, nodes, pai
 use Rattle.literal.specs.Got.{Got, got, fault, deep, pos, with}
 use Rattle.literal.specs.Text.{byteAt, skip}
 use Rattle.literal.specs.Tokens.{tokenAt}
-use Rattle.literal.specs.Brackets.{gapAt, thenAt, needAt, endedAt, items, listBy, tupleBy, pairBy}
+use Rattle.literal.specs.Brackets.{gapAt, thenAt, needAt, endedAt, items, listBy, tupleBy, keyBy, pairBy}
 use Rattle.literal.specs.Literal.{bracketBy, value, alone, literalOf, most-open}
 use Rattle.literal.specs.declared.Parsed.{Parsed}
 use Rattle.literal.specs.declared.Parsed.the-variants.{Value, Fault, Deep}
@@ -131,29 +131,42 @@ module _ {A : Type 0} (rd : ℕ → Got A) (s : List ℕ) (at : ℕ) where
   unfolding tupleBy
   tuple-more p q e hg hr hn = rw (tupleBy, hg, thing (rd p) q hr .1, sym hn) (sym (pos-with _ (listBy rd s e 41)))
 
--- ---- a pair
+-- ---- a key with its colon, and a pair
 module _ (rd : ℕ → Got Node) (s : List ℕ) (at : ℕ) where
-  key-stop : (g : Got Node) → rd at ≡ g → Stops (pos g) → pos g ≡ pos (pairBy rd s at)
-  unfolding pairBy
-  key-stop (got v q) hr st = absurd st
-  key-stop (fault e) hr st = rw (pairBy, hr)
-  key-stop (deep e) hr st = rw (pairBy, hr)
+  key-stop-by : (g : Got Node) → rd at ≡ g → Stops (pos g) → pos g ≡ pos (keyBy rd s at)
+  unfolding keyBy
+  key-stop-by (got v q) hr st = absurd st
+  key-stop-by (fault e) hr st = rw (keyBy, hr)
+  key-stop-by (deep e) hr st = rw (keyBy, hr)
 
-  pub pair-stop : (r : Parsed) → r ≡ pos (rd at) → Stops r → r ≡ pos (pairBy rd s at)
-  pair-stop r hr st = hr ∙ key-stop (rd at) refl (subst (λ (x : Parsed). Stops x) hr st)
+  pub key-stop : (r : Parsed) → r ≡ pos (rd at) → Stops r → r ≡ pos (keyBy rd s at)
+  key-stop r hr st = hr ∙ key-stop-by (rd at) refl (subst (λ (x : Parsed). Stops x) hr st)
 
-  colon-stop : (q : ℕ) (v : Node) (r : Parsed) → rd at ≡ got v q → r ≡ needAt s q 58 → Stops r → r ≡ pos (pairBy rd s at)
-  unfolding pairBy
+  colon-stop : (q : ℕ) (v : Node) (r : Parsed) → rd at ≡ got v q → r ≡ needAt s q 58 → Stops r → r ≡ pos (keyBy rd s at)
+  unfolding keyBy
   colon-stop q v (Value e) hr hn st = absurd st
-  colon-stop q v (Fault e) hr hn st = rw (pairBy, hr, sym hn)
-  colon-stop q v (Deep e) hr hn st = rw (pairBy, hr, sym hn)
+  colon-stop q v (Fault e) hr hn st = rw (keyBy, hr, sym hn)
+  colon-stop q v (Deep e) hr hn st = rw (keyBy, hr, sym hn)
 
-  pub pair-colon : (q : ℕ) (r : Parsed) → Value q ≡ pos (rd at) → r ≡ needAt s q 58 → Stops r → r ≡ pos (pairBy rd s at)
-  pair-colon q r hr hn st = colon-stop q _ r (thing (rd at) q hr .1) hn st
+  pub key-colon : (q : ℕ) (r : Parsed) → Value q ≡ pos (rd at) → r ≡ needAt s q 58 → Stops r → r ≡ pos (keyBy rd s at)
+  key-colon q r hr hn st = colon-stop q _ r (thing (rd at) q hr .1) hn st
 
-  pub pair-more : (q e : ℕ) → Value q ≡ pos (rd at) → Value e ≡ needAt s q 58 → pos (rd (skip s e)) ≡ pos (pairBy rd s at)
+  pub key-done : (q e p : ℕ) → Value q ≡ pos (rd at) → Value e ≡ needAt s q 58 → p ≡ skip s e → Value p ≡ pos (keyBy rd s at)
+  unfolding keyBy
+  key-done q e p hr hn hp = rw (keyBy, thing (rd at) q hr .1, sym hn) (ap Value hp)
+
+  pair-stop-by : (g : Got Node) → keyBy rd s at ≡ g → Stops (pos g) → pos g ≡ pos (pairBy rd s at)
   unfolding pairBy
-  pair-more q e hr hn = rw (pairBy, thing (rd at) q hr .1, sym hn) (sym (pos-with _ (rd (skip s e))))
+  pair-stop-by (got v q) hr st = absurd st
+  pair-stop-by (fault e) hr st = rw (pairBy, hr)
+  pair-stop-by (deep e) hr st = rw (pairBy, hr)
+
+  pub pair-stop : (r : Parsed) → r ≡ pos (keyBy rd s at) → Stops r → r ≡ pos (pairBy rd s at)
+  pair-stop r hr st = hr ∙ pair-stop-by (keyBy rd s at) refl (subst (λ (x : Parsed). Stops x) hr st)
+
+  pub pair-more : (p : ℕ) → Value p ≡ pos (keyBy rd s at) → pos (rd p) ≡ pos (pairBy rd s at)
+  unfolding pairBy
+  pair-more p hr = rw (pairBy, thing (keyBy rd s at) p hr .1) (sym (pos-with _ (rd p)))
 
 -- ---- a value
 module _ (s : List ℕ) (at : ℕ) where

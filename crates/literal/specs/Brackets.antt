@@ -56,10 +56,14 @@ module _ {A : Type 0} (rd : ℕ → Got A) (s : List ℕ) where
     ]
   ]
 
--- `key: value`
-unfoldable pub pairBy : (ℕ → Got Node) → List ℕ → ℕ → Got Pair
-pairBy rd s at = elim (rd at) [
-  | got k q ↦ elim (needAt s q 58) [ Value e ↦ with (λ e. pair k) (rd (skip s e)) | Fault a ↦ fault a | Deep a ↦ deep a ]
+-- a key and its colon: the key, and where its value begins
+unfoldable pub keyBy : (ℕ → Got Node) → List ℕ → ℕ → Got Node
+keyBy rd s at = elim (rd at) [
+  | got k q ↦ elim (needAt s q 58) [ Value e ↦ got k (skip s e) | Fault a ↦ fault a | Deep a ↦ deep a ]
   | fault a ↦ fault a
   | deep a ↦ deep a
 ]
+
+-- `key: value`
+unfoldable pub pairBy : (ℕ → Got Node) → List ℕ → ℕ → Got Pair
+pairBy rd s at = elim (keyBy rd s at) [ got k p ↦ with (λ e. pair k) (rd p) | fault a ↦ fault a | deep a ↦ deep a ]

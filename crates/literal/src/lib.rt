@@ -7,7 +7,7 @@ pub mod tokens;
 ghost use mathlib.Core.Path.{_≡_};
 ghost use Rattle.literal.specs.Got.{pos};
 ghost use Rattle.literal.specs.Answer.{Keeps};
-ghost use Rattle.literal.specs.Brackets.{listBy, tupleBy, pairBy};
+ghost use Rattle.literal.specs.Brackets.{listBy, tupleBy, keyBy, pairBy};
 ghost use Rattle.literal.specs.Literal.{literalOf, value as valueOf};
 use bytes::blanks;
 use bytes::is_open;
@@ -100,9 +100,20 @@ fn dict(text: &[u8], from: usize, room: usize) -> Parsed
     }
 }
 
-// A key, a colon and a value.
+// A key, its colon and its value.
 fn pair(text: &[u8], at: usize, room: usize) -> Parsed
     ensures { λ r. ⌜ r ≡ pos (pairBy (valueOf room (now (text .entry))) (now (text .entry)) at) ⌝ }
+{
+    let k = key(text, at, room);
+    let Parsed::Value(p) = k else {
+        return k;
+    };
+    value(text, p, room)
+}
+
+// A key and its colon: the position where its value begins.
+pub fn key(text: &[u8], at: usize, room: usize) -> Parsed
+    ensures { λ r. ⌜ r ≡ pos (keyBy (valueOf room (now (text .entry))) (now (text .entry)) at) ⌝ }
 {
     let r = value(text, at, room);
     let Parsed::Value(q) = r else {
@@ -112,7 +123,7 @@ fn pair(text: &[u8], at: usize, room: usize) -> Parsed
     let Parsed::Value(e) = c else {
         return c;
     };
-    value(text, blanks(text, e), room)
+    Parsed::Value(blanks(text, e))
 }
 
 // The whole text: exactly one value, with blanks around it.

@@ -12,8 +12,8 @@ use Rattle.literal.proofs.Positions.{open-in}
 use Rattle.literal.proofs.Steps.{value-token, value-deep, value-list, value-tuple, value-dict}
 use Prim.Native.Nat.{ℕ}
 use Rattle.literal.proofs.value.Reads as value
-use Rattle.literal.proofs.+dict+list+pair+tuple+value.Lts-value as value-lts
-use Rattle.literal.proofs.+dict+list+pair+tuple+value.Proof.Base.{value-at, value-told}
+use Rattle.literal.proofs.+dict+key+list+pair+tuple+value.Lts-value as value-lts
+use Rattle.literal.proofs.+dict+key+list+pair+tuple+value.Proof.Base.{value-at, value-told}
 
 pub value-peek-requires : (t : ℕ) → value-lts.Need-peek-requires (value-told t) (value-at t) value.Post
 value-peek-requires t c κs = search needs

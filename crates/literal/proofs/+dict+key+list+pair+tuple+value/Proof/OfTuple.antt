@@ -11,8 +11,8 @@ use Rattle.literal.proofs.Ends.{need-ahead, value-ahead}
 use Rattle.literal.proofs.Steps.{stops, read-ahead, gap-item, tuple-end, tuple-stop, tuple-comma, tuple-more}
 use Prim.Native.Nat.{ℕ}
 use Rattle.literal.proofs.tuple.Reads as tuple
-use Rattle.literal.proofs.+dict+list+pair+tuple+value.Lts-tuple as tuple-lts
-use Rattle.literal.proofs.+dict+list+pair+tuple+value.Proof.Base.{tuple-at, tuple-told}
+use Rattle.literal.proofs.+dict+key+list+pair+tuple+value.Lts-tuple as tuple-lts
+use Rattle.literal.proofs.+dict+key+list+pair+tuple+value.Proof.Base.{tuple-at, tuple-told}
 
 pub tuple-gap-at-requires : (t : ℕ) → tuple-lts.Need-gap-at-requires (tuple-told t) (tuple-at t) tuple.Post
 tuple-gap-at-requires t c κs = search needs

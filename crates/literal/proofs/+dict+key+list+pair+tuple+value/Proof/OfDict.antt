@@ -9,8 +9,8 @@ use Rattle.literal.proofs.Ends.{pair-ahead, value-ahead}
 use Rattle.literal.proofs.Steps.{turn-start, turn-from, turn-end, turn-stop, turn-less, turn-more}
 use Prim.Native.Nat.{ℕ}
 use Rattle.literal.proofs.dict.Reads as dict
-use Rattle.literal.proofs.+dict+list+pair+tuple+value.Lts-dict as dict-lts
-use Rattle.literal.proofs.+dict+list+pair+tuple+value.Proof.Base.{dict-at, dict-told, dict-Inv-loop, dict-μ-loop}
+use Rattle.literal.proofs.+dict+key+list+pair+tuple+value.Lts-dict as dict-lts
+use Rattle.literal.proofs.+dict+key+list+pair+tuple+value.Proof.Base.{dict-at, dict-told, dict-Inv-loop, dict-μ-loop}
 
 pub dict-gap-at-requires : (t : ℕ) → dict-lts.Need-gap-at-requires (dict-told t) (dict-at t) dict.Post dict-Inv-loop dict-μ-loop
 dict-gap-at-requires t c κs = search needs

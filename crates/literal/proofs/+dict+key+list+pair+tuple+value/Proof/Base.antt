@@ -9,19 +9,22 @@ use borrow.Fn.Kinds.{In}
 use borrow.Fn.PlainCycle.{Measures, is, falls, and}
 use Rattle.literal.proofs.dict.Reads as dict
 use Rattle.literal.proofs.dict.Kinds as dict-kinds
-use Rattle.literal.proofs.+dict+list+pair+tuple+value.Lts-dict as dict-lts
+use Rattle.literal.proofs.+dict+key+list+pair+tuple+value.Lts-dict as dict-lts
+use Rattle.literal.proofs.key.Reads as key
+use Rattle.literal.proofs.key.Kinds as key-kinds
+use Rattle.literal.proofs.+dict+key+list+pair+tuple+value.Lts-key as key-lts
 use Rattle.literal.proofs.list.Reads as list
 use Rattle.literal.proofs.list.Kinds as list-kinds
-use Rattle.literal.proofs.+dict+list+pair+tuple+value.Lts-list as list-lts
+use Rattle.literal.proofs.+dict+key+list+pair+tuple+value.Lts-list as list-lts
 use Rattle.literal.proofs.pair.Reads as pair
 use Rattle.literal.proofs.pair.Kinds as pair-kinds
-use Rattle.literal.proofs.+dict+list+pair+tuple+value.Lts-pair as pair-lts
+use Rattle.literal.proofs.+dict+key+list+pair+tuple+value.Lts-pair as pair-lts
 use Rattle.literal.proofs.tuple.Reads as tuple
 use Rattle.literal.proofs.tuple.Kinds as tuple-kinds
-use Rattle.literal.proofs.+dict+list+pair+tuple+value.Lts-tuple as tuple-lts
+use Rattle.literal.proofs.+dict+key+list+pair+tuple+value.Lts-tuple as tuple-lts
 use Rattle.literal.proofs.value.Reads as value
 use Rattle.literal.proofs.value.Kinds as value-kinds
-use Rattle.literal.proofs.+dict+list+pair+tuple+value.Lts-value as value-lts
+use Rattle.literal.proofs.+dict+key+list+pair+tuple+value.Lts-value as value-lts
 use Rattle.literal.proofs.bytes.blanks.Reads as blanks-reads
 use Rattle.literal.proofs.bytes.is_open.Reads as is-open-reads
 use Rattle.literal.proofs.bytes.peek.Reads as peek-reads
@@ -30,22 +33,25 @@ use Rattle.literal.proofs.gaps.gap_at.Reads as gap-at-reads
 use Rattle.literal.proofs.gaps.need.Reads as need-reads
 use Rattle.literal.proofs.gaps.then_at.Reads as then-at-reads
 use Rattle.literal.proofs.tokens.token.Reads as token-reads
-use Rattle.literal.proofs.+dict+list+pair+tuple+value.Tie.{close}
+use Rattle.literal.proofs.+dict+key+list+pair+tuple+value.Tie.{close}
 
 abbrev pub μ-dict : Measures 1 dict-kinds.ps ℕ
-μ-dict κs a = 3 * (length (a .0 .now) - a .1 .0) + 2
+μ-dict κs a = 4 * (length (a .0 .now) - a .1 .0) + 3
+
+abbrev pub μ-key : Measures 1 key-kinds.ps ℕ
+μ-key κs a = 4 * (length (a .0 .now) - a .1 .0) + 1
 
 abbrev pub μ-list : Measures 1 list-kinds.ps ℕ
-μ-list κs a = 3 * (length (a .0 .now) - a .1 .0) + 2
+μ-list κs a = 4 * (length (a .0 .now) - a .1 .0) + 3
 
 abbrev pub μ-pair : Measures 1 pair-kinds.ps ℕ
-μ-pair κs a = 3 * (length (a .0 .now) - a .1 .0) + 1
+μ-pair κs a = 4 * (length (a .0 .now) - a .1 .0) + 2
 
 abbrev pub μ-tuple : Measures 1 tuple-kinds.ps ℕ
-μ-tuple κs a = 3 * (length (a .0 .now) - a .1 .0) + 2
+μ-tuple κs a = 4 * (length (a .0 .now) - a .1 .0) + 3
 
 abbrev pub μ-value : Measures 1 value-kinds.ps ℕ
-μ-value κs a = 3 * (length (a .0 .now) - a .1 .0)
+μ-value κs a = 4 * (length (a .0 .now) - a .1 .0)
 
 -- what a member is given at the measure t, and what a call of it asks below t
 abbrev pub dict-at : ℕ → In 1 dict-kinds.ps
@@ -53,6 +59,12 @@ dict-at t = and 1 dict-kinds.ps (is 1 dict-kinds.ps μ-dict t) dict.Pre
 
 abbrev pub dict-below : ℕ → In 1 dict-kinds.ps
 dict-below t = and 1 dict-kinds.ps (falls 1 dict-kinds.ps _<_ μ-dict t) dict.Pre
+
+abbrev pub key-at : ℕ → In 1 key-kinds.ps
+key-at t = and 1 key-kinds.ps (is 1 key-kinds.ps μ-key t) key.Pre
+
+abbrev pub key-below : ℕ → In 1 key-kinds.ps
+key-below t = and 1 key-kinds.ps (falls 1 key-kinds.ps _<_ μ-key t) key.Pre
 
 abbrev pub list-at : ℕ → In 1 list-kinds.ps
 list-at t = and 1 list-kinds.ps (is 1 list-kinds.ps μ-list t) list.Pre
@@ -82,11 +94,14 @@ value-below t = and 1 value-kinds.ps (falls 1 value-kinds.ps _<_ μ-value t) val
 abbrev pub dict-told : ℕ → dict-lts.Claims
 dict-told t = (gap-at-reads.Asked, gap-at-reads.Learnt, ended-reads.Asked, ended-reads.Learnt, pair-below t, pair.Post, then-at-reads.Asked, then-at-reads.Learnt)
 
+abbrev pub key-told : ℕ → key-lts.Claims
+key-told t = (value-below t, value.Post, need-reads.Asked, need-reads.Learnt, blanks-reads.Asked, blanks-reads.Learnt)
+
 abbrev pub list-told : ℕ → list-lts.Claims
 list-told t = (gap-at-reads.Asked, gap-at-reads.Learnt, ended-reads.Asked, ended-reads.Learnt, value-below t, value.Post, then-at-reads.Asked, then-at-reads.Learnt)
 
 abbrev pub pair-told : ℕ → pair-lts.Claims
-pair-told t = (value-below t, value.Post, need-reads.Asked, need-reads.Learnt, blanks-reads.Asked, blanks-reads.Learnt)
+pair-told t = (key-below t, key.Post, value-below t, value.Post)
 
 abbrev pub tuple-told : ℕ → tuple-lts.Claims
 tuple-told t = (gap-at-reads.Asked, gap-at-reads.Learnt, ended-reads.Asked, ended-reads.Learnt, value-below t, value.Post, need-reads.Asked, need-reads.Learnt, list-below t, list.Post)

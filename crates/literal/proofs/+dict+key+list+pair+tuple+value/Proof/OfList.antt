@@ -7,8 +7,8 @@ use Rattle.literal.proofs.Ends.{value-ahead}
 use Rattle.literal.proofs.Steps.{turn-start, turn-from, turn-end, turn-stop, turn-less, turn-more}
 use Prim.Native.Nat.{ℕ}
 use Rattle.literal.proofs.list.Reads as list
-use Rattle.literal.proofs.+dict+list+pair+tuple+value.Lts-list as list-lts
-use Rattle.literal.proofs.+dict+list+pair+tuple+value.Proof.Base.{list-at, list-told, list-Inv-loop, list-μ-loop}
+use Rattle.literal.proofs.+dict+key+list+pair+tuple+value.Lts-list as list-lts
+use Rattle.literal.proofs.+dict+key+list+pair+tuple+value.Proof.Base.{list-at, list-told, list-Inv-loop, list-μ-loop}
 
 pub list-gap-at-requires : (t : ℕ) → list-lts.Need-gap-at-requires (list-told t) (list-at t) list.Post list-Inv-loop list-μ-loop
 list-gap-at-requires t c κs = search needs
