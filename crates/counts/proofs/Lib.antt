@@ -1,2 +1,3 @@
 pub mod OneOutcome
 pub mod Fits
+pub mod Outcomes

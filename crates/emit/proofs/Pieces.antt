@@ -3,8 +3,8 @@
 use Prim.Native.Nat.{ℕ, suc, _+_, _/_, _%_, _^_, _<_, _≤_}
 use native.Mathlib.Omega.{arith}
 use native.Mathlib.Numerals.{add-one}
-use mathlib.Core.Path.{_≡_, refl, sym, ap, _∙_}
-use mathlib.Core.List.{List, [], _∷_, _++_}
+use mathlib.Core.Path.{_≡_, refl, sym, ap, _∙_, subst}
+use mathlib.Core.List.{List, [], _∷_}
 use lib.ListN.{length, getD, drop, set, drop-of-length-le}
 use lib.Seq.{sets, length-sets, set-out, drop-cons}
 use Rattle.decimal.specs.Decimal.{printed}
@@ -22,6 +22,14 @@ emits-in b old at = record { stored = λ x. ap (λ (i : ℕ). sets (set old at b
 
 pub emits-out : (b : ℕ) (old : List ℕ) (at p : ℕ) → length old < 2 ^ 64 → length old ≤ at → p ≡ capped (at + 1) → Emits (λ x. b ∷ x) old at old p
 emits-out b old at p l h e = record { stored = λ x. sets-out old p x (omega arith) ∙ sym (sets-out old at (b ∷ x) h); behind = λ x. omega arith }
+
+-- a byte that is another
+pub emits-byte : (b b′ : ℕ) (old : List ℕ) (at : ℕ) (out : List ℕ) (p : ℕ) → b ≡ b′ → Emits (λ x. b ∷ x) old at out p → Emits (λ x. b′ ∷ x) old at out p
+emits-byte b b′ old at out p e h = subst (λ (n : ℕ). Emits (λ x. n ∷ x) old at out p) e h
+
+-- ---- nothing
+pub emits-none : (old : List ℕ) (at : ℕ) → Emits (λ x. x) old at old at
+emits-none old at = record { stored = λ x. refl; behind = λ x. refl }
 
 -- ---- one behind another
 pub emits-then : (f g : List ℕ → List ℕ) (old : List ℕ) (at : ℕ) (mid : List ℕ) (p : ℕ) (out : List ℕ) (q : ℕ)

@@ -7,8 +7,8 @@ use mathlib.Core.List.{List, [], _++_}
 use lib.ListN.{length, drop}
 use lib.Seq.{sets-eq}
 use borrow.Author.Tests.{le-leb, lt-leb}
-use Rattle.counts.specs.Outcome.{Outcome, gives, refused}
-use Rattle.emit.specs.Emits.{Emits, capped}
+use Rattle.counts.specs.Outcome.{gives, refused}
+use Rattle.emit.specs.Emits.{Emits}
 use Rattle.emit.specs.Placed.{written, placed}
 
 module _ (f : List ℕ → List ℕ) (scratch mid : List ℕ) (n : ℕ) (old : List ℕ) (fits : n < 2 ^ 64) (room : length old < 2 ^ 64 - 1) (measured : Emits f scratch 0 mid n) where

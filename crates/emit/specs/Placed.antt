@@ -2,7 +2,7 @@
 -- unchanged." Definitions only. Assumes nothing.
 use Prim.Native.Nat.{ℕ}
 use mathlib.Core.List.{List, _++_}
-use mathlib.Core.Bool.{true, false, cond}
+use mathlib.Core.Bool.{cond}
 use lib.ListN.{length, drop}
 use lib.Dec.{leb}
 use Rattle.counts.specs.Outcome.{Outcome, gives, refused}

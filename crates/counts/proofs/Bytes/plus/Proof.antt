@@ -1,3 +1,4 @@
+-- `Bytes::plus` meets its contract, from what `sum` and `in_bytes` say. Assumes nothing.
 use borrow.Author.Needs.{needs}
 use Rattle.counts.proofs.Bytes.plus.Statement.{statement}
 use Rattle.counts.proofs.Bytes.plus.Tie as tie

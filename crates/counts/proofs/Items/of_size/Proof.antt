@@ -1,3 +1,4 @@
+-- `Items::of_size` meets its contract, from what `product` and `in_bytes` say. Assumes nothing.
 use borrow.Author.Needs.{needs}
 use Rattle.counts.proofs.Items.of_size.Statement.{statement}
 use Rattle.counts.proofs.Items.of_size.Tie as tie

@@ -1,3 +1,4 @@
+-- `Items::plus` meets its contract, from what `sum` and `in_items` say. Assumes nothing.
 use borrow.Author.Needs.{needs}
 use Rattle.counts.proofs.Items.plus.Statement.{statement}
 use Rattle.counts.proofs.Items.plus.Tie as tie

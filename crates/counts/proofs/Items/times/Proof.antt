@@ -1,3 +1,4 @@
+-- `Items::times` meets its contract, from what `product` and `in_items` say. Assumes nothing.
 use borrow.Author.Needs.{needs}
 use Rattle.counts.proofs.Items.times.Statement.{statement}
 use Rattle.counts.proofs.Items.times.Tie as tie

@@ -1,3 +1,4 @@
+-- `Points::in_bytes` meets its contract, from what `product` and `in_bytes` say. Assumes nothing.
 use borrow.Author.Needs.{needs}
 use Rattle.counts.proofs.Points.in_bytes.Statement.{statement}
 use Rattle.counts.proofs.Points.in_bytes.Tie as tie
