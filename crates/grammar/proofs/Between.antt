@@ -47,6 +47,10 @@ module _ {A : Type 0} (R : List ℕ → A → Type 0) (c : ℕ) where
   to-one lone a x b v ba rx bb = to-more lone a x b (c ∷ []) v [] ba rx bb (to-shut true [] tt)
 
 -- ---- the reader
+fails : {X : Type 0} (test : Bool) (x y : X) → test ≡ false → elim test [ true ↦ x | false ↦ y ] ≡ y
+fails true x y h = true-false h
+fails false x y h = refl
+
 module _ {A : Type 0} (rd : List ℕ → Read A) (c : ℕ) (shuts : Closes c) where
   -- with any bound that is large enough
   abbrev pub Rd : Bool → List ℕ → Read (List A) → Type 0
@@ -85,7 +89,7 @@ module _ {A : Type 0} (rd : List ℕ → Read A) (c : ℕ) (shuts : Closes c) wh
   rd-stray lone s a t b z v ba ft bb nz n1 n2 e h (suc m) lt =
       let hs = skips s a t ba (ft .0) e in
       let hq = skips (b ++ z) b z bb nz refl in
-      rw (parted, hs, ft .1, hs, h, hq, n1, hq, n2, hq)
+      rw (parted, hs, ft .1, hs, h, hq, n1, hq) (fails (lone && eqb (headOf z) c) _ _ n2 ∙ ap fault hq)
 
   pub rd-more : (lone : Bool) (s a t b w : List ℕ) (v : A) (g : Read (List A)) → Blanks a → First t → Blanks b → s ≡ a ++ t → rd t ≡ got v (b ++ (44 ∷ w)) → length w < length s → Rd true w g → Rd lone s (with (_∷_ v) g)
   unfolding parted isBlank
@@ -93,7 +97,7 @@ module _ {A : Type 0} (rd : List ℕ → Read A) (c : ℕ) (shuts : Closes c) wh
   rd-more lone s a t b w v g ba ft bb e h sm hw (suc m) lt =
       let hs = skips s a t ba (ft .0) e in
       let hq = skips (b ++ (44 ∷ w)) b (44 ∷ w) bb refl refl in
-      rw (parted, hs, ft .1, hs, h, hq, hq, hw m (omega arith))
+      rw (parted, hs, ft .1, hs, h, hq, hq) (ap (with (_∷_ v)) (hw m (omega arith)))
 
   pub by-up-to : (lone : Bool) (s : List ℕ) (g : Read (List A)) → Rd lone s g → upTo rd c lone s ≡ g
   unfolding upTo
