@@ -1,7 +1,7 @@
 -- What stands between brackets, for lists, tuples and dicts alike: a law for each way out of the reader of things parted by commas, by how the text
 -- is made up, and what that reader tells. The reader has a bound on the number of things; each law holds for every bound above the length of the
 -- text (`Rd`), so no later law meets a bound. The induction is on the length of what is left. Assumes nothing.
-use Prim.Native.Nat.{ℕ, zero, suc, _+_, _<_}
+use Prim.Native.Nat.{ℕ, zero, suc, _<_}
 use native.Mathlib.Nat.{not-suc-le-zero}
 use native.Mathlib.Omega.{arith}
 use mathlib.Core.Path.{_≡_, refl, sym, ap, _∙_, subst}
@@ -16,7 +16,7 @@ use Rattle.grammar.specs.Bytes.{isBlank}
 use Rattle.grammar.specs.Promise.{got, fault, deep}
 use Rattle.grammar.proofs.Texts.{case-of, true-false, Blanks, headOf, tailOf, head-is, Alike, alike-head, alike-cons, alike-on, gap}
 use Rattle.grammar.proofs.Layers.{padded, Parted, empty, last, more, Upto, upto}
-use Rattle.grammar.proofs.Reading.{Read, with, skip, parted, upTo, Other, kindOf}
+use Rattle.grammar.proofs.Reading.{Read, with, parted, upTo, Other, kindOf}
 use Rattle.grammar.proofs.Told.{By, Same, Told, moved, told-map, told-fault, told-deep}
 use Rattle.grammar.proofs.Tokens.{skips}
 

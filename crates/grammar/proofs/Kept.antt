@@ -1,7 +1,7 @@
 -- The reading keeps the promise (`kept`), and no other outcome does (`only-kept`); the same with positions for places (`kept-at`, `one-outcome-at`).
 -- Kept: by what the reading of a whole text tells, and a fault is one at every wider limit. Only: of two places in a text one stands before the
 -- other; the part before the later one goes on with the byte that is barred at the earlier one, and yet can be completed. Assumes nothing.
-use Prim.Native.Nat.{ℕ, zero, suc, _+_, _-_, _≤_}
+use Prim.Native.Nat.{ℕ, suc, _+_, _-_, _≤_}
 use native.Mathlib.Omega.{arith}
 use mathlib.Core.Path.{_≡_, refl, sym, ap, _∙_, subst}
 use mathlib.Core.List.{List, [], _∷_, _++_, append-assoc, append-nil}
@@ -12,10 +12,10 @@ use Rattle.grammar.specs.Value.{Value}
 use Rattle.grammar.specs.Grammar.{Gives}
 use Rattle.grammar.specs.Promise.{GivesIn, Completable, Barred, Faulty, TooDeep, Got, got, fault, deep, Promise, PromiseAt}
 use Rattle.grammar.proofs.Texts.{true-false, headOf, tailOf, Alike, alike-self}
-use Rattle.grammar.proofs.Layers.{Literal, raise, raise′}
+use Rattle.grammar.proofs.Layers.{Literal, raise′}
 use Rattle.grammar.proofs.Same.{given, some-layer}
 use Rattle.grammar.proofs.Reading.{Read, literal}
-use Rattle.grammar.proofs.Told.{By, Same, Tells, reads}
+use Rattle.grammar.proofs.Told.{By, Tells, reads}
 use Rattle.grammar.proofs.Limits.{fault-wider}
 use Rattle.grammar.proofs.Whole.{told-literal, nothing-left, sound, complete, layer-complete, literal-suc, one-value}
 

@@ -8,11 +8,11 @@ use mathlib.Core.List.{List, [], _∷_, _++_, append-assoc}
 use mathlib.Core.Bool.{true, false}
 use lib.Dec.{eqb}
 use Rattle.grammar.specs.Bytes.{isBlank}
-use Rattle.grammar.specs.Value.{Value, Item}
+use Rattle.grammar.specs.Value.{Value}
 use Rattle.grammar.specs.Promise.{got, fault, deep}
 use Rattle.grammar.proofs.Texts.{case-of, Blanks, headOf, tailOf, head-is, alike-head, alike-cons, alike-on, gap}
 use Rattle.grammar.proofs.Layers.{Pair, pair, item}
-use Rattle.grammar.proofs.Reading.{Read, with, skip, paired}
+use Rattle.grammar.proofs.Reading.{Read, with, paired}
 use Rattle.grammar.proofs.Told.{By, Same, Told, moved, told-map, told-fault, told-deep}
 use Rattle.grammar.proofs.Tokens.{skips}
 

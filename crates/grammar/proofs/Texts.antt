@@ -1,8 +1,8 @@
 -- Laws on texts: the next byte, blanks in front, and texts that go on alike. The end of a text counts as a next byte 256, which is none; where a
 -- law must tell the two apart it asks that texts are `Alike`. Assumes nothing.
-use Prim.Native.Nat.{ℕ, _+_, _<_}
+use Prim.Native.Nat.{ℕ, _<_}
 use native.Mathlib.Omega.{arith}
-use mathlib.Core.Path.{_≡_, refl, sym, ap, _∙_, subst}
+use mathlib.Core.Path.{_≡_, refl, sym, ap, subst}
 use mathlib.Core.Logic.{_⊎_, inl, inr}
 use mathlib.Core.List.{List, [], _∷_, _++_}
 use mathlib.Core.Bool.{Bool, true, false, _||_}
@@ -18,7 +18,7 @@ case-of false = inr refl
 pub true-false : {X : Type 0} → true ≡ false → X
 true-false e = absurd (let z : _≡_ {A = ℕ} 0 1 = cc in omega arith)
 
-pub or-true : (a b : Bool) → (a || b) ≡ true → (a ≡ true) ⊎ (b ≡ true)
+or-true : (a b : Bool) → (a || b) ≡ true → (a ≡ true) ⊎ (b ≡ true)
 or-true true b h = inl refl
 or-true false b h = inr h
 

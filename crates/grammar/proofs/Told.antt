@@ -3,7 +3,7 @@
 -- whole: `told-map` where something stands before and the value is made into another, `told-fault` and `told-deep` where a part is refused. Assumes
 -- nothing.
 use Prim.Native.Nat.{ℕ}
-use mathlib.Core.Path.{_≡_, refl, sym, subst}
+use mathlib.Core.Path.{_≡_, sym, subst}
 use mathlib.Core.List.{List, [], _∷_, _++_, append-assoc, append-nil}
 use mathlib.Core.Bool.{true}
 use Rattle.grammar.specs.Bytes.{isOpen}

@@ -4,17 +4,17 @@ use Prim.Native.Nat.{ℕ, zero, suc}
 use native.Mathlib.Omega.{arith}
 use mathlib.Core.Path.{_≡_, refl, sym, ap, _∙_, subst}
 use mathlib.Core.Logic.{inl, inr}
-use mathlib.Core.List.{List, [], _∷_, _++_}
+use mathlib.Core.List.{List, [], _∷_}
 use mathlib.Core.Bool.{Bool, true, false, cond}
 use lib.Dec.{eqb}
-use borrow.Author.Tests.{eqb-true, eq-eqb}
+use borrow.Author.Tests.{eqb-true}
 use Rattle.decimal.specs.Decimal.{isDigit}
 use Rattle.grammar.specs.Bytes.{isBlank, isQuote, isOpen}
-use Rattle.grammar.specs.Value.{Value, Item, string, integer, True, False, None}
-use Rattle.grammar.specs.Grammar.{Natural, nought, Quoted, Plain, in-quotes, unsigned, minus-sign, word-true, word-false, word-none}
+use Rattle.grammar.specs.Value.{Value, string, integer, True, False, None}
+use Rattle.grammar.specs.Grammar.{Natural, nought, Plain, in-quotes, unsigned, minus-sign, word-true, word-false, word-none}
 use Rattle.grammar.specs.Promise.{Completable, fault, deep}
 use Rattle.grammar.proofs.Texts.{headOf, tailOf, head-is, Alike, alike-head, alike-cons, quote-by}
-use Rattle.grammar.proofs.Layers.{Parted, empty, Pair, pair-sub, Upto, upto, Bracket, square, round, curly, list-of, tuple-of, dict-of, Layer, plain-in, deeper}
+use Rattle.grammar.proofs.Layers.{empty, Pair, pair-sub, upto, Bracket, square, round, curly, list-of, tuple-of, dict-of, Layer, plain-in, deeper}
 use Rattle.grammar.proofs.Reading.{Read, with, natural, word, quoted, upTo, paired, Shape, Square, Round, Curly, bracketed, Kind, Digit, Quote, Minus, Other, Word, Opens, kindOf, chosen, value}
 use Rattle.grammar.proofs.Told.{By, Told, moved, told-map}
 use Rattle.grammar.proofs.Tokens.{with-same, told-natural, Is, Small, told-word, Rest, told-quoted}

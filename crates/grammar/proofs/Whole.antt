@@ -9,7 +9,7 @@ use Rattle.decimal.specs.Decimal.{isDigit}
 use Rattle.grammar.specs.Bytes.{isBlank}
 use Rattle.grammar.specs.Value.{Value}
 use Rattle.grammar.specs.Grammar.{Gives}
-use Rattle.grammar.specs.Promise.{GivesIn, Got, got, fault, deep}
+use Rattle.grammar.specs.Promise.{GivesIn, got, fault, deep}
 use Rattle.grammar.proofs.Texts.{Blanks, headOf, Alike, alike-head, alike-on, gap}
 use Rattle.grammar.proofs.Layers.{padded, padded-sub, Layer, Literal, deeper, raise, raise′}
 use Rattle.grammar.proofs.Same.{given, at-depth, some-layer}
