@@ -13,11 +13,11 @@ use lib.Dec.{eqb}
 use borrow.Author.Tests.{eq-eqb}
 use Rattle.decimal.specs.Decimal.{isDigit}
 use Rattle.grammar.specs.Bytes.{isBlank}
-use Rattle.grammar.specs.Promise.{got, fault, deep}
+use Rattle.grammar.specs.Promise.{AllBytes, got, fault, deep}
 use Rattle.grammar.proofs.Texts.{case-of, true-false, Blanks, headOf, tailOf, head-is, Alike, alike-head, alike-cons, alike-on, gap}
 use Rattle.grammar.proofs.Layers.{padded, Parted, empty, last, more, Upto, upto}
 use Rattle.grammar.proofs.Reading.{Read, with, parted, upTo, Other, kindOf}
-use Rattle.grammar.proofs.Told.{By, Same, Told, moved, told-map, told-fault, told-deep}
+use Rattle.grammar.proofs.Told.{By, Same, Told, reads, moved, told-map, told-fault, told-deep}
 use Rattle.grammar.proofs.Tokens.{skips}
 
 -- what is asked of a closing bracket
@@ -117,6 +117,9 @@ module _ {A : Type 0} (R R⁺ : List ℕ → A → Type 0) (sub : (u : List ℕ)
   begins-alike : (t y : List ℕ) → Alike t y → Begins t → Begins y
   begins-alike t y al ft = subst (λ x. (isBlank x ≡ false) × (eqb x c ≡ false)) (sym (alike-head t y al)) ft
 
+  comma-bytes : AllBytes (44 ∷ c ∷ [])
+  comma-bytes = (omega arith, (shuts .small, tt))
+
   -- a thing was read: blanks a, its text u, blanks b, and z is left
   module _ (lone : Bool) (a t u q b z : List ℕ) (v : A) (ba : Blanks a) (ft : Begins t) (eu : t ≡ u ++ q) (ru : R u v) (same : Same (By rd) u (got v) q) (bb : Blanks b) (ez : q ≡ b ++ z) (nz : isBlank (headOf z) ≡ false) where
     goes-on : (r : List ℕ) → Alike z r → Begins (u ++ (b ++ r)) × (rd (u ++ (b ++ r)) ≡ got v (b ++ r))
@@ -147,7 +150,7 @@ module _ {A : Type 0} (R R⁺ : List ℕ → A → Type 0) (sub : (u : List ℕ)
           (
             p,
             rw (eu, ez) (simp append-assoc),
-            (44 ∷ c ∷ [], v ∷ [], subst (λ y. To R c lone y (v ∷ [])) (simp append-assoc) (to-one R c lone a u b v ba ru bb)),
+            (44 ∷ c ∷ [], v ∷ [], comma-bytes, subst (λ y. To R c lone y (v ∷ [])) (simp append-assoc) (to-one R c lone a u b v ba ru bb)),
             λ r al.
                 let h = sym (alike-head z r al) in
                 let on = goes-on r al in
@@ -181,10 +184,10 @@ module _ {A : Type 0} (R R⁺ : List ℕ → A → Type 0) (sub : (u : List ℕ)
       by-comma b z bb ez nz below (inl h) = let hz = head-is z 44 (omega arith) h in told-comma lone a t u q b z v ba ft eu ru same bb ez nz hz (ih (tailOf z) (below hz))
       by-comma b z bb ez nz below (inr h) = told-last lone a t u q b z v ba ft eu ru same bb ez nz h (case-of (lone && eqb (headOf z) c))
   told-thing lone m a t lt ba ft (fault q, x) ih =
-      told-fault R R⁺ (To R c lone) (To R⁺ c lone) (By rd) (Rd rd c shuts lone) a (λ v. v ∷ []) (44 ∷ c ∷ []) t q
+      told-fault R R⁺ (To R c lone) (To R⁺ c lone) (By rd) (Rd rd c shuts lone) a (λ v. v ∷ []) (44 ∷ c ∷ []) t q comma-bytes
       (λ u v ru. to-one R c lone a u [] v ba ru tt) (λ y r al hy. rd-fault rd c shuts lone (a ++ y) a y r ba (begins-alike t y al ft) refl hy) x
   told-thing lone m a t lt ba ft (deep q, x) ih =
-      told-deep R R⁺ (To R c lone) (To R⁺ c lone) (By rd) (Rd rd c shuts lone) a (λ v. v ∷ []) (44 ∷ c ∷ []) t q
+      told-deep R R⁺ (To R c lone) (To R⁺ c lone) (By rd) (Rd rd c shuts lone) a (λ v. v ∷ []) (44 ∷ c ∷ []) t q comma-bytes
       (λ u v ru. to-one R c lone a u [] v ba ru tt) (λ u v ru. to-one R⁺ c lone a u [] v ba ru tt) (λ y r al hy. rd-deep rd c shuts lone (a ++ y) a y r ba (begins-alike t y al ft) refl hy) x
 
   told-shut : (lone : Bool) (m : ℕ) (a t : List ℕ) → length (a ++ t) < suc m → Blanks a → isBlank (headOf t) ≡ false → (eqb (headOf t) c ≡ true) ⊎ (eqb (headOf t) c ≡ false) → ((w : List ℕ) → length w < m → Good true w) → Good lone (a ++ t)
@@ -201,3 +204,10 @@ module _ {A : Type 0} (R R⁺ : List ℕ → A → Type 0) (sub : (u : List ℕ)
 
   pub told-parted : (lone : Bool) (s : List ℕ) → Told (To R c lone) (To R⁺ c lone) (Rd rd c shuts lone) s
   told-parted lone s = told-within (suc (length s)) lone s (omega arith)
+
+  -- a bound above the length does not count
+  pub any-bound : (lone : Bool) (s : List ℕ) (m : ℕ) → length s < m → parted rd c lone m s ≡ upTo rd c lone s
+  any-bound lone s m lt =
+      let (g, x) = told-parted lone s in
+      let is-read = reads (To R c lone) (To R⁺ c lone) (Rd rd c shuts lone) s g x in
+      is-read m lt ∙ sym (by-up-to rd c shuts lone s g is-read)

@@ -20,7 +20,7 @@ use Rattle.grammar.proofs.Reading.{Read, with, upTo, paired, Shape, Squ
 use Rattle.grammar.proofs.Tokens.{natural-complete, word-over, quoted-complete}
 use Rattle.grammar.proofs.Between.{Closes, Rd, First, rd-shut, rd-last, rd-more, by-up-to, shorter, To}
 use Rattle.grammar.proofs.Pairs.{pair-colon}
-use Rattle.grammar.proofs.Values.{quote-slash, quote-kind, closes-square, closes-round, closes-curly, value-zero, value-suc, value-open}
+use Rattle.grammar.proofs.Values.{quote-byte, quote-slash, quote-kind, closes-square, closes-round, closes-curly, value-zero, value-suc, value-open}
 
 -- no digit follows
 abbrev pub Stop : List ℕ → Type 0
@@ -136,7 +136,7 @@ plain-starts u v word-none = refl
 plain-complete : (u : List ℕ) (v : Value) → Plain u v → (r : List ℕ) → Stop r → (inner : Shape → Read Value) → chosen (kindOf (headOf (u ++ r))) (u ++ r) inner ≡ got v r
 unfolding kindOf isDigit isQuote
 plain-complete u v (in-quotes {q = q} {u = y} {w = w} h x) r st inner =
-    ap (λ κ. chosen κ (q ∷ (y ++ r)) inner) (quote-kind q h) ∙ ap (with string) (quoted-complete q (quote-slash q h) y w x r)
+    ap (λ κ. chosen κ (q ∷ (y ++ r)) inner) (quote-kind q h) ∙ ap (with string) (quoted-complete q (quote-byte q h) (quote-slash q h) y w x r)
 plain-complete u v (unsigned {u = y} {n = n} x) r st inner = ap (λ κ. chosen κ (y ++ r) inner) (natural-kind y r n x) ∙ ap (with (integer false)) (natural-complete y n x r st)
 plain-complete u v (minus-sign {u = y} {n = n} x) r st inner = ap (with (integer true)) (natural-complete y n x r st)
 plain-complete u v word-true r st inner = word-over True (84 ∷ 114 ∷ 117 ∷ 101 ∷ []) r
