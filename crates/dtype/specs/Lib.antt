@@ -1,0 +1,10 @@
+pub mod PlainBytes
+pub mod TypeNumbers
+pub mod Dtype
+pub mod Shape
+pub mod Flat
+pub mod Record
+pub mod Limits
+pub mod Paths
+pub mod Places
+pub mod Agrees
