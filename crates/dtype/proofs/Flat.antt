@@ -3,7 +3,7 @@ use Prim.Native.Nat.{ℕ, suc, _+_, _*_, _≤_}
 use mathlib.Core.Path.{_≡_, refl, ap, sym, _∙_}
 use mathlib.Core.List.{List, _∷_, _++_}
 use native.Mathlib.Omega.{arith}
-use lib.ListN.{length, getD, drop}
+use lib.ListN.{length, getD, drop, length-append}
 use lib.Seq.{drop-cons, drop-drop, drop-append-add}
 use Rattle.type_str.specs.declared.Endianness.{Endianness}
 use Rattle.type_str.specs.declared.Endianness.the-variants.{Little, Big, Irrelevant}
@@ -133,3 +133,14 @@ mutual
       ∙ sym (drop-drop (nameBytesIn fs) (nameBytes d) (namesOf d z))
       ∙ ap (λ (l : List ℕ). drop (nameBytesIn fs) l) (names-drop d z)
       ∙ names-in-drop fs y
+
+mutual
+  pub names-length : (d : Dtype) (y : List ℕ) → length (namesOf d y) ≡ nameBytes d + length y
+  names-length (plain t) y = omega arith
+  names-length (array n d) y = names-length d y
+  names-length (record-of fs) y = names-in-length fs y
+
+  names-in-length : (fs : Fields) (y : List ℕ) → length (namesIn fs y) ≡ nameBytesIn fs + length y
+  names-in-length end-of-fields y = omega arith
+  names-in-length (field-then name d fs) y =
+      omega (arith, length-append name (namesOf d (namesIn fs y)), names-length d (namesIn fs y), names-in-length fs y)

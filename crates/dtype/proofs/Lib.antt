@@ -1,3 +1,4 @@
+pub mod Edges
 pub mod Digits
 pub mod Strides
 pub mod Items
@@ -5,3 +6,4 @@ pub mod Paths
 pub mod Places
 pub mod Flat
 pub mod Record
+pub mod Whole

@@ -115,6 +115,9 @@ tableOf-all d =
     let e = unflat-flat d (length (table d)) 0 0 0 [] [] l in
     simp (e, same-self)
 
+pub tableOf-these : (t ns : List ℕ) (d : Dtype) → t ≡ table d → ns ≡ names d → tableOf t ns ≡ gives d
+tableOf-these t ns d p q = rw (p, q) (tableOf-all d)
+
 -- .. and of all else it says 27
 pub tableOf-none : (t ns : List ℕ) → ((d : Dtype) → t ≡ table d → ns ≡ names d → ⊥) → tableOf t ns ≡ refused 27
 unfolding tableOf
