@@ -7,7 +7,6 @@ use Rattle.counts.specs.Outcome.{gives, refused}
 use Rattle.type_str.specs.declared.Endianness.the-variants.{Little}
 use Rattle.type_str.specs.declared.TypeChar.the-variants.{Int, UnicodeStr}
 use Rattle.type_str.specs.declared.TimeUnits.the-variants.{Absent}
-use Rattle.type_str.specs.declared.TypeStr.{TypeStr}
 use Rattle.dtype.specs.declared.Order.{Order}
 use Rattle.dtype.specs.declared.Order.the-variants.{C, Fortran}
 use Rattle.dtype.specs.Dtype.{Dtype, plain, array, record-of, end-of-fields, field-then, sizeOf}

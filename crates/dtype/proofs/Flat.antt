@@ -1,9 +1,9 @@
 -- A table in front of a rest: its first entry, its length, and what stands behind it; and the same of names. Assumes nothing.
 use Prim.Native.Nat.{ℕ, suc, _+_, _*_, _≤_}
 use mathlib.Core.Path.{_≡_, refl, ap, sym, _∙_}
-use mathlib.Core.List.{List, _∷_, _++_}
+use mathlib.Core.List.{List}
 use native.Mathlib.Omega.{arith}
-use lib.ListN.{length, getD, drop, length-append}
+use lib.ListN.{length, drop, length-append}
 use lib.Seq.{drop-cons, drop-drop, drop-append-add}
 use Rattle.type_str.specs.declared.Endianness.{Endianness}
 use Rattle.type_str.specs.declared.Endianness.the-variants.{Little, Big, Irrelevant}
@@ -11,7 +11,6 @@ use Rattle.type_str.specs.declared.TypeChar.{TypeChar}
 use Rattle.type_str.specs.declared.TypeChar.the-variants.{Bool, Int, Uint, Float, Complex, TimeDelta, DateTime, ByteStr, UnicodeStr, Object, RawData}
 use Rattle.type_str.specs.declared.TimeUnits.{TimeUnits}
 use Rattle.type_str.specs.declared.TimeUnits.the-variants.{Absent, Year, Month, Week, Day, Hour, Minute, Second, Millisecond, Microsecond, Nanosecond, Picosecond, Femtosecond, Attosecond}
-use Rattle.dtype.specs.declared.Entry.{Entry}
 use Rattle.dtype.specs.TypeNumbers.{orderByte, letterByte, unitsNumber, orderFrom, letterFrom, unitsFrom}
 use Rattle.dtype.specs.Dtype.{Dtype, Fields, plain, array, record-of, end-of-fields, field-then, entriesOf, entriesIn, namesOf, namesIn, nameBytes, nameBytesIn}
 use Rattle.dtype.specs.Flat.{entryOf, entry-width, numbers, flat, flats}

@@ -10,7 +10,7 @@ use native.Mathlib.Nat.{mul-le-mul-right, div-add-mod'}
 use borrow.Author.Tests.{lt-ltb, le-ltb}
 use Rattle.dtype.specs.declared.Order.{Order}
 use Rattle.dtype.specs.declared.Order.the-variants.{C, Fortran}
-use Rattle.dtype.specs.Shape.{product, strides, In-range, inRange, sumOfProducts, item}
+use Rattle.dtype.specs.Shape.{product, In-range, inRange, sumOfProducts, item}
 use Rattle.dtype.proofs.Digits.{digits-inj, low-digit, high-digit, lt-or-ge}
 use Rattle.dtype.proofs.Strides.{strides-c, product-reverse, item-reverse, range-reverse, range-length}
 

@@ -1,19 +1,19 @@
 -- Reading a table and its names gives the dtype back, so `tableOf` gives a dtype exactly for its table and names, and "records are equal
 -- exactly when tables, names, shapes and orders are". A table has nine numbers for each entry, more than reading takes steps. Assumes nothing.
 use Prim.Native.Nat.{ℕ, zero, suc, _+_, _*_, _≤_}
-use mathlib.Core.Path.{_≡_, refl, ap, sym, _∙_}
+use mathlib.Core.Path.{_≡_, refl, ap}
 use mathlib.Core.Bool.{Bool, true, false, _&&_, cond}
-use mathlib.Core.List.{List, [], _∷_, _++_}
+use mathlib.Core.List.{List, [], _∷_}
 use native.Mathlib.Omega.{arith}
 use borrow.Author.Tests.{eqb-true, eq-eqb}
 use lib.Dec.{eqb}
-use lib.ListN.{length, take, drop}
+use lib.ListN.{length}
 use lib.Seq.{take-append-seam, drop-append-seam}
-use Rattle.counts.specs.Outcome.{Outcome, gives, refused}
+use Rattle.counts.specs.Outcome.{gives, refused}
 use Rattle.type_str.specs.declared.TypeStr.{TypeStr}
 use Rattle.dtype.specs.declared.Order.{Order}
-use Rattle.dtype.specs.Dtype.{Dtype, Fields, plain, array, record-of, end-of-fields, field-then, fieldCount, entriesOf, entriesIn, namesOf, namesIn, nameBytes}
-use Rattle.dtype.specs.Flat.{entryOf, entry-width, flat, flats}
+use Rattle.dtype.specs.Dtype.{Dtype, Fields, plain, array, record-of, end-of-fields, field-then, fieldCount, entriesOf, entriesIn, namesOf, namesIn}
+use Rattle.dtype.specs.Flat.{entryOf, flat, flats}
 use Rattle.dtype.specs.Record.{Record, table, names, entryFrom, typeFrom, unflat, unflats, same, tableOf}
 use Rattle.dtype.proofs.Flat.{order-back, letter-back, units-back, flat-entry, flat-length, flat-drop, names-drop}
 

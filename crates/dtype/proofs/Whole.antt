@@ -4,7 +4,7 @@
 use Prim.Native.Nat.{ℕ, zero, suc, _+_, _*_, _-_, _^_, _<_, _≤_}
 use mathlib.Core.Path.{_≡_, refl, ap, sym, _∙_}
 use mathlib.Core.Logic.{⊎-elim}
-use mathlib.Core.List.{List, [], _∷_, _++_}
+use mathlib.Core.List.{List, [], _++_}
 use native.Mathlib.Omega.{arith}
 use lib.ListN.{length, take, drop, take-append-drop, length-drop, drop-of-length-le}
 use lib.Seq.{drop-drop, length-take-le}
@@ -16,7 +16,7 @@ use Rattle.dtype.specs.Flat.{saturated, entryOf, entry-width, numbers, f
 use Rattle.dtype.specs.Record.{table, names, entryFrom, tableOf}
 use Rattle.dtype.specs.Agrees.{entryAt, nameStart, Plain-agrees, Bare, Array-agrees, Record-agrees, Fields-agree, Agrees-as, Agrees, Whole}
 use Rattle.dtype.proofs.Digits.{lt-or-ge}
-use Rattle.dtype.proofs.Flat.{split-entry, drop-entries, drop-entry, below, flat-entry, some-entry, flat-length, flat-drop, names-length}
+use Rattle.dtype.proofs.Flat.{split-entry, drop-entries, below, flat-entry, some-entry, flat-length, flat-drop, names-length}
 use Rattle.dtype.proofs.Record.{tableOf-these, tableOf-none}
 
 -- saturating early or late

@@ -1,7 +1,7 @@
 -- The refusal numbers 13, 20, 21 and 22 of document 01 as tests of a finished record, and their order. Definitions only. Assumes nothing.
 use Prim.Native.Nat.{ℕ, _^_}
 use mathlib.Core.List.{List, [], _∷_}
-use mathlib.Core.Bool.{Bool, true, false, _||_, _&&_, not}
+use mathlib.Core.Bool.{Bool, false, _||_, _&&_, not}
 use lib.Dec.{leb, ltb}
 use lib.ListN.{length}
 use Rattle.counts.specs.Outcome.{Outcome, gives, unless}

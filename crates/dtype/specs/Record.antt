@@ -2,15 +2,12 @@
 -- orders are. Version and data start stand beside the record." A table and its names are those of one dtype, or of none: 27, "caller's record or
 -- type that no reading gives". Whether the types are types that a type string gives, and the names UTF-8, is asked elsewhere. Definitions only.
 -- Assumes nothing.
-use Prim.Native.Nat.{ℕ, zero, suc, _+_, _*_}
+use Prim.Native.Nat.{ℕ, zero, suc, _*_}
 use mathlib.Core.List.{List, [], _∷_}
 use mathlib.Core.Bool.{Bool, true, false, _&&_, cond}
 use lib.Dec.{eqb}
 use lib.ListN.{length, getD, take, drop}
 use Rattle.counts.specs.Outcome.{Outcome, gives, refused}
-use Rattle.type_str.specs.declared.Endianness.the-variants.{Irrelevant}
-use Rattle.type_str.specs.declared.TypeChar.the-variants.{Object}
-use Rattle.type_str.specs.declared.TimeUnits.the-variants.{Absent}
 use Rattle.type_str.specs.declared.TypeStr.{TypeStr}
 use Rattle.dtype.specs.declared.Entry.{Entry}
 use Rattle.dtype.specs.declared.Order.{Order}
