@@ -6,4 +6,6 @@ pub mod Paths
 pub mod Places
 pub mod Flat
 pub mod Record
+pub mod Stands
 pub mod Whole
+pub mod Seen

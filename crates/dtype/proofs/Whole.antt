@@ -11,12 +11,13 @@ use lib.Seq.{drop-drop, length-take-le}
 use Rattle.counts.specs.Outcome.{gives, refused}
 use Rattle.type_str.specs.declared.TypeStr.{TypeStr}
 use Rattle.dtype.specs.declared.Entry.{Entry}
-use Rattle.dtype.specs.Dtype.{Dtype, Fields, plain, array, record-of, end-of-fields, field-then, sizeOf, sizesOf, fieldCount, entriesOf, entriesIn, namesOf, namesIn, nameBytes, nameBytesIn}
+use Rattle.dtype.specs.Dtype.{Dtype, Fields, plain, array, record-of, end-of-fields, field-then, sizeOf, sizesOf, fieldCount, entriesOf, entriesIn, namesOf, namesIn}
 use Rattle.dtype.specs.Flat.{saturated, entryOf, entry-width, numbers, flat, flats}
-use Rattle.dtype.specs.Record.{table, names, entryFrom, tableOf}
+use Rattle.dtype.specs.Record.{table, names, tableOf}
 use Rattle.dtype.specs.Agrees.{entryAt, nameStart, Plain-agrees, Bare, Array-agrees, Record-agrees, Fields-agree, Agrees-as, Agrees, Whole}
 use Rattle.dtype.proofs.Digits.{lt-or-ge}
-use Rattle.dtype.proofs.Flat.{split-entry, drop-entries, below, flat-entry, some-entry, flat-length, flat-drop, names-length}
+use Rattle.dtype.proofs.Flat.{split-entry, drop-entries, some-entry, flat-length, names-length}
+use Rattle.dtype.proofs.Stands.{stands-entry, stands-below, stands-after, names-counted}
 use Rattle.dtype.proofs.Record.{tableOf-these, tableOf-none}
 
 -- saturating early or late
@@ -170,18 +171,7 @@ whole-lists t ns n w =
 pub whole-read : (t ns : List ℕ) (n : ℕ) → Whole t ns n → (d : Dtype) × (tableOf t ns ≡ gives d)
 whole-read t ns n w = let r = whole-lists t ns n w in (r .0, tableOf-these t ns (r .0) (r .1) (r .2))
 
--- and back: what is known of entry e where a dtype stands
-stands-entry : (d : Dtype) (t : List ℕ) (e up m : ℕ) (x : List ℕ) → drop (entry-width * e) t ≡ flat d e up m x → entryAt t e ≡ entryOf d up m
-stands-entry d t e up m x h = ap (λ (l : List ℕ). entryFrom l) (h ∙ flat-entry d e up m x)
-
-stands-below : (d : Dtype) (t : List ℕ) (e up m : ℕ) (x : List ℕ) → drop (entry-width * e) t ≡ flat d e up m x → drop (entry-width * suc e) t ≡ below d e x
-stands-below d t e up m x h =
-    let z : suc e ≡ e + 1 = omega arith in
-    rw (z, drop-entries e 1 t, h ∙ flat-entry d e up m x)
-
-stands-after : (d : Dtype) (t : List ℕ) (e up m : ℕ) (x : List ℕ) → drop (entry-width * e) t ≡ flat d e up m x → drop (entry-width * (e + entriesOf d)) t ≡ x
-stands-after d t e up m x h = rw (drop-entries e (entriesOf d) t, h) (flat-drop d e up m x)
-
+-- and back: each entry of a dtype that stands in a table
 plain-agrees : (ty : TypeStr) (t : List ℕ) (n e up m : ℕ) (x : List ℕ) → drop (entry-width * e) t ≡ flat (plain ty) e up m x → Agrees t n e
 plain-agrees ty t n e up m x h =
     let s = stands-entry (plain ty) t e up m x h in
@@ -277,43 +267,6 @@ mutual
       (λ (q : e + entriesOf d ≤ c).
       all-fields-agree fs t n (e + entriesOf d) up x (omega arith) (stands-after d t e up (length name) y h) c q (omega arith))
       (lt-or-ge c (e + entriesOf d))
-
--- and the entries say how many name bytes it has
-mutual
-  names-counted : (d : Dtype) (t : List ℕ) (e up m : ℕ) (x : List ℕ) → drop (entry-width * e) t ≡ flat d e up m x
-      → nameStart t (e + entriesOf d) ≡ nameStart t e + (m + nameBytes d)
-  names-counted (plain ty) t e up m x h =
-      let z : e + 1 ≡ suc e = omega arith in
-      rw z (omega (arith, ap (λ (a : Entry). a .name) (stands-entry (plain ty) t e up m x h)))
-  names-counted (array k d) t e up m x h =
-      let z : e + suc (entriesOf d) ≡ suc e + entriesOf d = omega arith in
-      rw z
-      (omega (
-        arith,
-        ap (λ (a : Entry). a .name) (stands-entry (array k d) t e up m x h),
-        names-counted d t (suc e) e 0 x (stands-below (array k d) t e up m x h),
-      ))
-  names-counted (record-of fs) t e up m x h =
-      let z : e + suc (entriesIn fs) ≡ suc e + entriesIn fs = omega arith in
-      rw z
-      (omega (
-        arith,
-        ap (λ (a : Entry). a .name) (stands-entry (record-of fs) t e up m x h),
-        names-in-counted fs t (suc e) e x (stands-below (record-of fs) t e up m x h),
-      ))
-
-  names-in-counted : (fs : Fields) (t : List ℕ) (e up : ℕ) (x : List ℕ) → drop (entry-width * e) t ≡ flats fs e up x
-      → nameStart t (e + entriesIn fs) ≡ nameStart t e + nameBytesIn fs
-  names-in-counted end-of-fields t e up x h = let z : e + 0 ≡ e = omega arith in rw z (omega arith)
-  names-in-counted (field-then name d fs) t e up x h =
-      let y = flats fs (e + entriesOf d) up x in
-      let z : e + (entriesOf d + entriesIn fs) ≡ e + entriesOf d + entriesIn fs = omega arith in
-      rw z
-      (omega (
-        arith,
-        names-counted d t e up (length name) y h,
-        names-in-counted fs t (e + entriesOf d) up x (stands-after d t e up (length name) y h),
-      ))
 
 -- every dtype's table with its names is whole
 pub lists-whole : (d : Dtype) → Whole (table d) (names d) (entriesOf d)

@@ -4,10 +4,11 @@
 -- the sum." Numbers are unbounded: where they are too large is Limits.antt. Definitions only. Assumes nothing.
 use Prim.Native.Nat.{ℕ, suc, _+_, _*_}
 use mathlib.Core.List.{List, _++_}
-use mathlib.Core.Bool.{Bool, true, false, _||_, _&&_}
+use mathlib.Core.Bool.{Bool, false, _||_}
 use lib.ListN.{length}
 use Rattle.type_str.specs.declared.TypeStr.{TypeStr}
-use Rattle.dtype.specs.PlainBytes.{plainBytes, isObject}
+use Rattle.dtype.specs.TypeNumbers.{letterByte}
+use Rattle.dtype.specs.PlainBytes.{isObject, plainBytes}
 
 -- a plain type, n of a type, or a record of named fields; a name is its bytes, decoded
 mutual
@@ -30,17 +31,6 @@ abbrev mutual
   pub sizesOf : Fields → ℕ
   sizesOf end-of-fields = 0
   sizesOf (field-then name d fs) = sizeOf d + sizesOf fs
-
--- "With an `O` anywhere there is no item size."
-abbrev mutual
-  pub hasObject : Dtype → Bool
-  hasObject (plain t) = isObject (t .letter)
-  hasObject (array n d) = hasObject d
-  hasObject (record-of fs) = haveObject fs
-
-  pub haveObject : Fields → Bool
-  haveObject end-of-fields = false
-  haveObject (field-then name d fs) = hasObject d || haveObject fs
 
 abbrev pub fieldCount : Fields → ℕ
 fieldCount end-of-fields = 0
@@ -85,23 +75,34 @@ levels (plain t) = 0
 levels (array n d) = suc (levels d)
 levels (record-of fs) = 0
 
--- whether every plain type passes a test, and every name
+-- whether some entry passes a test, of the dtype that begins there
 abbrev mutual
-  pub everyPlain : (TypeStr → Bool) → Dtype → Bool
-  everyPlain test (plain t) = test t
-  everyPlain test (array n d) = everyPlain test d
-  everyPlain test (record-of fs) = everyPlainIn test fs
+  pub someEntry : (Dtype → Bool) → Dtype → Bool
+  someEntry test (plain t) = test (plain t)
+  someEntry test (array n d) = test (array n d) || someEntry test d
+  someEntry test (record-of fs) = test (record-of fs) || someEntryIn test fs
 
-  pub everyPlainIn : (TypeStr → Bool) → Fields → Bool
-  everyPlainIn test end-of-fields = true
-  everyPlainIn test (field-then name d fs) = everyPlain test d && everyPlainIn test fs
+  pub someEntryIn : (Dtype → Bool) → Fields → Bool
+  someEntryIn test end-of-fields = false
+  someEntryIn test (field-then name d fs) = someEntry test d || someEntryIn test fs
 
+-- whether it is a plain type that passes a test
+abbrev pub plainOnly : (TypeStr → Bool) → Dtype → Bool
+plainOnly test (plain t) = test t
+plainOnly test (array n d) = false
+plainOnly test (record-of fs) = false
+
+-- "With an `O` anywhere there is no item size."
+abbrev pub hasObject : Dtype → Bool
+hasObject d = someEntry (plainOnly (λ t. isObject (letterByte (t .letter)))) d
+
+-- whether some field's name passes a test
 abbrev mutual
-  pub everyName : (List ℕ → Bool) → Dtype → Bool
-  everyName test (plain t) = true
-  everyName test (array n d) = everyName test d
-  everyName test (record-of fs) = everyNameIn test fs
+  pub someName : (List ℕ → Bool) → Dtype → Bool
+  someName test (plain t) = false
+  someName test (array n d) = someName test d
+  someName test (record-of fs) = someNameIn test fs
 
-  pub everyNameIn : (List ℕ → Bool) → Fields → Bool
-  everyNameIn test end-of-fields = true
-  everyNameIn test (field-then name d fs) = test name && (everyName test d && everyNameIn test fs)
+  pub someNameIn : (List ℕ → Bool) → Fields → Bool
+  someNameIn test end-of-fields = false
+  someNameIn test (field-then name d fs) = test name || (someName test d || someNameIn test fs)

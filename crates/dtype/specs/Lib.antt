@@ -1,5 +1,5 @@
-pub mod PlainBytes
 pub mod TypeNumbers
+pub mod PlainBytes
 pub mod Dtype
 pub mod Shape
 pub mod Flat
@@ -8,3 +8,4 @@ pub mod Limits
 pub mod Paths
 pub mod Places
 pub mod Agrees
+pub mod Seen

@@ -6,7 +6,7 @@ use lib.Dec.{leb, ltb}
 use lib.ListN.{length}
 use Rattle.counts.specs.Outcome.{Outcome, gives, unless}
 use Rattle.dtype.specs.declared.Order.{Order}
-use Rattle.dtype.specs.Dtype.{Dtype, Fields, plain, array, record-of, end-of-fields, field-then, sizeOf, hasObject, entriesOf, nameBytes, levels}
+use Rattle.dtype.specs.Dtype.{Dtype, sizeOf, someEntry, hasObject, entriesOf, nameBytes, levels}
 use Rattle.dtype.specs.Shape.{product, strides}
 use Rattle.dtype.specs.Record.{Record}
 
@@ -18,30 +18,16 @@ over n = leb (2 ^ 64) n
 abbrev pub overDimensions : List ℕ → Bool
 overDimensions s = ltb 32 (length s)
 
-abbrev mutual
-  pub overLevels : Dtype → Bool
-  overLevels (plain t) = false
-  overLevels (array n d) = ltb 32 (levels (array n d)) || overLevels d
-  overLevels (record-of fs) = overLevelsIn fs
-
-  pub overLevelsIn : Fields → Bool
-  overLevelsIn end-of-fields = false
-  overLevelsIn (field-then name d fs) = overLevels d || overLevelsIn fs
+abbrev pub overLevels : Dtype → Bool
+overLevels d = someEntry (λ e. ltb 32 (levels e)) d
 
 -- "over 512 entries or 65,536 bytes of field names"
 abbrev pub overEntries : Dtype → Bool
 overEntries d = ltb 512 (entriesOf d) || ltb 65536 (nameBytes d)
 
 -- "some entry's size over 2^64-1": every entry counts, also below an array of length 0
-abbrev mutual
-  pub someOver : Dtype → Bool
-  someOver (plain t) = over (sizeOf (plain t))
-  someOver (array n d) = over (sizeOf (array n d)) || someOver d
-  someOver (record-of fs) = over (sizeOf (record-of fs)) || someOverIn fs
-
-  pub someOverIn : Fields → Bool
-  someOverIn end-of-fields = false
-  someOverIn (field-then name d fs) = someOver d || someOverIn fs
+abbrev pub someOver : Dtype → Bool
+someOver d = someEntry (λ e. over (sizeOf e)) d
 
 -- "no `O`, and some entry's size over 2^64-1"
 abbrev pub overSize : Dtype → Bool
