@@ -1,6 +1,7 @@
--- Document 01, "Both sides of each edge": the lines marked P that speak of shapes, strides and sizes, in its order, as one claim. Each is
--- computed. Assumes nothing.
+-- Document 01, "Both sides of each edge": the lines marked P that speak of shapes, strides and sizes, in its order, as one claim, `Edges`; and
+-- some more cases, `Listed`. Each is computed. Assumes nothing.
 use Prim.Native.Nat.{ℕ, _^_}
+use mathlib.Core.Bool.{true, false}
 use mathlib.Core.Path.{_≡_, refl}
 use mathlib.Core.List.{List, [], _∷_}
 use Rattle.counts.specs.Outcome.{gives, refused}
@@ -11,8 +12,8 @@ use Rattle.dtype.specs.declared.Order.{Order}
 use Rattle.dtype.specs.declared.Order.the-variants.{C, Fortran}
 use Rattle.dtype.specs.Dtype.{Dtype, plain, array, record-of, end-of-fields, field-then, sizeOf}
 use Rattle.dtype.specs.Shape.{product, strides, item}
-use Rattle.dtype.specs.Record.{Record}
-use Rattle.dtype.specs.Limits.{overShape, limited}
+use Rattle.dtype.specs.Record.{Record, table, names, tableOf}
+use Rattle.dtype.specs.Limits.{overSize, overShape, limited}
 use Rattle.dtype.specs.Paths.{offset}
 
 -- `<i2`
@@ -30,6 +31,10 @@ a-and-b = record-of (field-then (97 ∷ []) i2 (field-then (98 ∷ []) (array 2 
 -- a record of `<i2` of this order and shape
 abbrev shaped : Order → List ℕ → Record
 shaped o s = record { dtype = i2; shape = s; order = o }
+
+-- `<i8`
+abbrev i8 : Dtype
+i8 = plain (record { order = Little; letter = Int; size = 8; units = Absent })
 
 pub record Edges : Type 0 where
   -- (2,3): C strides 3,1; Fortran 1,2; index (1,2) is item 5 either way
@@ -70,4 +75,35 @@ edges =
       f-count-over = refl;
       a-and-b-bytes = refl;
       second-b = refl;
+    }
+
+-- More computed cases: how the record above is listed, and where document 01's words on 21 and 22 leave room to misread.
+pub record Listed : Type 0 where
+  -- four entries: the record, `a`, the array of `b`, its inner type
+  pub a-and-b-table :
+      table a-and-b ≡
+      0 ∷ 2 ∷ 0 ∷ 0 ∷ 2 ∷ 0 ∷ 4 ∷ 26 ∷ 0 ∷
+      0 ∷ 0 ∷ 60 ∷ 105 ∷ 2 ∷ 0 ∷ 1 ∷ 2 ∷ 1 ∷
+      0 ∷ 1 ∷ 0 ∷ 0 ∷ 2 ∷ 0 ∷ 2 ∷ 24 ∷ 1 ∷
+      2 ∷ 0 ∷ 60 ∷ 85 ∷ 3 ∷ 0 ∷ 1 ∷ 12 ∷ 0 ∷ []
+  pub a-and-b-names : names a-and-b ≡ 97 ∷ 98 ∷ []
+  pub a-and-b-back : tableOf (table a-and-b) (names a-and-b) ≡ gives a-and-b
+  -- 2^61 of `<i8` is over also where there are 0 of them; 2^61 of none is not
+  pub over-below-none : overSize (array 0 (array (2 ^ 61) i8)) ≡ true
+  pub none-below : overSize (array (2 ^ 61) (array 0 i8)) ≡ false
+  -- of the declared order only: (2^40, 2^40, 0) in C order has strides 0,0,1
+  pub c-late-zero : overShape C (2 ^ 40 ∷ 2 ^ 40 ∷ 0 ∷ []) ≡ false
+  pub c-late-zero-strides : strides C (2 ^ 40 ∷ 2 ^ 40 ∷ 0 ∷ []) ≡ 0 ∷ 0 ∷ 1 ∷ []
+
+pub listed : Listed
+unfolding tableOf overShape
+listed =
+    record {
+      a-and-b-table = refl;
+      a-and-b-names = refl;
+      a-and-b-back = refl;
+      over-below-none = refl;
+      none-below = refl;
+      c-late-zero = refl;
+      c-late-zero-strides = refl;
     }

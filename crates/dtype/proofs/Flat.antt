@@ -12,7 +12,9 @@ use Rattle.type_str.specs.declared.TypeChar.the-variants.{Bool, Int, Uint, Floa
 use Rattle.type_str.specs.declared.TimeUnits.{TimeUnits}
 use Rattle.type_str.specs.declared.TimeUnits.the-variants.{Absent, Year, Month, Week, Day, Hour, Minute, Second, Millisecond, Microsecond, Nanosecond, Picosecond, Femtosecond, Attosecond}
 use Rattle.dtype.specs.TypeNumbers.{orderByte, letterByte, unitsNumber, orderFrom, letterFrom, unitsFrom}
-use Rattle.dtype.specs.Dtype.{Dtype, Fields, plain, array, record-of, end-of-fields, field-then, entriesOf, entriesIn, namesOf, namesIn, nameBytes, nameBytesIn}
+use Rattle.dtype.specs.Dtype.{Dtype, Fields, plain, array, record-of, end-of-fields, field-then}
+use Rattle.dtype.specs.Entries.{entriesOf, entriesIn}
+use Rattle.dtype.specs.Names.{namesOf, namesIn, nameBytes, nameBytesIn}
 use Rattle.dtype.specs.Flat.{entryOf, entry-width, numbers, flat, flats}
 use Rattle.dtype.specs.Record.{entryFrom}
 

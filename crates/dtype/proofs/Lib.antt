@@ -9,3 +9,4 @@ pub mod Record
 pub mod Stands
 pub mod Whole
 pub mod Seen
+pub mod Steps

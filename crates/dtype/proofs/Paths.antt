@@ -59,17 +59,20 @@ pub record Owner (d : Dtype) (b : ℕ) (p : List ℕ) (k : ℕ) : Type 0 where
   pub in-run : k < run d p
   pub is-byte : offset d p + k ≡ b
 
-record Field-owner (fs : Fields) (b i : ℕ) (p : List ℕ) (k : ℕ) : Type 0 where
-  is-path : Field-path fs i p
-  in-run : k < runOf (plainOf fs i p)
-  is-byte : fieldOffset fs i p + k ≡ b
-
 -- an element's owner as the array's, and back
 in-array : (n : ℕ) (d : Dtype) (b i : ℕ) (p : List ℕ) (k : ℕ) → i < n → Owner d b p k → Owner (array n d) (i * sizeOf d + b) (i ∷ p) k
 in-array n d b i p k l o = record { is-path = (l, o .is-path); in-run = rw (run-array n d i p l) (o .in-run); is-byte = omega (arith, o .is-byte) }
 
 of-element : (n : ℕ) (d : Dtype) (b i : ℕ) (p : List ℕ) (k : ℕ) → Owner (array n d) b (i ∷ p) k → Owner d (offset d p + k) p k
 of-element n d b i p k o = record { is-path = o .is-path .1; in-run = rw (run-array n d i p (o .is-path .0)) at (o .in-run); is-byte = refl }
+
+-- a field's owner out of the record's
+of-first : (name : List ℕ) (d : Dtype) (fs : Fields) (b : ℕ) (p : List ℕ) (k : ℕ) → Owner (record-of (field-then name d fs)) b (0 ∷ p) k → Owner d b p k
+of-first name d fs b p k o = record { is-path = o .is-path; in-run = o .in-run; is-byte = o .is-byte }
+
+of-later : (name : List ℕ) (d : Dtype) (fs : Fields) (b i : ℕ) (p : List ℕ) (k : ℕ) → Owner (record-of (field-then name d fs)) b (suc i ∷ p) k
+    → Owner (record-of fs) (b - sizeOf d) (i ∷ p) k
+of-later name d fs b i p k o = record { is-path = o .is-path; in-run = o .in-run; is-byte = omega (arith, o .is-byte) }
 
 -- each byte has an owner
 mutual
@@ -80,10 +83,9 @@ mutual
       let o = in-array n d (b % sizeOf d) (b / sizeOf d) (r .0) (r .1) (high-digit n (sizeOf d) b h) (r .2) in
       ((b / sizeOf d) ∷ r .0, r .1, rw (div-add-mod' b (sizeOf d)) at o)
   each-byte (record-of fs) b h =
-      let r = each-field-byte fs b h in
-      (r .0 ∷ r .1, r .2, record { is-path = r .3 .is-path; in-run = r .3 .in-run; is-byte = r .3 .is-byte })
+      let r = each-field-byte fs b h in (r .0 ∷ r .1, r .2, r .3)
 
-  each-field-byte : (fs : Fields) (b : ℕ) → b < sizesOf fs → (i : ℕ) × (p : List ℕ) × (k : ℕ) × Field-owner fs b i p k
+  each-field-byte : (fs : Fields) (b : ℕ) → b < sizesOf fs → (i : ℕ) × (p : List ℕ) × (k : ℕ) × Owner (record-of fs) b (i ∷ p) k
   each-field-byte end-of-fields b h = absurd (omega arith)
   each-field-byte (field-then name d fs) b h =
       ⊎-elim
@@ -111,22 +113,16 @@ mutual
   one-owner (record-of fs) b [] k p′ k′ o o′ = absurd (o .is-path)
   one-owner (record-of fs) b (i ∷ p) k [] k′ o o′ = absurd (o′ .is-path)
   one-owner (record-of fs) b (i ∷ p) k (i′ ∷ p′) k′ o o′ =
-      let r = one-field-owner fs b i p k i′ p′ k′
-      (record { is-path = o .is-path; in-run = o .in-run; is-byte = o .is-byte })
-      (record { is-path = o′ .is-path; in-run = o′ .in-run; is-byte = o′ .is-byte }) in
+      let r = one-field-owner fs b i p k i′ p′ k′ o o′ in
       (cc (r .0, r .1), r .2)
 
-  one-field-owner : (fs : Fields) (b i : ℕ) (p : List ℕ) (k i′ : ℕ) (p′ : List ℕ) (k′ : ℕ) → Field-owner fs b i p k → Field-owner fs b i′ p′ k′ → (i ≡ i′) × (p ≡ p′) × (k ≡ k′)
+  one-field-owner : (fs : Fields) (b i : ℕ) (p : List ℕ) (k i′ : ℕ) (p′ : List ℕ) (k′ : ℕ) → Owner (record-of fs) b (i ∷ p) k → Owner (record-of fs) b (i′ ∷ p′) k′ → (i ≡ i′) × (p ≡ p′) × (k ≡ k′)
   one-field-owner end-of-fields b i p k i′ p′ k′ o o′ = absurd (o .is-path)
   one-field-owner (field-then name d fs) b zero p k zero p′ k′ o o′ =
-      let r = one-owner d b p k p′ k′
-      (record { is-path = o .is-path; in-run = o .in-run; is-byte = o .is-byte })
-      (record { is-path = o′ .is-path; in-run = o′ .in-run; is-byte = o′ .is-byte }) in
+      let r = one-owner d b p k p′ k′ (of-first name d fs b p k o) (of-first name d fs b p′ k′ o′) in
       (refl, r .0, r .1)
   one-field-owner (field-then name d fs) b zero p k (suc i′) p′ k′ o o′ = absurd (omega (arith, o .is-byte, o′ .is-byte, o .in-run, run-in-item d p (o .is-path)))
   one-field-owner (field-then name d fs) b (suc i) p k zero p′ k′ o o′ = absurd (omega (arith, o .is-byte, o′ .is-byte, o′ .in-run, run-in-item d p′ (o′ .is-path)))
   one-field-owner (field-then name d fs) b (suc i) p k (suc i′) p′ k′ o o′ =
-      let r = one-field-owner fs (b - sizeOf d) i p k i′ p′ k′
-      (record { is-path = o .is-path; in-run = o .in-run; is-byte = omega (arith, o .is-byte) })
-      (record { is-path = o′ .is-path; in-run = o′ .in-run; is-byte = omega (arith, o′ .is-byte) }) in
+      let r = one-field-owner fs (b - sizeOf d) i p k i′ p′ k′ (of-later name d fs b i p k o) (of-later name d fs b i′ p′ k′ o′) in
       (ap suc (r .0), r .1, r .2)

@@ -12,7 +12,9 @@ use lib.Seq.{take-append-seam, drop-append-seam}
 use Rattle.counts.specs.Outcome.{gives, refused}
 use Rattle.type_str.specs.declared.TypeStr.{TypeStr}
 use Rattle.dtype.specs.declared.Order.{Order}
-use Rattle.dtype.specs.Dtype.{Dtype, Fields, plain, array, record-of, end-of-fields, field-then, fieldCount, entriesOf, entriesIn, namesOf, namesIn}
+use Rattle.dtype.specs.Dtype.{Dtype, Fields, plain, array, record-of, end-of-fields, field-then}
+use Rattle.dtype.specs.Entries.{fieldCount, entriesOf, entriesIn}
+use Rattle.dtype.specs.Names.{namesOf, namesIn}
 use Rattle.dtype.specs.Flat.{entryOf, flat, flats}
 use Rattle.dtype.specs.Record.{Record, table, names, entryFrom, typeFrom, unflat, unflats, same, tableOf}
 use Rattle.dtype.proofs.Flat.{order-back, letter-back, units-back, flat-entry, flat-length, flat-drop, names-drop}
@@ -28,7 +30,7 @@ abbrev mutual
   fuelIn end-of-fields = 1
   fuelIn (field-then name d fs) = suc (fuelOf d + fuelIn fs)
 
-type-back : (t : TypeStr) (up m : ℕ) → typeFrom (entryOf (plain t) up m) ≡ t
+pub type-back : (t : TypeStr) (up m : ℕ) → typeFrom (entryOf (plain t) up m) ≡ t
 type-back t up m = rw (order-back (t .order), letter-back (t .letter), units-back (t .units))
 
 name-first : (d : Dtype) (at up m : ℕ) (x : List ℕ) → entryFrom (flat d at up m x) .name ≡ m

@@ -1,5 +1,6 @@
--- What Seen.antt of specs/ tests in a dtype's table is what the limits say of the dtype: each entry of the table is an entry of the dtype, in the same
--- order. An array's and a record's size are seen from the sizes that the entries below hold, which are exact where none of those is over. Assumes nothing.
+-- What Seen.antt of specs/ tests in a dtype's table is what the limits say of the dtype: each entry of the table is an entry of the dtype, in the
+-- same order. An array's and a record's size are seen from the sizes that the entries below hold, which are exact where none of those is over.
+-- Assumes nothing.
 use Prim.Native.Nat.{ℕ, zero, suc, _+_, _*_, _-_, _^_, _<_, _≤_}
 use mathlib.Core.Path.{_≡_, refl, ap, sym, _∙_}
 use mathlib.Core.Bool.{Bool, true, false, _||_, or-assoc, or-false, or-true}
@@ -12,7 +13,9 @@ use lib.Seq.{drop-drop, take-append-seam, drop-append-seam}
 use Rattle.dtype.specs.declared.Entry.{Entry}
 use Rattle.dtype.specs.TypeNumbers.{letterByte}
 use Rattle.dtype.specs.PlainBytes.{isObject}
-use Rattle.dtype.specs.Dtype.{Dtype, Fields, plain, array, record-of, end-of-fields, field-then, sizeOf, sizesOf, fieldCount, entriesOf, entriesIn, namesOf, namesIn, nameBytes, levels, someEntry, someEntryIn, plainOnly, hasObject, someName, someNameIn}
+use Rattle.dtype.specs.Dtype.{Dtype, Fields, plain, array, record-of, end-of-fields, field-then, sizeOf, sizesOf}
+use Rattle.dtype.specs.Entries.{fieldCount, entriesOf, entriesIn, levels, someEntry, someEntryIn, plainOnly, hasObject}
+use Rattle.dtype.specs.Names.{namesOf, namesIn, nameBytes, someName, someNameIn}
 use Rattle.dtype.specs.Flat.{entry-width, letterOf, flat, flats}
 use Rattle.dtype.specs.Record.{table, names}
 use Rattle.dtype.specs.Limits.{over, overLevels, someOver}
@@ -93,11 +96,11 @@ levels-seen d =
     d 0 0 0 [] (omega arith) refl
 
 -- sizes over 2^64-1
-or-left : (a b : Bool) → (a || b) ≡ false → a ≡ false
+pub or-left : (a b : Bool) → (a || b) ≡ false → a ≡ false
 or-left true b h = h
 or-left false b h = refl
 
-or-right : (a b : Bool) → (a || b) ≡ false → b ≡ false
+pub or-right : (a b : Bool) → (a || b) ≡ false → b ≡ false
 or-right true b h = let z : _≡_ {A = ℕ} 0 1 = cc in absurd (omega arith)
 or-right false b h = h
 
@@ -123,9 +126,9 @@ fields-exact (field-then name d fs) t c up x h s =
     rw (b, ap (λ (a : Entry). a .extent) (stands-entry d t c up (length name) y h), r)
 
 -- two tests with the same answer where a third fails
-beside : (a b c : Bool) → (c ≡ false → a ≡ b) → (a || c) ≡ (b || c)
-beside a b true h = or-true a ∙ sym (or-true b)
-beside a b false h = ap (λ (x : Bool). x || false) (h refl)
+or-same : (a b c : Bool) → (c ≡ false → a ≡ b) → (a || c) ≡ (b || c)
+or-same a b true h = or-true a ∙ sym (or-true b)
+or-same a b false h = ap (λ (x : Bool). x || false) (h refl)
 
 over-same : (d : Dtype) (t : List ℕ) (e up m : ℕ) (x : List ℕ) → drop (entry-width * e) t ≡ flat d e up m x
     → someBelow (λ c. over (sizeOf c)) d ≡ false → overAt t e ≡ over (sizeOf d)
@@ -143,7 +146,7 @@ pub over-seen : (d : Dtype) → someFrom (overAt (table d)) (entriesOf d) 0 ≡ 
 over-seen d =
     seen (λ c. over (sizeOf c)) (overAt (table d)) (table d) (entriesOf d)
     (λ c e up m x r h.
-    beside (overAt (table d) e) (over (sizeOf c)) (someBelow (λ b. over (sizeOf b)) c) (over-same c (table d) e up m x h))
+    or-same (overAt (table d) e) (over (sizeOf c)) (someBelow (λ b. over (sizeOf b)) c) (over-same c (table d) e up m x h))
     d 0 0 0 [] (omega arith) refl
 
 -- names: an entry that is no field has an empty one, which the test must not pass

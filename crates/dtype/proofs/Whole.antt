@@ -11,7 +11,9 @@ use lib.Seq.{drop-drop, length-take-le}
 use Rattle.counts.specs.Outcome.{gives, refused}
 use Rattle.type_str.specs.declared.TypeStr.{TypeStr}
 use Rattle.dtype.specs.declared.Entry.{Entry}
-use Rattle.dtype.specs.Dtype.{Dtype, Fields, plain, array, record-of, end-of-fields, field-then, sizeOf, sizesOf, fieldCount, entriesOf, entriesIn, namesOf, namesIn}
+use Rattle.dtype.specs.Dtype.{Dtype, Fields, plain, array, record-of, end-of-fields, field-then, sizeOf, sizesOf}
+use Rattle.dtype.specs.Entries.{fieldCount, entriesOf, entriesIn}
+use Rattle.dtype.specs.Names.{namesOf, namesIn}
 use Rattle.dtype.specs.Flat.{saturated, entryOf, entry-width, numbers, flat, flats}
 use Rattle.dtype.specs.Record.{table, names, tableOf}
 use Rattle.dtype.specs.Agrees.{entryAt, nameStart, Plain-agrees, Bare, Array-agrees, Record-agrees, Fields-agree, Agrees-as, Agrees, Whole}

@@ -6,7 +6,8 @@ use mathlib.Core.List.{List, _∷_}
 use lib.ListN.{length}
 use Rattle.dtype.specs.declared.Entry.{Entry}
 use Rattle.dtype.specs.TypeNumbers.{orderByte, letterByte, unitsNumber}
-use Rattle.dtype.specs.Dtype.{Dtype, Fields, plain, array, record-of, end-of-fields, field-then, sizeOf, fieldCount, entriesOf}
+use Rattle.dtype.specs.Dtype.{Dtype, Fields, plain, array, record-of, end-of-fields, field-then, sizeOf}
+use Rattle.dtype.specs.Entries.{fieldCount, entriesOf}
 
 -- the kind, and what else an entry says of the dtype itself
 abbrev pub kindOf : Dtype → ℕ

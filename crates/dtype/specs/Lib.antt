@@ -1,6 +1,8 @@
 pub mod TypeNumbers
 pub mod PlainBytes
 pub mod Dtype
+pub mod Entries
+pub mod Names
 pub mod Shape
 pub mod Flat
 pub mod Record

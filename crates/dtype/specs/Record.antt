@@ -12,7 +12,9 @@ use Rattle.type_str.specs.declared.TypeStr.{TypeStr}
 use Rattle.dtype.specs.declared.Entry.{Entry}
 use Rattle.dtype.specs.declared.Order.{Order}
 use Rattle.dtype.specs.TypeNumbers.{orderFrom, letterFrom, unitsFrom}
-use Rattle.dtype.specs.Dtype.{Dtype, Fields, plain, array, record-of, end-of-fields, field-then, entriesOf, namesOf, nameBytes}
+use Rattle.dtype.specs.Dtype.{Dtype, Fields, plain, array, record-of, end-of-fields, field-then}
+use Rattle.dtype.specs.Entries.{entriesOf}
+use Rattle.dtype.specs.Names.{namesOf, nameBytes}
 use Rattle.dtype.specs.Flat.{flat, entry-width}
 
 -- what a header says beside version and data start
