@@ -1,0 +1,12 @@
+pub mod Edges
+pub mod Digits
+pub mod Strides
+pub mod Items
+pub mod Paths
+pub mod Places
+pub mod Flat
+pub mod Record
+pub mod Stands
+pub mod Whole
+pub mod Seen
+pub mod Steps
