@@ -3,11 +3,11 @@
 -- type that no reading gives". Whether the types are types that a type string gives, and the names UTF-8, is asked elsewhere. Definitions only.
 -- Assumes nothing.
 use Prim.Native.Nat.{ℕ, zero, suc, _*_}
-use mathlib.Core.List.{List, [], _∷_}
-use mathlib.Core.Bool.{Bool, true, false, _&&_, cond}
-use lib.Dec.{eqb}
+use mathlib.Core.List.{List, []}
+use mathlib.Core.Bool.{_&&_, cond}
 use lib.ListN.{length, getD, take, drop}
 use Rattle.counts.specs.Outcome.{Outcome, gives, refused}
+use Rattle.counts.specs.Same.{same}
 use Rattle.type_str.specs.declared.TypeStr.{TypeStr}
 use Rattle.dtype.specs.declared.Entry.{Entry}
 use Rattle.dtype.specs.declared.Order.{Order}
@@ -69,12 +69,6 @@ abbrev mutual
       let m = entryFrom t .name in
       let d = unflat f t (drop m ns) in
       field-then (take m ns) d (unflats f c (drop (entry-width * entriesOf d) t) (drop (nameBytes d) (drop m ns)))
-
-abbrev pub same : List ℕ → List ℕ → Bool
-same [] [] = true
-same [] (y ∷ ys) = false
-same (x ∷ xs) [] = false
-same (x ∷ xs) (y ∷ ys) = eqb x y && same xs ys
 
 -- the dtype that a table and its names list: read them, and see whether they are the table and the names of what was read
 unfoldable pub tableOf : (t ns : List ℕ) → Outcome Dtype

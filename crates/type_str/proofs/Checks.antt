@@ -80,11 +80,11 @@ object-unsized t h = rw (numBytes, h)
 
 pub unicode-bytes : (t : TypeStr) (r : TypeBytes) → isObject (t .letter) ≡ false → isUnicode (t .letter) ≡ true → r ≡ countedBytes (bytes (number (4 * t .size))) → r ≡ numBytes t
 unfolding numBytes typeBytes
-unicode-bytes t r h k e = rw (numBytes, h, typeBytes, k) e
+unicode-bytes t r h k e = rw (numBytes, h, k) e
 
 pub plain-bytes : (t : TypeStr) → isObject (t .letter) ≡ false → isUnicode (t .letter) ≡ false → t .size < 2 ^ 64 → Sized (record { 0 = t .size }) ≡ numBytes t
 unfolding numBytes typeBytes
-plain-bytes t h k l = rw (numBytes, h, typeBytes, k, number-is (t .size) l)
+plain-bytes t h k l = rw (numBytes, h, k, number-is (t .size) l)
 
 -- ---- what the parts of a type string come to
 pub fault-whole : (s : List ℕ) → refused 15 ≡ each partsOf (syntax s) → refused 15 ≡ typeString s

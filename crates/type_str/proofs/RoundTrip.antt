@@ -4,12 +4,13 @@ use Prim.Native.Nat.{ℕ, _^_, _<_}
 use native.Mathlib.Omega.{arith}
 use mathlib.Core.Path.{_≡_, refl, sym, ap, _∙_, subst}
 use mathlib.Core.Logic.{_↔_}
-use mathlib.Core.Bool.{Bool, true, false, not, cond, _&&_}
+use mathlib.Core.Bool.{Bool, true, false, not, cond}
 use mathlib.Core.List.{List, [], _∷_}
 use lib.ListN.{length, drop}
 use lib.Dec.{leb, eqb}
 use borrow.Author.Tests.{eqb-true}
 use Rattle.counts.specs.Outcome.{Outcome, gives, refused, then, each, unless}
+use Rattle.counts.proofs.Alike.{true-false, and-left, and-right}
 use Rattle.decimal.specs.Decimal.{isDigit, digitsOf, afterDigits, decimal, decimalFrom, printed}
 use Rattle.decimal.proofs.Prints.{digits-printed, decimal-printed, drop-printed, printed-some}
 use Rattle.type_str.specs.Spelling.{orderOf, letterOf, unitText, unitsOf}
@@ -21,9 +22,6 @@ use Rattle.type_str.specs.declared.TypeChar.{TypeChar}
 use Rattle.type_str.specs.declared.TimeUnits.{TimeUnits}
 use Rattle.type_str.specs.declared.TimeUnits.the-variants.{Absent, Year, Month, Week, Day, Hour, Minute, Second, Millisecond, Microsecond, Nanosecond, Picosecond, Femtosecond, Attosecond}
 use Rattle.type_str.specs.declared.TypeStr.{TypeStr}
-
-true-false : {A : Type 0} → true ≡ false → A
-true-false e = absurd (let z : _≡_ {A = ℕ} 0 1 = cc in omega arith)
 
 -- ---- from a type to its text and back
 -- units begin with no digit
@@ -77,14 +75,6 @@ sized-back o l n u h = go (isObject l) refl
 syntax-back : (t : TypeStr) → cond (isObject (t .letter)) (eqb (t .size) 0) true ≡ true → syntax (typeText t []) ≡ gives t
 unfolding syntax typeText
 syntax-back t h = rw (syntax, order-spelled (t .order), letter-spelled (t .letter)) (sized-back (t .order) (t .letter) (t .size) (t .units) h)
-
-and-left : (a b : Bool) → (a && b) ≡ true → a ≡ true
-and-left true b h = refl
-and-left false b h = h
-
-and-right : (a b : Bool) → (a && b) ≡ true → b ≡ true
-and-right true b h = h
-and-right false b h = true-false (sym h)
 
 -- what passes the checks is given as it is
 unless-passes : (b : Bool) (n : ℕ) (o : Outcome TypeStr) (t : TypeStr) → (passes o ≡ true → o ≡ gives t) → passes (unless b n o) ≡ true → unless b n o ≡ gives t

@@ -26,9 +26,9 @@ isUnicode UnicodeStr = true
 isUnicode Object = false
 isUnicode RawData = false
 
--- the bytes of a plain type, unbounded. An object's size is 0, and its bytes count for nothing
+-- the bytes of a plain type, unbounded; an object counts 0
 unfoldable pub typeBytes : TypeStr → ℕ
-typeBytes t = cond (isUnicode (t .letter)) (4 * t .size) (t .size)
+typeBytes t = cond (isObject (t .letter)) 0 (cond (isUnicode (t .letter)) (4 * t .size) (t .size))
 
 abbrev pub countedBytes : ByteCount → TypeBytes
 countedBytes (Is n) = Sized n
