@@ -67,17 +67,26 @@ class Integer(str):
     """An integer as written: an optional `-` and its digits."""
 
 
+class String(bytes):
+    """A string's decoded bytes; `raw` is what stands between its quotes."""
+
+
 class Items(list):
     """A dict's items, (key, value), in the order of the text."""
 
 
 def check(text, most=32):
-    """(6, place) or (7, place), or ('ok', value): strings are bytes, decoded; integers Integer; dicts Items; lists, tuples, True, False and None themselves."""
+    """(6, place) or (7, place), or ('ok', value): strings are String; integers Integer; dicts Items; lists, tuples, True, False and None themselves."""
     state, marks = START
     holders = [[]]
 
     def put(value):
         holders[-1].append(value)
+
+    def string(decoded, raw):
+        value = String(decoded)
+        value.raw = raw
+        return value
 
     begun = 0
     for at, byte in enumerate(text):
@@ -92,7 +101,7 @@ def check(text, most=32):
             put(Integer(text[begun:at].decode()))
         if was in ("'", '"'):
             if state == 'after':
-                put(bytes(piece))
+                put(string(piece, text[begun + 1:at]))
             elif state == was:
                 piece.append(byte)
         elif was in ("'\\", '"\\'):
