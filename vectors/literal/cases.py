@@ -23,6 +23,10 @@ NAMED = [
     (b"'a\nb'", '6 2'), (b"'a\rb'", '6 2'), (b"'a\tb'", 'ok'), (b"'\x00\x0b\x0c\xc2\xa0'", 'ok'), (b'\x0c1', '6 0'), (b'1\x0b', '6 1'), (b'\xc2\xa01', '6 0'), (b'1\x00', '6 1'), (b"'\\", '6 2'), (b"'\\'", '6 3'),
     (b"'\\\\'", 'ok'), (b"'\\\\\\'\\\"\\n\\r\\t\"'", 'ok'), (b"'\\a'", '6 2'), (b'"a\'b"', 'ok'), (b"'a\"b'", 'ok'), (b'TrueFalse', '6 4'), (b'None_', '6 4'), (b'true', '6 0'), (b'Nonf', '6 3'), (b'1 1', '6 2'), (b'1,', '6 1'),
     (b'#', '6 0'), (b'1 # x', '6 2'), (b'9' * 5000, 'ok'), (b'-' + b'1' * 5000 + b'x', '6 5001'), (b'[1' + b' ' * 3000 + b'1]', '6 3002'),
+    # the inputs of docs/DIFFERENCES.md that are not above
+    (b'0,', '6 1'), (b'(0)', '6 2'), (b'{0}', '6 2'), (b'set()', '6 0'), (b'+0', '6 0'), (b'-\t0', '6 1'), (b'-(0)', '6 1'), (b'0_0', '6 1'), (b'0b0', '6 1'), (b'0.', '6 1'), (b'.0', '6 0'), (b'0j', '6 1'), (b'0+0j', '6 1'),
+    (b'...', '6 0'), (b'b""', '6 0'), (b'""\'\'', '6 2'), (b'""""""', '6 2'), (b'"\\\x01"', '6 2'), (b'"\\x41"', '6 2'), (b'"\\q"', '6 2'), (b'"\\\n"', '6 2'), (b'\\\n0', '6 0'), (b'0#', '6 1'), (b'\x0c0', '6 0'),
+    (b'\n\t1', 'ok'), (b'1\n ', 'ok'), (b'{[]:0}', 'ok'), (b'"\x00"', 'ok'), (b'{1:2,True:3}', 'ok'),
 ]
 
 
@@ -137,7 +141,7 @@ def long_ones():
 
 
 def recorded():
-    """The gate's texts: those named in document 01 and the readings, all short ones over the structure, every byte in every place of some texts, NumPy's, long and generated ones."""
+    """The gate's texts: those named in document 01 and the readings, all short ones over the structure, every byte in every place of some texts and behind a backslash, NumPy's, long and generated ones."""
     rng = random.Random(12)
     texts = [text for text, _ in NAMED]
     texts += up_to(3, STRUCTURE)
@@ -147,6 +151,7 @@ def recorded():
         for at in range(len(text) + 1):
             texts += (text[:at] + bytes([b]) + text[at:] for b in range(128))
             texts += (text[:at] + bytes([b]) + text[at + 1:] for b in range(0, 128, 3))
+    texts += (quote + b'\\' + bytes([b]) + quote for quote in (b"'", b'"') for b in range(128))
     texts += written_by_numpy()
     texts += long_ones()
     texts = list(dict.fromkeys(texts))
