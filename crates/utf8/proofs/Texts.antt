@@ -1,0 +1,196 @@
+-- What `scan` finds is what Utf8.antt defines. Every text is a row of encodings and then a rest that is empty or begins with none (`parted`): decode
+-- one value after another, the bytes left falling. Over encodings `scan` steps from one to the next, so that it ends at that rest: the text is
+-- well-formed exactly where the rest is empty, and otherwise the rest is where the first ill-formed sequence begins. Assumes nothing.
+use Prim.Native.Nat.{ℕ, zero, suc, _+_, _-_, _≤_, _<_}
+use mathlib.Core.Path.{_≡_, refl, ap, sym, _∙_}
+use mathlib.Core.Logic.{_⊎_, inl, inr, ⊎-elim}
+use mathlib.Core.List.{List, [], _∷_, _++_, append-assoc, append-nil}
+use native.Mathlib.Omega.{arith}
+use native.Mathlib.Nat.{not-suc-le-zero, add-zero, zero-add}
+use lib.ListN.{length, take, drop, length-append, length-drop, take-append-drop, drop-of-length-le}
+use lib.Seq.{drop-nil, drop-drop, drop-append-seam, take-at, drop-at, length-take-le}
+use Rattle.utf8.specs.Scalar.{Scalars}
+use Rattle.utf8.specs.Utf8.{encode, encodeAll, WellFormed, Begins, FirstIll}
+use Rattle.utf8.specs.Decode.{decode, scan, firstIll}
+use Rattle.utf8.specs.declared.Decoded.{Decoded}
+use Rattle.utf8.specs.declared.Text.{Text}
+use Rattle.utf8.proofs.Encoding.{encode-length}
+use Rattle.utf8.proofs.Decoding.{decode-encode, decode-back, Decodes}
+
+-- ---- scan, from one value to the next
+
+skipped : (k at : ℕ) (text : List ℕ) → scan k at text ≡ scan 0 (at + k) (drop k text)
+unfolding scan
+skipped zero at text = rw add-zero refl
+skipped (suc k) at [] = refl
+skipped (suc k) at (b ∷ text) = skipped k (suc at) text ∙ ap (λ (n : ℕ). scan 0 n (drop k text)) (omega arith)
+
+pub scan-step : (at : ℕ) (text : List ℕ) (v n : ℕ) → decode text ≡ Decoded.Scalar v n → scan 0 at text ≡ scan 0 (at + n) (drop n text)
+unfolding scan
+scan-step at [] v n e = rw drop-nil refl
+scan-step at (b ∷ text) v zero e =
+    let h = encode-length v in
+    let w = decode-back (b ∷ text) v 0 e .width in
+    absurd (omega arith)
+scan-step at (b ∷ text) v (suc m) e =
+    let one : suc m - 1 ≡ m = omega arith in
+    let far : suc at + m ≡ at + suc m = omega arith in
+    rw (scan, e, one) (skipped m (suc at) text ∙ rw far refl)
+
+pub scan-ill : (at : ℕ) (text : List ℕ) → 0 < length text → decode text ≡ Decoded.Ill → scan 0 at text ≡ Text.Ill at
+unfolding scan
+scan-ill at [] h e = absurd (not-suc-le-zero h)
+scan-ill at (b ∷ text) h e = rw (scan, e)
+
+pub scan-end : (at : ℕ) (text : List ℕ) → length text ≤ at → scan 0 at (drop at text) ≡ Text.WellFormed
+unfolding scan
+scan-end at text h = rw drop-of-length-le refl
+
+-- ---- a row of encodings
+
+pub record Parted (text : List ℕ) : Type 0 where
+  pub values : List ℕ
+  pub rest : List ℕ
+  pub scalars : Scalars values
+  pub split : text ≡ encodeAll values ++ rest
+  pub stops : (rest ≡ []) ⊎ ((0 < length rest) × (decode rest ≡ Decoded.Ill))
+
+-- scan passes over encodings
+pub scan-over : (values : List ℕ) → Scalars values → (at : ℕ) (rest : List ℕ) → scan 0 at (encodeAll values ++ rest) ≡ scan 0 (at + length (encodeAll values)) rest
+scan-over [] s at rest = rw add-zero refl
+scan-over (v ∷ values) s at rest =
+    let n = length (encode v) in
+    let whole = encode v ++ (encodeAll values ++ rest) in
+    let e : decode whole ≡ Decoded.Scalar v n = decode-encode v (s .0) (encodeAll values ++ rest) in
+    let far : at + n + length (encodeAll values) ≡ at + length (encode v ++ encodeAll values) = simp length-append (omega arith) in
+    rw append-assoc
+    (scan-step at whole v n e
+    ∙ ap (λ (l : List ℕ). scan 0 (at + n) l) (drop-append-seam (encode v) (encodeAll values ++ rest))
+    ∙ scan-over values (s .1) (at + n) rest
+    ∙ ap (λ (k : ℕ). scan 0 k rest) far)
+
+-- every text is parted
+pub parted : (text : List ℕ) → Parted text
+parted text = go (length text) text (omega arith)
+  where
+    more : {text : List ℕ} (v n : ℕ) → Decodes text v n → Parted (drop n text) → Parted text
+    more {text} v n d p = record {
+      values = v ∷ p .values;
+      rest = p .rest;
+      scalars = (d .scalar, p .scalars);
+      split = d .split ∙ ap (λ (l : List ℕ). encode v ++ l) (p .split) ∙ sym (append-assoc (encode v) (encodeAll (p .values)) (p .rest));
+      stops = p .stops;
+    }
+
+    first : (b : ℕ) (text : List ℕ) → ((l : List ℕ) → length l ≤ length text → Parted l) → (d : Decoded) → decode (b ∷ text) ≡ d → Parted (b ∷ text)
+    first b text shorter (Decoded.Scalar v n) e =
+        let d = decode-back (b ∷ text) v n e in
+        let k = encode-length v in
+        more v n d (shorter (drop n (b ∷ text)) (omega (arith, d .width, length-drop n (b ∷ text))))
+    first b text shorter Decoded.Ill e =
+        record { values = []; rest = b ∷ text; scalars = tt; split = refl; stops = inr (omega arith, e) }
+
+    step : (text : List ℕ) → ((l : List ℕ) → length l < length text → Parted l) → Parted text
+    step [] shorter = record { values = []; rest = []; scalars = tt; split = refl; stops = inl refl }
+    step (b ∷ text) shorter = first b text (λ l h. shorter l (omega arith)) (decode (b ∷ text)) refl
+
+    go : (m : ℕ) (text : List ℕ) → length text ≤ m → Parted text
+    go zero text h = step text (λ l k. absurd (omega arith))
+    go (suc m) text h = step text (λ l k. go m l (omega arith))
+
+-- ---- the two answers, by what the text is
+
+pub well-formed-rest : (text : List ℕ) (p : Parted text) → p .rest ≡ [] → WellFormed text
+well-formed-rest text p e =
+    record { values = p .values; scalars = p .scalars; encoded = p .split ∙ ap (λ (l : List ℕ). encodeAll (p .values) ++ l) e ∙ append-nil (encodeAll (p .values)) }
+
+first-ill-rest : (text : List ℕ) (p : Parted text) → firstIll text ≡ scan 0 (length (encodeAll (p .values))) (p .rest)
+first-ill-rest text p =
+    ap (λ (l : List ℕ). firstIll l) (p .split) ∙ scan-over (p .values) (p .scalars) 0 (p .rest)
+    ∙ ap (λ (k : ℕ). scan 0 k (p .rest)) (zero-add (length (encodeAll (p .values))))
+
+-- no encoding begins where none is decoded
+ill-stuck : (text : List ℕ) → decode text ≡ Decoded.Ill → Begins text → ⊥
+ill-stuck text e b =
+    let f : decode text ≡ Decoded.Scalar (b .value) (length (encode (b .value))) =
+    ap (λ (l : List ℕ). decode l) (b .split) ∙ decode-encode (b .value) (b .scalar) (b .rest) in
+    let z : _≡_ {A = ℕ} 0 1 = cc in
+    omega arith
+
+-- a text that is the encoding of scalar values is found well-formed
+pub found-well-formed : (text : List ℕ) → WellFormed text → firstIll text ≡ Text.WellFormed
+unfolding scan
+found-well-formed text w =
+    ap (λ (l : List ℕ). firstIll l) (w .encoded ∙ sym (append-nil (encodeAll (w .values))))
+    ∙ scan-over (w .values) (w .scalars) 0 []
+
+-- and no other
+pub well-formed-found : (text : List ℕ) → firstIll text ≡ Text.WellFormed → WellFormed text
+well-formed-found text e =
+    let p = parted text in
+    ⊎-elim
+    (λ h. well-formed-rest text p h)
+    (λ h.
+    let f = first-ill-rest text p ∙ scan-ill (length (encodeAll (p .values))) (p .rest) (h .0) (h .1) in
+    let z : _≡_ {A = ℕ} 0 1 = cc in
+    absurd (omega arith))
+    (p .stops)
+
+-- the place that is found is where the first ill-formed sequence begins
+pub first-ill-found : (text : List ℕ) (at : ℕ) → firstIll text ≡ Text.Ill at → FirstIll text at
+unfolding scan
+first-ill-found text at e =
+    let p = parted text in
+    let bytes = encodeAll (p .values) in
+    ⊎-elim
+    (λ h.
+    let f = first-ill-rest text p ∙ ap (λ (l : List ℕ). scan 0 (length bytes) l) h in
+    let z : _≡_ {A = ℕ} 0 1 = cc in
+    absurd (omega arith))
+    (λ h.
+    let f = first-ill-rest text p ∙ scan-ill (length bytes) (p .rest) (h .0) (h .1) in
+    let same : length bytes ≡ at = cc in
+    record {
+      inside = omega (arith, simp length-append at (ap (λ (l : List ℕ). length l) (p .split)));
+      before = record { values = p .values; scalars = p .scalars; encoded = ap (λ (l : List ℕ). take at l) (p .split) ∙ take-at bytes (p .rest) at same };
+      stuck = rw (p .split, drop-at bytes (p .rest) at same) (ill-stuck (p .rest) (h .1));
+    })
+    (p .stops)
+
+-- scan past a well-formed part
+pub scan-past : (a rest : List ℕ) → WellFormed a → firstIll (a ++ rest) ≡ scan 0 (length a) rest
+scan-past a rest w =
+    ap (λ (l : List ℕ). firstIll (l ++ rest)) (w .encoded) ∙ scan-over (w .values) (w .scalars) 0 rest
+    ∙ ap (λ (k : ℕ). scan 0 k rest) (zero-add (length (encodeAll (w .values))) ∙ sym (ap (λ (l : List ℕ). length l) (w .encoded)))
+
+-- there is no second such place
+pub found-first-ill : (text : List ℕ) (at : ℕ) → FirstIll text at → firstIll text ≡ Text.Ill at
+found-first-ill text at f = sym (ap (λ (l : List ℕ). firstIll l) (take-append-drop at text)) ∙ past ∙ go (decode (drop at text)) refl
+  where
+    past : firstIll (take at text ++ drop at text) ≡ scan 0 at (drop at text)
+    past =
+        let h = f .inside in
+        scan-past (take at text) (drop at text) (f .before) ∙ ap (λ (k : ℕ). scan 0 k (drop at text)) (length-take-le at text (omega arith))
+
+    go : (d : Decoded) → decode (drop at text) ≡ d → scan 0 at (drop at text) ≡ Text.Ill at
+    go (Decoded.Scalar v n) e =
+        let d = decode-back (drop at text) v n e in
+        absurd (f .stuck (record { value = v; rest = drop n (drop at text); scalar = d .scalar; split = d .split }))
+    go Decoded.Ill e = let h = f .inside in scan-ill at (drop at text) (rw length-drop (omega arith)) e
+
+-- one value on: its bytes stand in the text, there are some, and the scan goes on behind them
+pub record Onward (text : List ℕ) (at n : ℕ) : Type 0 where
+  pub some : 0 < n
+  pub inside : at + n ≤ length text
+  pub on : scan 0 at (drop at text) ≡ scan 0 (at + n) (drop (at + n) text)
+
+pub onward : (text : List ℕ) (at v n : ℕ) → at ≤ length text → decode (drop at text) ≡ Decoded.Scalar v n → Onward text at n
+onward text at v n h e =
+    let d = decode-back (drop at text) v n e in
+    let k = encode-length v in
+    let fits = simp length-append at (ap (λ (l : List ℕ). length l) (d .split)) in
+    record {
+      some = omega (arith, d .width);
+      inside = omega (arith, d .width, length-drop at text);
+      on = scan-step at (drop at text) v n e ∙ ap (λ (l : List ℕ). scan 0 (at + n) l) (drop-drop n at text);
+    }
