@@ -194,7 +194,8 @@ opened text i h =
     (λ k. let e = List·getD-eq-default text 256 k in absurd (omega arith))
     (side i (length text))
 
-in-row : (text bytes : List ℕ) (v k n : ℕ) → isScalar v ≡ true → encode v ≡ bytes → length bytes ≡ k → text ≡ bytes ++ drop k text → k ≡ n → Decodes text v n
+in-row : (text bytes : List ℕ) (v k n : ℕ) → isScalar v ≡ true → encode v ≡ bytes → length bytes ≡ k → text ≡ bytes ++ drop k text → k ≡ n
+    → Decodes text v n
 in-row text bytes v k n s e l t h =
     subst (λ (m : ℕ). Decodes text v m) h
     (record { scalar = s; width = sym l ∙ sym (ap (λ (x : List ℕ). length x) e); split = rw e t })

@@ -19,7 +19,7 @@ pub record Edges : Type 0 where
   pub four-last : encode 0x10FFFF ≡ 0xF4 ∷ 0x8F ∷ 0xBF ∷ 0xBF ∷ []
   pub nothing : firstIll [] ≡ Text.WellFormed
   pub nul : firstIll (0 ∷ []) ≡ Text.WellFormed
-  -- 80 twice in a longer form, and once more in one that is longer still
+  -- 0, 7FF and FFFF in longer forms than their own
   pub overlong-two : firstIll (0xC0 ∷ 0x80 ∷ []) ≡ Text.Ill 0
   pub overlong-three : firstIll (0xE0 ∷ 0x9F ∷ 0xBF ∷ []) ≡ Text.Ill 0
   pub overlong-four : firstIll (0xF0 ∷ 0x8F ∷ 0xBF ∷ 0xBF ∷ []) ≡ Text.Ill 0

@@ -1,6 +1,6 @@
 -- Well-formed texts joined and parted: what is joined of well-formed texts is well-formed, and so is what is left behind a well-formed front. A text
 -- of ASCII alone is well-formed, and what stands before an ASCII byte of a well-formed text is well-formed by itself. Assumes nothing.
-use Prim.Native.Nat.{ℕ, suc, _+_, _<_}
+use Prim.Native.Nat.{ℕ, suc, _+_, _≤_, _<_}
 use mathlib.Core.Path.{_≡_, refl, ap, sym, _∙_}
 use mathlib.Core.Bool.{true}
 use mathlib.Core.Logic.{⊎-elim}
@@ -12,10 +12,11 @@ use Rattle.utf8.specs.Scalar.{isScalar, Scalars}
 use Rattle.utf8.specs.Utf8.{encode, encodeAll, WellFormed}
 use Rattle.utf8.specs.Decode.{decode, scan, firstIll}
 use Rattle.utf8.specs.declared.Decoded.{Decoded}
+use Rattle.utf8.specs.declared.Text.{Text}
 use Rattle.utf8.proofs.Scalars.{side, scalar-low}
 use Rattle.utf8.proofs.Encoding.{row-one, encode-trailing}
 use Rattle.utf8.proofs.Decoding.{decode-encode}
-use Rattle.utf8.proofs.Texts.{Parted, parted, scan-over, scan-ill, scan-past, well-formed-rest, found-well-formed}
+use Rattle.utf8.proofs.Texts.{Parted, parted, encodings, scan-over, scan-ill, scan-past, apart, rest-empty, found-well-formed}
 
 encodeAll-append : (cs ds : List ℕ) → encodeAll (cs ++ ds) ≡ encodeAll cs ++ encodeAll ds
 encodeAll-append [] ds = refl
@@ -37,19 +38,17 @@ joined a b w x =
 
 -- what is left behind a well-formed front of a well-formed text
 pub behind : (a b : List ℕ) → WellFormed (a ++ b) → WellFormed a → WellFormed b
-behind a b w x =
-    let p = parted b in
-    ⊎-elim
-    (λ h. well-formed-rest b p h)
-    (λ h.
-    let far = length a + length (encodeAll (p .values)) in
-    let e : firstIll (a ++ b) ≡ scan 0 far (p .rest) =
-    scan-past a b x ∙ ap (λ (l : List ℕ). scan 0 (length a) l) (p .split) ∙ scan-over (p .values) (p .scalars) (length a) (p .rest) in
-    let f = scan-ill far (p .rest) (h .0) (h .1) in
-    let g = found-well-formed (a ++ b) w in
-    let z : _≡_ {A = ℕ} 0 1 = cc in
-    absurd (omega arith))
-    (p .stops)
+behind a b w x = ⊎-elim (rest-empty p) (λ s. apart (found-well-formed (a ++ b) w) (found (s .0) (s .1))) (p .stops)
+  where
+    p : Parted b
+    p = parted b
+
+    found : 0 < length (p .rest) → decode (p .rest) ≡ Decoded.Ill → firstIll (a ++ b) ≡ Text.Ill (length a + length (encodeAll (p .values)))
+    found h e =
+        scan-past a b x
+        ∙ ap (λ (l : List ℕ). scan 0 (length a) l) (p .split)
+        ∙ scan-over (p .values) (p .scalars) (length a) (p .rest)
+        ∙ scan-ill (length a + length (encodeAll (p .values))) (p .rest) h e
 
 pub ascii : (text : List ℕ) → ((k : ℕ) → k < length text → getD text k 0 < 0x80) → WellFormed text
 ascii [] h = record { values = []; scalars = tt; encoded = refl }
@@ -65,36 +64,45 @@ ascii (b ∷ text) h =
 
 -- ---- parted where an ASCII byte stands
 
--- what stands before an ASCII byte of a well-formed text: no encoding of more bytes has one in it
-pub before-ascii : (a : List ℕ) (b : ℕ) (rest : List ℕ) → b < 0x80 → WellFormed (a ++ b ∷ rest) → WellFormed a
-before-ascii a b rest h w =
-    let p = parted a in
-    ⊎-elim (λ e. well-formed-rest a p e) (λ s. absurd (seam p (s .0) (s .1))) (p .stops)
+-- an encoding that begins before an ASCII byte ends before it, for it has no such byte in it but its first
+ends-before : (front : List ℕ) (b : ℕ) (rest more : List ℕ) (v : ℕ) → 0 < length front → b < 0x80 → front ++ b ∷ rest ≡ encode v ++ more
+    → length (encode v) ≤ length front
+ends-before front b rest more v h l e = ⊎-elim (λ k. absurd (inside k)) (λ k. k) (side (length front) (length (encode v)))
   where
-    inner : (r : List ℕ) → 0 < length r → decode r ≡ Decoded.Ill → (v : ℕ) (more : List ℕ) → isScalar v ≡ true → r ++ b ∷ rest ≡ encode v ++ more → ⊥
-    inner r l e v more s split =
-        ⊎-elim
-        (λ k.
-        let at-b : getD (encode v) (length r) 0 ≡ b =
-        sym (List·getD-append (encode v) more 0 (length r) k) ∙ ap (λ (x : List ℕ). getD x (length r) 0) (sym split) ∙ getD-append-seam r b rest 0 in
-        omega (arith, encode-trailing v (length r) l k))
-        (λ k.
-        let front : take (length (encode v)) r ≡ encode v =
-        sym (take-append-le (length (encode v)) r (b ∷ rest) k) ∙ ap (λ (x : List ℕ). take (length (encode v)) x) split ∙ take-append-seam (encode v) more in
-        let f = decode-encode v s (drop (length (encode v)) r) in
-        let g = take-append-drop (length (encode v)) r in
+    inside : length front < length (encode v) → ⊥
+    inside k =
+        let here : getD (encode v) (length front) 0 ≡ b =
+        sym (List·getD-append (encode v) more 0 (length front) k)
+        ∙ ap (λ (x : List ℕ). getD x (length front) 0) (sym e)
+        ∙ getD-append-seam front b rest 0 in
+        omega (arith, encode-trailing v (length front) h k)
+
+-- what stands before an ASCII byte of a well-formed text
+pub before-ascii : (a : List ℕ) (b : ℕ) (rest : List ℕ) → b < 0x80 → WellFormed (a ++ b ∷ rest) → WellFormed a
+before-ascii a b rest l w = ⊎-elim (rest-empty p) (λ s. absurd (seam (s .0) (s .1))) (p .stops)
+  where
+    p : Parted a
+    p = parted a
+
+    decoded : (front more : List ℕ) (v : ℕ) → 0 < length front → isScalar v ≡ true → front ++ b ∷ rest ≡ encode v ++ more → decode front ≡ Decoded.Ill → ⊥
+    decoded front more v h s e ill =
+        let n = length (encode v) in
+        let k = ends-before front b rest more v h l e in
+        let begin : take n front ≡ encode v =
+        sym (take-append-le n front (b ∷ rest) k) ∙ ap (λ (x : List ℕ). take n x) e ∙ take-append-seam (encode v) more in
+        let whole = take-append-drop n front in
+        let found = decode-encode v s (drop n front) in
         let z : _≡_ {A = ℕ} 0 1 = cc in
-        omega arith)
-        (side (length r) (length (encode v)))
+        omega arith
 
-    first : (r : List ℕ) → 0 < length r → decode r ≡ Decoded.Ill → (vs : List ℕ) → Scalars vs → r ++ b ∷ rest ≡ encodeAll vs → ⊥
-    first r l e [] s split = let k = simp length-append at (ap (λ (x : List ℕ). length x) split) in omega arith
-    first r l e (v ∷ vs) s split = inner r l e v (encodeAll vs) (s .0) split
+    first : (front : List ℕ) → 0 < length front → decode front ≡ Decoded.Ill → (vs : List ℕ) → Scalars vs → front ++ b ∷ rest ≡ encodeAll vs → ⊥
+    first front h ill [] s e = let k = simp length-append at (ap (λ (x : List ℕ). length x) e) in omega arith
+    first front h ill (v ∷ vs) s e = decoded front (encodeAll vs) v h (s .0) e ill
 
-    seam : (p : Parted a) → 0 < length (p .rest) → decode (p .rest) ≡ Decoded.Ill → ⊥
-    seam p l e =
-        let front : WellFormed (encodeAll (p .values)) = record { values = p .values; scalars = p .scalars; encoded = refl } in
-        let parts : a ++ b ∷ rest ≡ encodeAll (p .values) ++ (p .rest ++ b ∷ rest) =
-        ap (λ (x : List ℕ). x ++ b ∷ rest) (p .split) ∙ append-assoc (encodeAll (p .values)) (p .rest) (b ∷ rest) in
-        let left = behind (encodeAll (p .values)) (p .rest ++ b ∷ rest) (rw parts at w) front in
-        first (p .rest) l e (left .values) (left .scalars) (left .encoded)
+    seam : 0 < length (p .rest) → decode (p .rest) ≡ Decoded.Ill → ⊥
+    seam h ill =
+        let bytes = encodeAll (p .values) in
+        let parts : a ++ b ∷ rest ≡ bytes ++ (p .rest ++ b ∷ rest) =
+        ap (λ (x : List ℕ). x ++ b ∷ rest) (p .split) ∙ append-assoc bytes (p .rest) (b ∷ rest) in
+        let left = behind bytes (p .rest ++ b ∷ rest) (rw parts at w) (encodings (p .values) (p .scalars)) in
+        first (p .rest) h ill (left .values) (left .scalars) (left .encoded)

@@ -1,4 +1,3 @@
-pub mod Bytes
 pub mod Scalars
 pub mod Encoding
 pub mod Decoding

@@ -77,7 +77,11 @@ none-begins-exactly text = (there, back (decode text) refl)
 
 module _ (c room : ℕ) where
   -- the answer by its three cases
-  by-case : {P : Type 0} → (isScalar c ≡ false → P) → (isScalar c ≡ true → room < length (encode c) → P) → (isScalar c ≡ true → length (encode c) ≤ room → P) → P
+  by-case : {P : Type 0}
+      → (isScalar c ≡ false → P)
+      → (isScalar c ≡ true → room < length (encode c) → P)
+      → (isScalar c ≡ true → length (encode c) ≤ room → P)
+      → P
   by-case {P} none short fits = go (isScalar c) refl
     where
       go : (t : Bool) → isScalar c ≡ t → P

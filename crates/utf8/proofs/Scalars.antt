@@ -1,7 +1,7 @@
 -- `isScalar` by its ranges, and what a scalar value is at most. Assumes nothing.
 use Prim.Native.Nat.{ℕ, _≤_, _<_}
-use mathlib.Core.Path.{_≡_, refl}
-use mathlib.Core.Bool.{Bool, true, false}
+use mathlib.Core.Path.{_≡_, refl, sym, _∙_}
+use mathlib.Core.Bool.{Bool, true, false, true≢false}
 use mathlib.Core.Logic.{_⊎_, inl, inr, ⊎-elim}
 use native.Mathlib.Omega.{arith}
 use borrow.Author.Tests.{le-leb, lt-leb, ltb-true, ltb-false}
@@ -37,4 +37,4 @@ scalar-over c h =
     simp (scalar-high c k, lt-leb c 0x10FFFF l)
 
 pub scalar-below : (c : ℕ) → isScalar c ≡ true → c < 0x110000
-scalar-below c s = ⊎-elim (λ h. h) (λ h. let e = scalar-over c h in let z : true ≡ false = cc in let w : _≡_ {A = ℕ} 0 1 = cc in absurd (omega arith)) (side c 0x110000)
+scalar-below c s = ⊎-elim (λ h. h) (λ h. absurd (true≢false (sym s ∙ scalar-over c h))) (side c 0x110000)

@@ -56,7 +56,8 @@ pub record Parted (text : List ℕ) : Type 0 where
   pub stops : (rest ≡ []) ⊎ ((0 < length rest) × (decode rest ≡ Decoded.Ill))
 
 -- scan passes over encodings
-pub scan-over : (values : List ℕ) → Scalars values → (at : ℕ) (rest : List ℕ) → scan 0 at (encodeAll values ++ rest) ≡ scan 0 (at + length (encodeAll values)) rest
+pub scan-over : (values : List ℕ) → Scalars values → (at : ℕ) (rest : List ℕ)
+    → scan 0 at (encodeAll values ++ rest) ≡ scan 0 (at + length (encodeAll values)) rest
 scan-over [] s at rest = rw add-zero refl
 scan-over (v ∷ values) s at rest =
     let n = length (encode v) in
@@ -82,7 +83,8 @@ parted text = go (length text) text (omega arith)
       stops = p .stops;
     }
 
-    first : (b : ℕ) (text : List ℕ) → ((l : List ℕ) → length l ≤ length text → Parted l) → (d : Decoded) → decode (b ∷ text) ≡ d → Parted (b ∷ text)
+    first : (b : ℕ) (text : List ℕ) → ((l : List ℕ) → length l ≤ length text → Parted l)
+        → (d : Decoded) → decode (b ∷ text) ≡ d → Parted (b ∷ text)
     first b text shorter (Decoded.Scalar v n) e =
         let d = decode-back (b ∷ text) v n e in
         let k = encode-length v in
@@ -100,77 +102,79 @@ parted text = go (length text) text (omega arith)
 
 -- ---- the two answers, by what the text is
 
-pub well-formed-rest : (text : List ℕ) (p : Parted text) → p .rest ≡ [] → WellFormed text
-well-formed-rest text p e =
-    record { values = p .values; scalars = p .scalars; encoded = p .split ∙ ap (λ (l : List ℕ). encodeAll (p .values) ++ l) e ∙ append-nil (encodeAll (p .values)) }
+pub encodings : (values : List ℕ) → Scalars values → WellFormed (encodeAll values)
+encodings values s = record { values = values; scalars = s; encoded = refl }
 
-first-ill-rest : (text : List ℕ) (p : Parted text) → firstIll text ≡ scan 0 (length (encodeAll (p .values))) (p .rest)
-first-ill-rest text p =
-    ap (λ (l : List ℕ). firstIll l) (p .split) ∙ scan-over (p .values) (p .scalars) 0 (p .rest)
-    ∙ ap (λ (k : ℕ). scan 0 k (p .rest)) (zero-add (length (encodeAll (p .values))))
+-- scan passes over a well-formed part
+pub scan-past : (a rest : List ℕ) → WellFormed a → firstIll (a ++ rest) ≡ scan 0 (length a) rest
+scan-past a rest w =
+    ap (λ (l : List ℕ). firstIll (l ++ rest)) (w .encoded)
+    ∙ scan-over (w .values) (w .scalars) 0 rest
+    ∙ ap (λ (k : ℕ). scan 0 k rest) (zero-add (length (encodeAll (w .values))) ∙ sym (ap (λ (l : List ℕ). length l) (w .encoded)))
 
--- no encoding begins where none is decoded
-ill-stuck : (text : List ℕ) → decode text ≡ Decoded.Ill → Begins text → ⊥
-ill-stuck text e b =
-    let f : decode text ≡ Decoded.Scalar (b .value) (length (encode (b .value))) =
-    ap (λ (l : List ℕ). decode l) (b .split) ∙ decode-encode (b .value) (b .scalar) (b .rest) in
-    let z : _≡_ {A = ℕ} 0 1 = cc in
-    omega arith
+-- no text is found to be both
+pub apart : {A : Type 0} {r : Text} {at : ℕ} → r ≡ Text.WellFormed → r ≡ Text.Ill at → A
+apart e f = let z : _≡_ {A = ℕ} 0 1 = cc in absurd (omega arith)
 
 -- a text that is the encoding of scalar values is found well-formed
 pub found-well-formed : (text : List ℕ) → WellFormed text → firstIll text ≡ Text.WellFormed
 unfolding scan
-found-well-formed text w =
-    ap (λ (l : List ℕ). firstIll l) (w .encoded ∙ sym (append-nil (encodeAll (w .values))))
-    ∙ scan-over (w .values) (w .scalars) 0 []
+found-well-formed text w = ap (λ (l : List ℕ). firstIll l) (sym (append-nil text)) ∙ scan-past text [] w
 
--- and no other
+pub rest-empty : {text : List ℕ} (p : Parted text) → p .rest ≡ [] → WellFormed text
+rest-empty p e =
+    let bytes = encodeAll (p .values) in
+    record { values = p .values; scalars = p .scalars; encoded = p .split ∙ ap (λ (l : List ℕ). bytes ++ l) e ∙ append-nil bytes }
+
+rest-stuck : {text : List ℕ} (p : Parted text) → 0 < length (p .rest) → decode (p .rest) ≡ Decoded.Ill → firstIll text ≡ Text.Ill (length (encodeAll (p .values)))
+rest-stuck p h e =
+    let bytes = encodeAll (p .values) in
+    ap (λ (l : List ℕ). firstIll l) (p .split)
+    ∙ scan-past bytes (p .rest) (encodings (p .values) (p .scalars))
+    ∙ scan-ill (length bytes) (p .rest) h e
+
+-- a text that is found well-formed is the encoding of scalar values
 pub well-formed-found : (text : List ℕ) → firstIll text ≡ Text.WellFormed → WellFormed text
 well-formed-found text e =
     let p = parted text in
-    ⊎-elim
-    (λ h. well-formed-rest text p h)
-    (λ h.
-    let f = first-ill-rest text p ∙ scan-ill (length (encodeAll (p .values))) (p .rest) (h .0) (h .1) in
-    let z : _≡_ {A = ℕ} 0 1 = cc in
-    absurd (omega arith))
-    (p .stops)
+    ⊎-elim (rest-empty p) (λ s. apart e (rest-stuck p (s .0) (s .1))) (p .stops)
 
 -- the place that is found is where the first ill-formed sequence begins
 pub first-ill-found : (text : List ℕ) (at : ℕ) → firstIll text ≡ Text.Ill at → FirstIll text at
-unfolding scan
-first-ill-found text at e =
-    let p = parted text in
-    let bytes = encodeAll (p .values) in
-    ⊎-elim
-    (λ h.
-    let f = first-ill-rest text p ∙ ap (λ (l : List ℕ). scan 0 (length bytes) l) h in
-    let z : _≡_ {A = ℕ} 0 1 = cc in
-    absurd (omega arith))
-    (λ h.
-    let f = first-ill-rest text p ∙ scan-ill (length bytes) (p .rest) (h .0) (h .1) in
-    let same : length bytes ≡ at = cc in
-    record {
-      inside = omega (arith, simp length-append at (ap (λ (l : List ℕ). length l) (p .split)));
-      before = record { values = p .values; scalars = p .scalars; encoded = ap (λ (l : List ℕ). take at l) (p .split) ∙ take-at bytes (p .rest) at same };
-      stuck = rw (p .split, drop-at bytes (p .rest) at same) (ill-stuck (p .rest) (h .1));
-    })
-    (p .stops)
-
--- scan past a well-formed part
-pub scan-past : (a rest : List ℕ) → WellFormed a → firstIll (a ++ rest) ≡ scan 0 (length a) rest
-scan-past a rest w =
-    ap (λ (l : List ℕ). firstIll (l ++ rest)) (w .encoded) ∙ scan-over (w .values) (w .scalars) 0 rest
-    ∙ ap (λ (k : ℕ). scan 0 k rest) (zero-add (length (encodeAll (w .values))) ∙ sym (ap (λ (l : List ℕ). length l) (w .encoded)))
-
--- there is no second such place
-pub found-first-ill : (text : List ℕ) (at : ℕ) → FirstIll text at → firstIll text ≡ Text.Ill at
-found-first-ill text at f = sym (ap (λ (l : List ℕ). firstIll l) (take-append-drop at text)) ∙ past ∙ go (decode (drop at text)) refl
+first-ill-found text at e = go (parted text)
   where
-    past : firstIll (take at text ++ drop at text) ≡ scan 0 at (drop at text)
+    stuck : (rest : List ℕ) → decode rest ≡ Decoded.Ill → Begins rest → ⊥
+    stuck rest e b =
+        let whole = ap (λ (l : List ℕ). decode l) (b .split) ∙ decode-encode (b .value) (b .scalar) (b .rest) in
+        let z : _≡_ {A = ℕ} 0 1 = cc in
+        omega arith
+
+    place : (p : Parted text) → 0 < length (p .rest) → decode (p .rest) ≡ Decoded.Ill → FirstIll text at
+    place p h ill =
+        let bytes = encodeAll (p .values) in
+        let found = rest-stuck p h ill in
+        let here : length bytes ≡ at = cc in
+        let front : take at text ≡ bytes = ap (λ (l : List ℕ). take at l) (p .split) ∙ take-at bytes (p .rest) at here in
+        let back : drop at text ≡ p .rest = ap (λ (l : List ℕ). drop at l) (p .split) ∙ drop-at bytes (p .rest) at here in
+        record {
+          inside = omega (arith, simp length-append at (ap (λ (l : List ℕ). length l) (p .split)));
+          before = rw front (encodings (p .values) (p .scalars));
+          stuck = rw back (stuck (p .rest) ill);
+        }
+
+    go : Parted text → FirstIll text at
+    go p = ⊎-elim (λ h. apart (found-well-formed text (rest-empty p h)) e) (λ s. place p (s .0) (s .1)) (p .stops)
+
+-- and there is no second such place
+pub found-first-ill : (text : List ℕ) (at : ℕ) → FirstIll text at → firstIll text ≡ Text.Ill at
+found-first-ill text at f = past ∙ go (decode (drop at text)) refl
+  where
+    past : firstIll text ≡ scan 0 at (drop at text)
     past =
         let h = f .inside in
-        scan-past (take at text) (drop at text) (f .before) ∙ ap (λ (k : ℕ). scan 0 k (drop at text)) (length-take-le at text (omega arith))
+        sym (ap (λ (l : List ℕ). firstIll l) (take-append-drop at text))
+        ∙ scan-past (take at text) (drop at text) (f .before)
+        ∙ ap (λ (k : ℕ). scan 0 k (drop at text)) (length-take-le at text (omega arith))
 
     go : (d : Decoded) → decode (drop at text) ≡ d → scan 0 at (drop at text) ≡ Text.Ill at
     go (Decoded.Scalar v n) e =

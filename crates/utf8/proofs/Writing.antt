@@ -37,7 +37,8 @@ module _ (c : ℕ) (room : List ℕ) where
   pub no-room : isScalar c ≡ true → length room < length (encode c) → Encodes c room Encoded.NoRoom room
   no-room s h = answered-with Encoded.NoRoom (encoding-short c (length room) s h) room refl
 
-  pub written : (bytes : List ℕ) → isScalar c ≡ true → encode c ≡ bytes → length bytes ≤ length room → Encodes c room (Encoded.Written (length bytes)) (sets room 0 bytes)
+  pub written : (bytes : List ℕ) → isScalar c ≡ true → encode c ≡ bytes → length bytes ≤ length room
+      → Encodes c room (Encoded.Written (length bytes)) (sets room 0 bytes)
   written bytes s e h =
       let fits : 0 + length bytes ≤ length room = omega arith in
       let stored : sets room 0 bytes ≡ bytes ++ drop (length bytes) room =

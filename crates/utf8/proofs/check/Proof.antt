@@ -61,11 +61,16 @@ returns-2 c =
     sym (c .before .before .before .before .before .loop .inv .1 ∙ scan-ill at (drop at text) (rw length-drop (omega arith)) here)
 
 -- where a value was decoded
-ahead : (c : tie.After-known-told Inv-loop μ-loop) → Onward (c .before .before .before .before .before .before .before .before .before .before .args .text .now) (c .before .before .before .before .before .before .loop .at) (c .before .length .given .0 .1 .0)
+abbrev text-of : tie.After-known-told Inv-loop μ-loop → List ℕ
+text-of c = c .before .before .before .before .before .before .before .before .before .before .args .text .now
+
+abbrev at-of : tie.After-known-told Inv-loop μ-loop → ℕ
+at-of c = c .before .before .before .before .before .before .loop .at
+
+ahead : (c : tie.After-known-told Inv-loop μ-loop) → Onward (text-of c) (at-of c) (c .before .length .given .0 .1 .0)
 ahead c =
-    let text = c .before .before .before .before .before .before .before .before .before .before .args .text .now in
-    let at = c .before .before .before .before .before .before .loop .at in
-    onward text at (c .before .length .given .0 .0) _ (omega arith) (sym (whole text at (c .before .before .before .decode .ensures)) ∙ c .before .length .given .1)
+    let here = sym (whole (text-of c) (at-of c) (c .before .before .before .decode .ensures)) ∙ c .before .length .given .1 in
+    onward (text-of c) (at-of c) (c .before .length .given .0 .0) _ (omega arith) here
 
 add-at : tie.Need-add-at Inv-loop μ-loop
 add-at c = omega (arith, ahead c .inside)
