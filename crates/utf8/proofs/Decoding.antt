@@ -1,19 +1,19 @@
 -- `decode` is `encode` read backwards: of a scalar value's encoding, whatever stands behind it, it gives the value and its length, and where it
 -- gives a value, the bytes are that value's encoding. Both go row by row through Table 3-6: a trailing byte multiplies the value by 64 and adds
--- its six bits, and the division that made the bytes undoes it. Assumes nothing.
+-- its six bits, and the division that made the bytes undoes it. So nothing is decoded exactly where no encoding begins. Assumes nothing.
 use Prim.Native.Nat.{ℕ, suc, _+_, _-_, _*_, _/_, _%_, _≤_, _<_}
 use mathlib.Core.Path.{_≡_, refl, ap, sym, subst, _∙_}
 use mathlib.Core.Bool.{Bool, true, false}
-use mathlib.Core.Logic.{⊎-elim}
+use mathlib.Core.Logic.{_↔_, ⊎-elim}
+use mathlib.Core.Option.{Option, none, some}
 use mathlib.Core.List.{List, [], _∷_, _++_}
 use native.Mathlib.Omega.{arith}
 use borrow.Author.Tests.{lt-ltb, le-ltb, le-leb, lt-leb}
 use lib.ListN.{length, getD, drop, List·getD-eq-default}
 use lib.Seq.{drop-cons}
 use Rattle.utf8.specs.Scalar.{isScalar}
-use Rattle.utf8.specs.Utf8.{encode}
-use Rattle.utf8.specs.Decode.{extend, shortest, front, decode}
-use Rattle.utf8.specs.declared.Decoded.{Decoded}
+use Rattle.utf8.specs.Utf8.{encode, Begins}
+use Rattle.utf8.specs.Decode.{Point, point, extend, shortest, front, decode}
 use Rattle.utf8.proofs.Scalars.{side, scalar-low, scalar-below}
 use Rattle.utf8.proofs.Encoding.{row-one, row-two, row-three, row-four}
 
@@ -62,15 +62,15 @@ extend-back v b w e h =
 
 -- ---- the value is a scalar value of that many bytes
 
-pub shortest-is : (v least n : ℕ) → least ≤ v → isScalar v ≡ true → shortest v least n ≡ Decoded.Scalar v n
+pub shortest-is : (v least n : ℕ) → least ≤ v → isScalar v ≡ true → shortest v least n ≡ some (point v n)
 unfolding shortest
 shortest-is v least n h s = simp (shortest, le-leb least v h, s)
 
-pub shortest-low : (v least n : ℕ) → v < least → shortest v least n ≡ Decoded.Ill
+pub shortest-low : (v least n : ℕ) → v < least → shortest v least n ≡ none
 unfolding shortest
 shortest-low v least n h = simp (shortest, lt-leb least v h)
 
-pub shortest-not : (v least n : ℕ) → least ≤ v → isScalar v ≡ false → shortest v least n ≡ Decoded.Ill
+pub shortest-not : (v least n : ℕ) → least ≤ v → isScalar v ≡ false → shortest v least n ≡ none
 unfolding shortest
 shortest-not v least n h s = simp (shortest, le-leb least v h, s)
 
@@ -80,10 +80,10 @@ record Shortest (w least m v n : ℕ) : Type 0 where
   enough : least ≤ v
   scalar : isScalar v ≡ true
 
-never : {A : Type 0} (d : Decoded) (v n : ℕ) → d ≡ Decoded.Scalar v n → d ≡ Decoded.Ill → A
+never : {A : Type 0} (d : Option Point) (v n : ℕ) → d ≡ some (point v n) → d ≡ none → A
 never d v n e f = let z : _≡_ {A = ℕ} 0 1 = cc in absurd (omega arith)
 
-shortest-back : (w least m v n : ℕ) → shortest w least m ≡ Decoded.Scalar v n → Shortest w least m v n
+shortest-back : (w least m v n : ℕ) → shortest w least m ≡ some (point v n) → Shortest w least m v n
 shortest-back w least m v n e =
     ⊎-elim
     (λ lw. never _ v n e (shortest-low w least m lw))
@@ -103,11 +103,11 @@ shortest-back w least m v n e =
 -- ---- the rows by the first byte
 
 module _ (a b c d : ℕ) where
-  pub front-one : a < 0x80 → front a b c d ≡ Decoded.Scalar a 1
+  pub front-one : a < 0x80 → front a b c d ≡ some (point a 1)
   unfolding front
   front-one h = simp (front, lt-ltb a 0x80 h)
 
-  pub front-trailing : 0x80 ≤ a → a < 0xC0 → front a b c d ≡ Decoded.Ill
+  pub front-trailing : 0x80 ≤ a → a < 0xC0 → front a b c d ≡ none
   unfolding front
   front-trailing h k = simp (front, le-ltb a 0x80 h, lt-ltb a 0xC0 k)
 
@@ -132,7 +132,7 @@ module _ (a b c d : ℕ) where
       let n : 0xE0 ≤ a = omega arith in
       simp (front, le-ltb a 0x80 l, le-ltb a 0xC0 m, le-ltb a 0xE0 n, le-ltb a 0xF0 h, lt-ltb a 0xF8 k)
 
-  pub front-none : 0xF8 ≤ a → front a b c d ≡ Decoded.Ill
+  pub front-none : 0xF8 ≤ a → front a b c d ≡ none
   unfolding front
   front-none h =
       let l : 0x80 ≤ a = omega arith in
@@ -144,19 +144,19 @@ module _ (a b c d : ℕ) where
 -- ---- from a value to its bytes and back to the value
 
 module _ (v : ℕ) (s : isScalar v ≡ true) where
-  two-read : (c d : ℕ) → 0x80 ≤ v → v < 0x800 → front (0xC0 + v / 0x40) (0x80 + v % 0x40) c d ≡ Decoded.Scalar v 2
+  two-read : (c d : ℕ) → 0x80 ≤ v → v < 0x800 → front (0xC0 + v / 0x40) (0x80 + v % 0x40) c d ≡ some (point v 2)
   two-read c d h k =
       let top : 0xC0 + v / 0x40 - 0xC0 ≡ v / 0x40 = omega arith in
       front-two _ _ c d (omega arith) (omega arith) ∙ rw (top, extend-last v (scalar-below v s)) (shortest-is v 0x80 2 h s)
 
-  three-read : (d : ℕ) → 0x800 ≤ v → v < 0x10000 → front (0xE0 + v / 0x1000) (0x80 + v / 0x40 % 0x40) (0x80 + v % 0x40) d ≡ Decoded.Scalar v 3
+  three-read : (d : ℕ) → 0x800 ≤ v → v < 0x10000 → front (0xE0 + v / 0x1000) (0x80 + v / 0x40 % 0x40) (0x80 + v % 0x40) d ≡ some (point v 3)
   three-read d h k =
       let top : 0xE0 + v / 0x1000 - 0xE0 ≡ v / 0x40 / 0x40 = omega arith in
       let below = scalar-below v s in
       front-three _ _ _ d (omega arith) (omega arith)
       ∙ rw (top, extend-last (v / 0x40) (omega arith), extend-last v below) (shortest-is v 0x800 3 h s)
 
-  four-read : 0x10000 ≤ v → front (0xF0 + v / 0x40000) (0x80 + v / 0x1000 % 0x40) (0x80 + v / 0x40 % 0x40) (0x80 + v % 0x40) ≡ Decoded.Scalar v 4
+  four-read : 0x10000 ≤ v → front (0xF0 + v / 0x40000) (0x80 + v / 0x1000 % 0x40) (0x80 + v / 0x40 % 0x40) (0x80 + v % 0x40) ≡ some (point v 4)
   four-read h =
       let top : 0xF0 + v / 0x40000 - 0xF0 ≡ v / 0x40 / 0x40 / 0x40 = omega arith in
       let next : v / 0x1000 ≡ v / 0x40 / 0x40 = omega arith in
@@ -165,7 +165,7 @@ module _ (v : ℕ) (s : isScalar v ≡ true) where
       ∙ rw (top, next, extend-last (v / 0x40 / 0x40) (omega arith), extend-last (v / 0x40) (omega arith), extend-last v below) (shortest-is v 0x10000 4 h s)
 
   -- decoding an encoding gives the value and its length, whatever stands behind it
-  pub decode-encode : (rest : List ℕ) → decode (encode v ++ rest) ≡ Decoded.Scalar v (length (encode v))
+  pub decode-encode : (rest : List ℕ) → decode (encode v ++ rest) ≡ some (point v (length (encode v)))
   decode-encode rest =
       ⊎-elim
       (λ h. rw (row-one v h) (front-one _ _ _ _ h))
@@ -200,7 +200,7 @@ in-row text bytes v k n s e l t h =
     subst (λ (m : ℕ). Decodes text v m) h
     (record { scalar = s; width = sym l ∙ sym (ap (λ (x : List ℕ). length x) e); split = rw e t })
 
-module _ (text : List ℕ) (v n : ℕ) (e : decode text ≡ Decoded.Scalar v n) where
+module _ (text : List ℕ) (v n : ℕ) (e : decode text ≡ some (point v n)) where
   one-back : getD text 0 256 < 0x80 → Decodes text v n
   one-back h =
       let a = getD text 0 256 in
@@ -282,3 +282,19 @@ module _ (text : List ℕ) (v n : ℕ) (e : decode text ≡ Decoded.Scalar v n) 
       (side a 0xE0))
       (side a 0xC0))
       (side a 0x80)
+
+-- nothing is decoded exactly where no encoding begins
+pub none-begins : (text : List ℕ) → (decode text ≡ none) ↔ (Begins text → ⊥)
+none-begins text = (there, back (decode text) refl)
+  where
+    there : decode text ≡ none → Begins text → ⊥
+    there e b =
+        never _ (b .value) (length (encode (b .value)))
+        (ap (λ (l : List ℕ). decode l) (b .split) ∙ decode-encode (b .value) (b .scalar) (b .rest))
+        e
+
+    back : (d : Option Point) → decode text ≡ d → (Begins text → ⊥) → decode text ≡ none
+    back (some (point v n)) e h =
+        let d = decode-back text v n e in
+        absurd (h (record { value = v; rest = drop n text; scalar = d .scalar; split = d .split }))
+    back none e h = e

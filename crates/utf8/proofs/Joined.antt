@@ -4,6 +4,7 @@ use Prim.Native.Nat.{ℕ, suc, _+_, _≤_, _<_}
 use mathlib.Core.Path.{_≡_, refl, ap, sym, _∙_}
 use mathlib.Core.Bool.{true}
 use mathlib.Core.Logic.{⊎-elim}
+use mathlib.Core.Option.{none, some}
 use mathlib.Core.List.{List, [], _∷_, _++_, append-assoc}
 use native.Mathlib.Omega.{arith}
 use lib.ListN.{length, getD, take, drop, length-append, take-append-drop, List·getD-append}
@@ -11,8 +12,6 @@ use lib.Seq.{getD-append-seam, take-append-le, take-append-seam}
 use Rattle.utf8.specs.Scalar.{isScalar, Scalars}
 use Rattle.utf8.specs.Utf8.{encode, encodeAll, WellFormed}
 use Rattle.utf8.specs.Decode.{decode, scan, firstIll}
-use Rattle.utf8.specs.declared.Decoded.{Decoded}
-use Rattle.utf8.specs.declared.Text.{Text}
 use Rattle.utf8.proofs.Scalars.{side, scalar-low}
 use Rattle.utf8.proofs.Encoding.{row-one, encode-trailing}
 use Rattle.utf8.proofs.Decoding.{decode-encode}
@@ -43,7 +42,7 @@ behind a b w x = ⊎-elim (rest-empty p) (λ s. apart (found-well-formed (a ++ b
     p : Parted b
     p = parted b
 
-    found : 0 < length (p .rest) → decode (p .rest) ≡ Decoded.Ill → firstIll (a ++ b) ≡ Text.Ill (length a + length (encodeAll (p .values)))
+    found : 0 < length (p .rest) → decode (p .rest) ≡ none → firstIll (a ++ b) ≡ some (length a + length (encodeAll (p .values)))
     found h e =
         scan-past a b x
         ∙ ap (λ (l : List ℕ). scan 0 (length a) l) (p .split)
@@ -84,7 +83,7 @@ before-ascii a b rest l w = ⊎-elim (rest-empty p) (λ s. absurd (seam (s .0) (
     p : Parted a
     p = parted a
 
-    decoded : (front more : List ℕ) (v : ℕ) → 0 < length front → isScalar v ≡ true → front ++ b ∷ rest ≡ encode v ++ more → decode front ≡ Decoded.Ill → ⊥
+    decoded : (front more : List ℕ) (v : ℕ) → 0 < length front → isScalar v ≡ true → front ++ b ∷ rest ≡ encode v ++ more → decode front ≡ none → ⊥
     decoded front more v h s e ill =
         let n = length (encode v) in
         let k = ends-before front b rest more v h l e in
@@ -95,11 +94,11 @@ before-ascii a b rest l w = ⊎-elim (rest-empty p) (λ s. absurd (seam (s .0) (
         let z : _≡_ {A = ℕ} 0 1 = cc in
         omega arith
 
-    first : (front : List ℕ) → 0 < length front → decode front ≡ Decoded.Ill → (vs : List ℕ) → Scalars vs → front ++ b ∷ rest ≡ encodeAll vs → ⊥
+    first : (front : List ℕ) → 0 < length front → decode front ≡ none → (vs : List ℕ) → Scalars vs → front ++ b ∷ rest ≡ encodeAll vs → ⊥
     first front h ill [] s e = let k = simp length-append at (ap (λ (x : List ℕ). length x) e) in omega arith
     first front h ill (v ∷ vs) s e = decoded front (encodeAll vs) v h (s .0) e ill
 
-    seam : 0 < length (p .rest) → decode (p .rest) ≡ Decoded.Ill → ⊥
+    seam : 0 < length (p .rest) → decode (p .rest) ≡ none → ⊥
     seam h ill =
         let bytes = encodeAll (p .values) in
         let parts : a ++ b ∷ rest ≡ bytes ++ (p .rest ++ b ∷ rest) =

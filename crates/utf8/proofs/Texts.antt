@@ -4,18 +4,17 @@
 use Prim.Native.Nat.{ℕ, zero, suc, _+_, _-_, _≤_, _<_}
 use mathlib.Core.Path.{_≡_, refl, ap, sym, _∙_}
 use mathlib.Core.Logic.{_⊎_, inl, inr, ⊎-elim}
+use mathlib.Core.Option.{Option, none, some}
 use mathlib.Core.List.{List, [], _∷_, _++_, append-assoc, append-nil}
 use native.Mathlib.Omega.{arith}
 use native.Mathlib.Nat.{not-suc-le-zero, add-zero, zero-add}
 use lib.ListN.{length, take, drop, length-append, length-drop, take-append-drop, drop-of-length-le}
 use lib.Seq.{drop-nil, drop-drop, drop-append-seam, take-at, drop-at, length-take-le}
 use Rattle.utf8.specs.Scalar.{Scalars}
-use Rattle.utf8.specs.Utf8.{encode, encodeAll, WellFormed, Begins, FirstIll}
-use Rattle.utf8.specs.Decode.{decode, scan, firstIll}
-use Rattle.utf8.specs.declared.Decoded.{Decoded}
-use Rattle.utf8.specs.declared.Text.{Text}
+use Rattle.utf8.specs.Utf8.{encode, encodeAll, WellFormed, FirstIll}
+use Rattle.utf8.specs.Decode.{Point, point, decode, scan, firstIll}
 use Rattle.utf8.proofs.Encoding.{encode-length}
-use Rattle.utf8.proofs.Decoding.{decode-encode, decode-back, Decodes}
+use Rattle.utf8.proofs.Decoding.{decode-encode, decode-back, Decodes, none-begins}
 
 -- ---- scan, from one value to the next
 
@@ -25,7 +24,7 @@ skipped zero at text = rw add-zero refl
 skipped (suc k) at [] = refl
 skipped (suc k) at (b ∷ text) = skipped k (suc at) text ∙ ap (λ (n : ℕ). scan 0 n (drop k text)) (omega arith)
 
-pub scan-step : (at : ℕ) (text : List ℕ) (v n : ℕ) → decode text ≡ Decoded.Scalar v n → scan 0 at text ≡ scan 0 (at + n) (drop n text)
+pub scan-step : (at : ℕ) (text : List ℕ) (v n : ℕ) → decode text ≡ some (point v n) → scan 0 at text ≡ scan 0 (at + n) (drop n text)
 unfolding scan
 scan-step at [] v n e = rw drop-nil refl
 scan-step at (b ∷ text) v zero e =
@@ -37,12 +36,12 @@ scan-step at (b ∷ text) v (suc m) e =
     let far : suc at + m ≡ at + suc m = omega arith in
     rw (scan, e, one) (skipped m (suc at) text ∙ rw far refl)
 
-pub scan-ill : (at : ℕ) (text : List ℕ) → 0 < length text → decode text ≡ Decoded.Ill → scan 0 at text ≡ Text.Ill at
+pub scan-ill : (at : ℕ) (text : List ℕ) → 0 < length text → decode text ≡ none → scan 0 at text ≡ some at
 unfolding scan
 scan-ill at [] h e = absurd (not-suc-le-zero h)
 scan-ill at (b ∷ text) h e = rw (scan, e)
 
-pub scan-end : (at : ℕ) (text : List ℕ) → length text ≤ at → scan 0 at (drop at text) ≡ Text.WellFormed
+pub scan-end : (at : ℕ) (text : List ℕ) → length text ≤ at → scan 0 at (drop at text) ≡ none
 unfolding scan
 scan-end at text h = rw drop-of-length-le refl
 
@@ -53,7 +52,7 @@ pub record Parted (text : List ℕ) : Type 0 where
   pub rest : List ℕ
   pub scalars : Scalars values
   pub split : text ≡ encodeAll values ++ rest
-  pub stops : (rest ≡ []) ⊎ ((0 < length rest) × (decode rest ≡ Decoded.Ill))
+  pub stops : (rest ≡ []) ⊎ ((0 < length rest) × (decode rest ≡ none))
 
 -- scan passes over encodings
 pub scan-over : (values : List ℕ) → Scalars values → (at : ℕ) (rest : List ℕ)
@@ -62,7 +61,7 @@ scan-over [] s at rest = rw add-zero refl
 scan-over (v ∷ values) s at rest =
     let n = length (encode v) in
     let whole = encode v ++ (encodeAll values ++ rest) in
-    let e : decode whole ≡ Decoded.Scalar v n = decode-encode v (s .0) (encodeAll values ++ rest) in
+    let e : decode whole ≡ some (point v n) = decode-encode v (s .0) (encodeAll values ++ rest) in
     let far : at + n + length (encodeAll values) ≡ at + length (encode v ++ encodeAll values) = simp length-append (omega arith) in
     rw append-assoc
     (scan-step at whole v n e
@@ -84,12 +83,12 @@ parted text = go (length text) text (omega arith)
     }
 
     first : (b : ℕ) (text : List ℕ) → ((l : List ℕ) → length l ≤ length text → Parted l)
-        → (d : Decoded) → decode (b ∷ text) ≡ d → Parted (b ∷ text)
-    first b text shorter (Decoded.Scalar v n) e =
+        → (d : Option Point) → decode (b ∷ text) ≡ d → Parted (b ∷ text)
+    first b text shorter (some (point v n)) e =
         let d = decode-back (b ∷ text) v n e in
         let k = encode-length v in
         more v n d (shorter (drop n (b ∷ text)) (omega (arith, d .width, length-drop n (b ∷ text))))
-    first b text shorter Decoded.Ill e =
+    first b text shorter none e =
         record { values = []; rest = b ∷ text; scalars = tt; split = refl; stops = inr (omega arith, e) }
 
     step : (text : List ℕ) → ((l : List ℕ) → length l < length text → Parted l) → Parted text
@@ -113,11 +112,11 @@ scan-past a rest w =
     ∙ ap (λ (k : ℕ). scan 0 k rest) (zero-add (length (encodeAll (w .values))) ∙ sym (ap (λ (l : List ℕ). length l) (w .encoded)))
 
 -- no text is found to be both
-pub apart : {A : Type 0} {r : Text} {at : ℕ} → r ≡ Text.WellFormed → r ≡ Text.Ill at → A
+pub apart : {A : Type 0} {r : Option ℕ} {at : ℕ} → r ≡ none → r ≡ some at → A
 apart e f = let z : _≡_ {A = ℕ} 0 1 = cc in absurd (omega arith)
 
 -- a text that is the encoding of scalar values is found well-formed
-pub found-well-formed : (text : List ℕ) → WellFormed text → firstIll text ≡ Text.WellFormed
+pub found-well-formed : (text : List ℕ) → WellFormed text → firstIll text ≡ none
 unfolding scan
 found-well-formed text w = ap (λ (l : List ℕ). firstIll l) (sym (append-nil text)) ∙ scan-past text [] w
 
@@ -126,7 +125,7 @@ rest-empty p e =
     let bytes = encodeAll (p .values) in
     record { values = p .values; scalars = p .scalars; encoded = p .split ∙ ap (λ (l : List ℕ). bytes ++ l) e ∙ append-nil bytes }
 
-rest-stuck : {text : List ℕ} (p : Parted text) → 0 < length (p .rest) → decode (p .rest) ≡ Decoded.Ill → firstIll text ≡ Text.Ill (length (encodeAll (p .values)))
+rest-stuck : {text : List ℕ} (p : Parted text) → 0 < length (p .rest) → decode (p .rest) ≡ none → firstIll text ≡ some (length (encodeAll (p .values)))
 rest-stuck p h e =
     let bytes = encodeAll (p .values) in
     ap (λ (l : List ℕ). firstIll l) (p .split)
@@ -134,22 +133,16 @@ rest-stuck p h e =
     ∙ scan-ill (length bytes) (p .rest) h e
 
 -- a text that is found well-formed is the encoding of scalar values
-pub well-formed-found : (text : List ℕ) → firstIll text ≡ Text.WellFormed → WellFormed text
+pub well-formed-found : (text : List ℕ) → firstIll text ≡ none → WellFormed text
 well-formed-found text e =
     let p = parted text in
     ⊎-elim (rest-empty p) (λ s. apart e (rest-stuck p (s .0) (s .1))) (p .stops)
 
 -- the place that is found is where the first ill-formed sequence begins
-pub first-ill-found : (text : List ℕ) (at : ℕ) → firstIll text ≡ Text.Ill at → FirstIll text at
+pub first-ill-found : (text : List ℕ) (at : ℕ) → firstIll text ≡ some at → FirstIll text at
 first-ill-found text at e = go (parted text)
   where
-    stuck : (rest : List ℕ) → decode rest ≡ Decoded.Ill → Begins rest → ⊥
-    stuck rest e b =
-        let whole = ap (λ (l : List ℕ). decode l) (b .split) ∙ decode-encode (b .value) (b .scalar) (b .rest) in
-        let z : _≡_ {A = ℕ} 0 1 = cc in
-        omega arith
-
-    place : (p : Parted text) → 0 < length (p .rest) → decode (p .rest) ≡ Decoded.Ill → FirstIll text at
+    place : (p : Parted text) → 0 < length (p .rest) → decode (p .rest) ≡ none → FirstIll text at
     place p h ill =
         let bytes = encodeAll (p .values) in
         let found = rest-stuck p h ill in
@@ -159,28 +152,20 @@ first-ill-found text at e = go (parted text)
         record {
           inside = omega (arith, simp length-append at (ap (λ (l : List ℕ). length l) (p .split)));
           before = rw front (encodings (p .values) (p .scalars));
-          stuck = rw back (stuck (p .rest) ill);
+          stuck = rw back (none-begins (p .rest) .0 ill);
         }
 
     go : Parted text → FirstIll text at
     go p = ⊎-elim (λ h. apart (found-well-formed text (rest-empty p h)) e) (λ s. place p (s .0) (s .1)) (p .stops)
 
 -- and there is no second such place
-pub found-first-ill : (text : List ℕ) (at : ℕ) → FirstIll text at → firstIll text ≡ Text.Ill at
-found-first-ill text at f = past ∙ go (decode (drop at text)) refl
-  where
-    past : firstIll text ≡ scan 0 at (drop at text)
-    past =
-        let h = f .inside in
-        sym (ap (λ (l : List ℕ). firstIll l) (take-append-drop at text))
-        ∙ scan-past (take at text) (drop at text) (f .before)
-        ∙ ap (λ (k : ℕ). scan 0 k (drop at text)) (length-take-le at text (omega arith))
-
-    go : (d : Decoded) → decode (drop at text) ≡ d → scan 0 at (drop at text) ≡ Text.Ill at
-    go (Decoded.Scalar v n) e =
-        let d = decode-back (drop at text) v n e in
-        absurd (f .stuck (record { value = v; rest = drop n (drop at text); scalar = d .scalar; split = d .split }))
-    go Decoded.Ill e = let h = f .inside in scan-ill at (drop at text) (rw length-drop (omega arith)) e
+pub found-first-ill : (text : List ℕ) (at : ℕ) → FirstIll text at → firstIll text ≡ some at
+found-first-ill text at f =
+    let h = f .inside in
+    sym (ap (λ (l : List ℕ). firstIll l) (take-append-drop at text))
+    ∙ scan-past (take at text) (drop at text) (f .before)
+    ∙ ap (λ (k : ℕ). scan 0 k (drop at text)) (length-take-le at text (omega arith))
+    ∙ scan-ill at (drop at text) (rw length-drop (omega arith)) (none-begins (drop at text) .1 (f .stuck))
 
 -- one value on: its bytes stand in the text, there are some, and the scan goes on behind them
 pub record Onward (text : List ℕ) (at n : ℕ) : Type 0 where
@@ -188,7 +173,7 @@ pub record Onward (text : List ℕ) (at n : ℕ) : Type 0 where
   pub inside : at + n ≤ length text
   pub on : scan 0 at (drop at text) ≡ scan 0 (at + n) (drop (at + n) text)
 
-pub onward : (text : List ℕ) (at v n : ℕ) → at ≤ length text → decode (drop at text) ≡ Decoded.Scalar v n → Onward text at n
+pub onward : (text : List ℕ) (at v n : ℕ) → at ≤ length text → decode (drop at text) ≡ some (point v n) → Onward text at n
 onward text at v n h e =
     let d = decode-back (drop at text) v n e in
     let k = encode-length v in

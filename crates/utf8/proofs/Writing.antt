@@ -6,29 +6,30 @@ use mathlib.Core.Bool.{true, false}
 use mathlib.Core.List.{List, _++_}
 use native.Mathlib.Omega.{arith}
 use native.Mathlib.Nat.{zero-add}
-use borrow.Author.Tests.{le-leb, lt-leb}
+use borrow.Author.Tests.{le-ltb, lt-ltb}
 use lib.ListN.{length, drop}
 use lib.Seq.{sets, sets-eq}
+use Rattle.counts.specs.Outcome.{gives, refused}
 use Rattle.utf8.specs.Scalar.{isScalar}
 use Rattle.utf8.specs.Utf8.{encode}
-use Rattle.utf8.specs.Answer.{encoding, after, Encodes}
+use Rattle.utf8.specs.Answer.{encoded, encoding, after, Encodes}
 use Rattle.utf8.specs.declared.Encoded.{Encoded}
 
 module _ (c n : ℕ) where
-  pub encoding-not : isScalar c ≡ false → encoding c n ≡ Encoded.NotScalar
+  pub encoding-not : isScalar c ≡ false → encoding c n ≡ refused 29
   unfolding encoding
   encoding-not s = simp (encoding, s)
 
-  pub encoding-short : isScalar c ≡ true → n < length (encode c) → encoding c n ≡ Encoded.NoRoom
+  pub encoding-short : isScalar c ≡ true → n < length (encode c) → encoding c n ≡ refused 28
   unfolding encoding
-  encoding-short s h = simp (encoding, s, lt-leb (length (encode c)) n h)
+  encoding-short s h = simp (encoding, s, lt-ltb n (length (encode c)) h)
 
-  pub encoding-fits : isScalar c ≡ true → length (encode c) ≤ n → encoding c n ≡ Encoded.Written (length (encode c))
+  pub encoding-fits : isScalar c ≡ true → length (encode c) ≤ n → encoding c n ≡ gives (length (encode c))
   unfolding encoding
-  encoding-fits s h = simp (encoding, s, le-leb (length (encode c)) n h)
+  encoding-fits s h = simp (encoding, s, le-ltb n (length (encode c)) h)
 
 module _ (c : ℕ) (room : List ℕ) where
-  answered-with : (r : Encoded) → encoding c (length room) ≡ r → (room′ : List ℕ) → room′ ≡ after r c room → Encodes c room r room′
+  answered-with : (r : Encoded) → encoding c (length room) ≡ encoded r → (room′ : List ℕ) → room′ ≡ after (encoded r) c room → Encodes c room r room′
   answered-with r e room′ f = record { answered = sym e; room-after = rw e f }
 
   pub not-scalar : isScalar c ≡ false → Encodes c room Encoded.NotScalar room

@@ -1,46 +1,60 @@
 -- What each answer of crate utf8 stands for in document 01, "The refusal numbers": "5 | not UTF-8", "28 | output room too small", "29, 30 | bad
--- scalar value; ..". A caller for which another number is fixed (27 for a name, 23 for lent name room) gives its own. And what writing one scalar
--- value owes: "every lent buffer stays unchanged. On success, room beyond what was needed is unchanged." Definitions only. Assumes nothing.
+-- scalar value; ..". That one value cannot be decoded has no number of its own, and a caller for which another number is fixed (27 for a name, 23 for
+-- lent name room) gives that. And what a check owes, and writing one scalar value: "every lent buffer stays unchanged. On success, room beyond what
+-- was needed is unchanged." Definitions only. Assumes nothing.
 use Prim.Native.Nat.{ℕ}
 use mathlib.Core.Path.{_≡_}
-use mathlib.Core.Bool.{cond}
+use mathlib.Core.Bool.{not}
 use mathlib.Core.List.{List, _++_}
-use lib.Dec.{leb}
+use mathlib.Core.Option.{Option, none, some}
+use lib.Dec.{ltb}
 use lib.ListN.{length, drop}
-use Rattle.counts.specs.Outcome.{Outcome, gives, refused}
+use Rattle.counts.specs.Outcome.{Outcome, gives, refused, unless}
 use Rattle.utf8.specs.Scalar.{isScalar}
 use Rattle.utf8.specs.Utf8.{encode}
+use Rattle.utf8.specs.Decode.{Point, point, firstIll, utf8}
 use Rattle.utf8.specs.declared.Decoded.{Decoded}
 use Rattle.utf8.specs.declared.Encoded.{Encoded}
 use Rattle.utf8.specs.declared.Text.{Text}
 
--- the text is UTF-8, or 5
+-- ---- decoding
+
+abbrev pub decoded : Decoded → Option Point
+decoded (Decoded.Scalar v n) = some (point v n)
+decoded Decoded.Ill = none
+
+-- ---- checking
+
+-- the number, and beside it the place
 abbrev pub answer : Text → Outcome Unit
 answer Text.WellFormed = gives tt
 answer (Text.Ill at) = refused 5
 
--- a scalar value and the number of its bytes, or 5
-abbrev pub decoded : Decoded → Outcome (ℕ × ℕ)
-decoded (Decoded.Scalar v n) = gives (v, n)
-decoded Decoded.Ill = refused 5
+abbrev pub place : Text → Option ℕ
+place Text.WellFormed = none
+place (Text.Ill at) = some at
 
--- the bytes written, or 29, or 28
+pub record Checks (text : List ℕ) (r : Text) : Type 0 where
+  pub answered : answer r ≡ utf8 text
+  pub placed : place r ≡ firstIll text
+
+-- ---- encoding
+
+-- how many bytes were written
 abbrev pub encoded : Encoded → Outcome ℕ
 encoded (Encoded.Written n) = gives n
 encoded Encoded.NotScalar = refused 29
 encoded Encoded.NoRoom = refused 28
 
--- writing a number into that much room
-unfoldable pub encoding : ℕ → ℕ → Encoded
-encoding c room =
-    cond (isScalar c) (cond (leb (length (encode c)) room) (Encoded.Written (length (encode c))) Encoded.NoRoom) Encoded.NotScalar
+-- a number written into so much room
+unfoldable pub encoding : ℕ → ℕ → Outcome ℕ
+encoding c room = unless (not (isScalar c)) 29 (unless (ltb room (length (encode c))) 28 (gives (length (encode c))))
 
--- the room after that answer
-abbrev pub after : Encoded → ℕ → List ℕ → List ℕ
-after (Encoded.Written n) c room = encode c ++ drop n room
-after Encoded.NotScalar c room = room
-after Encoded.NoRoom c room = room
+-- the room then
+abbrev pub after : Outcome ℕ → ℕ → List ℕ → List ℕ
+after (gives n) c room = encode c ++ drop n room
+after (refused k) c room = room
 
 pub record Encodes (c : ℕ) (room : List ℕ) (r : Encoded) (room′ : List ℕ) : Type 0 where
-  pub answered : r ≡ encoding c (length room)
+  pub answered : encoded r ≡ encoding c (length room)
   pub room-after : room′ ≡ after (encoding c (length room)) c room

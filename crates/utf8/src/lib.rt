@@ -5,8 +5,8 @@ ghost use Prim.Native.Nat.{ℕ, _≤_};
 ghost use lib.ListN.{getD, length};
 ghost use Rattle.utf8.specs.Scalar.{isScalar};
 ghost use Rattle.utf8.specs.Utf8.{encode};
-ghost use Rattle.utf8.specs.Decode.{decode, extend, shortest, firstIll};
-ghost use Rattle.utf8.specs.Answer.{Encodes};
+ghost use Rattle.utf8.specs.Decode.{decode, extend, shortest};
+ghost use Rattle.utf8.specs.Answer.{decoded, Checks, Encodes};
 
 // What the front of a text holds: a scalar value and the number of its bytes, or no scalar value's encoding.
 pub enum Decoded {
@@ -41,7 +41,7 @@ pub fn is_scalar(value: u32) -> bool
 
 // The scalar value at the front of a text, whatever stands behind it.
 pub fn decode(text: &[u8]) -> Decoded
-    ensures { λ r. ⌜ r ≡ decode (now (text .entry)) ⌝ }
+    ensures { λ r. ⌜ decoded r ≡ decode (now (text .entry)) ⌝ }
 {
     let lead = peek(text, 0);
     if lead < 0x80 {
@@ -98,7 +98,7 @@ fn extend(value: u32, byte: u32) -> u32
 
 // A value below `least` has a shorter encoding, which is its only one.
 fn shortest(value: u32, least: u32, length: usize) -> Decoded
-    ensures { λ r. ⌜ r ≡ shortest value least length ⌝ }
+    ensures { λ r. ⌜ decoded r ≡ shortest value least length ⌝ }
 {
     if value < least {
         return Decoded::Ill;
@@ -158,7 +158,7 @@ fn length_of(value: u32) -> usize
 
 // Whether a text is UTF-8. A text of ASCII alone, as most headers are, is known by its largest byte.
 pub fn check(text: &[u8]) -> Text
-    ensures { λ r. ⌜ r ≡ firstIll (now (text .entry)) ⌝ }
+    ensures { λ r. ⌜ Checks (now (text .entry)) r ⌝ }
 {
     if largest(text) < 0x80 {
         return Text::WellFormed;
