@@ -1,2 +1,4 @@
 pub mod OneOutcome
 pub mod Fits
+pub mod Outcomes
+pub mod Alike

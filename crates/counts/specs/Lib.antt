@@ -2,3 +2,4 @@ pub mod Outcome
 pub mod OneOutcome
 pub mod Number
 pub mod Counts
+pub mod Same

@@ -1,7 +1,7 @@
 -- What stands between brackets, for lists, tuples and dicts alike: a law for each way out of the reader of things parted by commas, by how the text
 -- is made up, and what that reader tells. The reader has a bound on the number of things; each law holds for every bound above the length of the
 -- text (`Rd`), so no later law meets a bound. The induction is on the length of what is left. Assumes nothing.
-use Prim.Native.Nat.{ℕ, zero, suc, _+_, _<_}
+use Prim.Native.Nat.{ℕ, zero, suc, _<_}
 use native.Mathlib.Nat.{not-suc-le-zero}
 use native.Mathlib.Omega.{arith}
 use mathlib.Core.Path.{_≡_, refl, sym, ap, _∙_, subst}
@@ -13,11 +13,11 @@ use lib.Dec.{eqb}
 use borrow.Author.Tests.{eq-eqb}
 use Rattle.decimal.specs.Decimal.{isDigit}
 use Rattle.grammar.specs.Bytes.{isBlank}
-use Rattle.grammar.specs.Promise.{got, fault, deep}
+use Rattle.grammar.specs.Promise.{AllBytes, got, fault, deep}
 use Rattle.grammar.proofs.Texts.{case-of, true-false, Blanks, headOf, tailOf, head-is, Alike, alike-head, alike-cons, alike-on, gap}
 use Rattle.grammar.proofs.Layers.{padded, Parted, empty, last, more, Upto, upto}
-use Rattle.grammar.proofs.Reading.{Read, with, skip, parted, upTo, Other, kindOf}
-use Rattle.grammar.proofs.Told.{By, Same, Told, moved, told-map, told-fault, told-deep}
+use Rattle.grammar.proofs.Reading.{Read, with, parted, upTo, Other, kindOf}
+use Rattle.grammar.proofs.Told.{By, Same, Told, reads, moved, told-map, told-fault, told-deep}
 use Rattle.grammar.proofs.Tokens.{skips}
 
 -- what is asked of a closing bracket
@@ -47,6 +47,10 @@ module _ {A : Type 0} (R : List ℕ → A → Type 0) (c : ℕ) where
   to-one lone a x b v ba rx bb = to-more lone a x b (c ∷ []) v [] ba rx bb (to-shut true [] tt)
 
 -- ---- the reader
+fails : {X : Type 0} (test : Bool) (x y : X) → test ≡ false → elim test [ true ↦ x | false ↦ y ] ≡ y
+fails true x y h = true-false h
+fails false x y h = refl
+
 module _ {A : Type 0} (rd : List ℕ → Read A) (c : ℕ) (shuts : Closes c) where
   -- with any bound that is large enough
   abbrev pub Rd : Bool → List ℕ → Read (List A) → Type 0
@@ -85,7 +89,7 @@ module _ {A : Type 0} (rd : List ℕ → Read A) (c : ℕ) (shuts : Closes c) wh
   rd-stray lone s a t b z v ba ft bb nz n1 n2 e h (suc m) lt =
       let hs = skips s a t ba (ft .0) e in
       let hq = skips (b ++ z) b z bb nz refl in
-      rw (parted, hs, ft .1, hs, h, hq, n1, hq, n2, hq)
+      rw (parted, hs, ft .1, hs, h, hq, n1, hq) (fails (lone && eqb (headOf z) c) _ _ n2 ∙ ap fault hq)
 
   pub rd-more : (lone : Bool) (s a t b w : List ℕ) (v : A) (g : Read (List A)) → Blanks a → First t → Blanks b → s ≡ a ++ t → rd t ≡ got v (b ++ (44 ∷ w)) → length w < length s → Rd true w g → Rd lone s (with (_∷_ v) g)
   unfolding parted isBlank
@@ -93,7 +97,7 @@ module _ {A : Type 0} (rd : List ℕ → Read A) (c : ℕ) (shuts : Closes c) wh
   rd-more lone s a t b w v g ba ft bb e h sm hw (suc m) lt =
       let hs = skips s a t ba (ft .0) e in
       let hq = skips (b ++ (44 ∷ w)) b (44 ∷ w) bb refl refl in
-      rw (parted, hs, ft .1, hs, h, hq, hq, hw m (omega arith))
+      rw (parted, hs, ft .1, hs, h, hq, hq) (ap (with (_∷_ v)) (hw m (omega arith)))
 
   pub by-up-to : (lone : Bool) (s : List ℕ) (g : Read (List A)) → Rd lone s g → upTo rd c lone s ≡ g
   unfolding upTo
@@ -112,6 +116,9 @@ module _ {A : Type 0} (R R⁺ : List ℕ → A → Type 0) (sub : (u : List ℕ)
 
   begins-alike : (t y : List ℕ) → Alike t y → Begins t → Begins y
   begins-alike t y al ft = subst (λ x. (isBlank x ≡ false) × (eqb x c ≡ false)) (sym (alike-head t y al)) ft
+
+  comma-bytes : AllBytes (44 ∷ c ∷ [])
+  comma-bytes = (omega arith, (shuts .small, tt))
 
   -- a thing was read: blanks a, its text u, blanks b, and z is left
   module _ (lone : Bool) (a t u q b z : List ℕ) (v : A) (ba : Blanks a) (ft : Begins t) (eu : t ≡ u ++ q) (ru : R u v) (same : Same (By rd) u (got v) q) (bb : Blanks b) (ez : q ≡ b ++ z) (nz : isBlank (headOf z) ≡ false) where
@@ -143,7 +150,7 @@ module _ {A : Type 0} (R R⁺ : List ℕ → A → Type 0) (sub : (u : List ℕ)
           (
             p,
             rw (eu, ez) (simp append-assoc),
-            (44 ∷ c ∷ [], v ∷ [], subst (λ y. To R c lone y (v ∷ [])) (simp append-assoc) (to-one R c lone a u b v ba ru bb)),
+            (44 ∷ c ∷ [], v ∷ [], comma-bytes, subst (λ y. To R c lone y (v ∷ [])) (simp append-assoc) (to-one R c lone a u b v ba ru bb)),
             λ r al.
                 let h = sym (alike-head z r al) in
                 let on = goes-on r al in
@@ -177,10 +184,10 @@ module _ {A : Type 0} (R R⁺ : List ℕ → A → Type 0) (sub : (u : List ℕ)
       by-comma b z bb ez nz below (inl h) = let hz = head-is z 44 (omega arith) h in told-comma lone a t u q b z v ba ft eu ru same bb ez nz hz (ih (tailOf z) (below hz))
       by-comma b z bb ez nz below (inr h) = told-last lone a t u q b z v ba ft eu ru same bb ez nz h (case-of (lone && eqb (headOf z) c))
   told-thing lone m a t lt ba ft (fault q, x) ih =
-      told-fault R R⁺ (To R c lone) (To R⁺ c lone) (By rd) (Rd rd c shuts lone) a (λ v. v ∷ []) (44 ∷ c ∷ []) t q
+      told-fault R R⁺ (To R c lone) (To R⁺ c lone) (By rd) (Rd rd c shuts lone) a (λ v. v ∷ []) (44 ∷ c ∷ []) t q comma-bytes
       (λ u v ru. to-one R c lone a u [] v ba ru tt) (λ y r al hy. rd-fault rd c shuts lone (a ++ y) a y r ba (begins-alike t y al ft) refl hy) x
   told-thing lone m a t lt ba ft (deep q, x) ih =
-      told-deep R R⁺ (To R c lone) (To R⁺ c lone) (By rd) (Rd rd c shuts lone) a (λ v. v ∷ []) (44 ∷ c ∷ []) t q
+      told-deep R R⁺ (To R c lone) (To R⁺ c lone) (By rd) (Rd rd c shuts lone) a (λ v. v ∷ []) (44 ∷ c ∷ []) t q comma-bytes
       (λ u v ru. to-one R c lone a u [] v ba ru tt) (λ u v ru. to-one R⁺ c lone a u [] v ba ru tt) (λ y r al hy. rd-deep rd c shuts lone (a ++ y) a y r ba (begins-alike t y al ft) refl hy) x
 
   told-shut : (lone : Bool) (m : ℕ) (a t : List ℕ) → length (a ++ t) < suc m → Blanks a → isBlank (headOf t) ≡ false → (eqb (headOf t) c ≡ true) ⊎ (eqb (headOf t) c ≡ false) → ((w : List ℕ) → length w < m → Good true w) → Good lone (a ++ t)
@@ -197,3 +204,10 @@ module _ {A : Type 0} (R R⁺ : List ℕ → A → Type 0) (sub : (u : List ℕ)
 
   pub told-parted : (lone : Bool) (s : List ℕ) → Told (To R c lone) (To R⁺ c lone) (Rd rd c shuts lone) s
   told-parted lone s = told-within (suc (length s)) lone s (omega arith)
+
+  -- a bound above the length does not count
+  pub any-bound : (lone : Bool) (s : List ℕ) (m : ℕ) → length s < m → parted rd c lone m s ≡ upTo rd c lone s
+  any-bound lone s m lt =
+      let (g, x) = told-parted lone s in
+      let is-read = reads (To R c lone) (To R⁺ c lone) (Rd rd c shuts lone) s g x in
+      is-read m lt ∙ sym (by-up-to rd c shuts lone s g is-read)

@@ -15,12 +15,12 @@ use Rattle.grammar.specs.Value.{Value, Item, string, integer, True, Fals
 use Rattle.grammar.specs.Grammar.{Natural, nought, nonzero, Plain, in-quotes, unsigned, minus-sign, word-true, word-false, word-none}
 use Rattle.grammar.specs.Promise.{got, deep}
 use Rattle.grammar.proofs.Texts.{case-of, true-false, Blanks, blank-by, headOf, tailOf}
-use Rattle.grammar.proofs.Layers.{padded, Parted, empty, last, more, Pair, pair, item, Upto, upto, Bracket, square, round, curly, list-of, tuple-of, dict-of, Layer}
+use Rattle.grammar.proofs.Layers.{padded, Parted, empty, last, more, Pair, pair, item, upto, Bracket, square, round, curly, list-of, tuple-of, dict-of, Layer}
 use Rattle.grammar.proofs.Reading.{Read, with, upTo, paired, Shape, Square, Round, Curly, bracketed, Kind, Digit, Quote, Minus, Other, Word, Opens, kindOf, chosen, value}
 use Rattle.grammar.proofs.Tokens.{natural-complete, word-over, quoted-complete}
 use Rattle.grammar.proofs.Between.{Closes, Rd, First, rd-shut, rd-last, rd-more, by-up-to, shorter, To}
 use Rattle.grammar.proofs.Pairs.{pair-colon}
-use Rattle.grammar.proofs.Values.{quote-slash, quote-kind, closes-square, closes-round, closes-curly, value-zero, value-suc, value-open}
+use Rattle.grammar.proofs.Values.{quote-byte, quote-slash, quote-kind, closes-square, closes-round, closes-curly, value-zero, value-suc, value-open}
 
 -- no digit follows
 abbrev pub Stop : List ℕ → Type 0
@@ -89,7 +89,7 @@ module _ {A : Type 0} (R : List ℕ → A → Type 0) (rd : List ℕ → Read A)
       rd-more rd c shuts lone ((a ++ (x ++ b) ++ (44 ∷ w)) ++ (c ∷ r)) a (x ++ z) b t v (got ws r) ba (begins x z v rx) bb e (complete x v rx z (stop-blanks b (44 ∷ t) bb refl))
       (subst (λ y. length t < length y) (sym e) (shorter a x b t)) (parted-complete true w ws i r)
 
-  pub upto-complete : (lone : Bool) (u : List ℕ) (vs : List A) → To R c lone u vs → (r : List ℕ) → upTo rd c lone (u ++ r) ≡ got vs r
+  upto-complete : (lone : Bool) (u : List ℕ) (vs : List A) → To R c lone u vs → (r : List ℕ) → upTo rd c lone (u ++ r) ≡ got vs r
   upto-complete lone u vs (upto w i) r =
       let e : w ++ (c ∷ r) ≡ (w ++ (c ∷ [])) ++ r = simp append-assoc in
       subst (λ y. upTo rd c lone y ≡ got vs r) e (by-up-to rd c shuts lone (w ++ (c ∷ r)) (got vs r) (parted-complete lone w vs i r))
@@ -136,7 +136,7 @@ plain-starts u v word-none = refl
 plain-complete : (u : List ℕ) (v : Value) → Plain u v → (r : List ℕ) → Stop r → (inner : Shape → Read Value) → chosen (kindOf (headOf (u ++ r))) (u ++ r) inner ≡ got v r
 unfolding kindOf isDigit isQuote
 plain-complete u v (in-quotes {q = q} {u = y} {w = w} h x) r st inner =
-    ap (λ κ. chosen κ (q ∷ (y ++ r)) inner) (quote-kind q h) ∙ ap (with string) (quoted-complete q (quote-slash q h) y w x r)
+    ap (λ κ. chosen κ (q ∷ (y ++ r)) inner) (quote-kind q h) ∙ ap (with string) (quoted-complete q (quote-byte q h) (quote-slash q h) y w x r)
 plain-complete u v (unsigned {u = y} {n = n} x) r st inner = ap (λ κ. chosen κ (y ++ r) inner) (natural-kind y r n x) ∙ ap (with (integer false)) (natural-complete y n x r st)
 plain-complete u v (minus-sign {u = y} {n = n} x) r st inner = ap (with (integer true)) (natural-complete y n x r st)
 plain-complete u v word-true r st inner = word-over True (84 ∷ 114 ∷ 117 ∷ 101 ∷ []) r

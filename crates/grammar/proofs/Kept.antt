@@ -1,7 +1,7 @@
 -- The reading keeps the promise (`kept`), and no other outcome does (`only-kept`); the same with positions for places (`kept-at`, `one-outcome-at`).
 -- Kept: by what the reading of a whole text tells, and a fault is one at every wider limit. Only: of two places in a text one stands before the
 -- other; the part before the later one goes on with the byte that is barred at the earlier one, and yet can be completed. Assumes nothing.
-use Prim.Native.Nat.{ℕ, zero, suc, _+_, _-_, _≤_}
+use Prim.Native.Nat.{ℕ, suc, _+_, _-_, _≤_}
 use native.Mathlib.Omega.{arith}
 use mathlib.Core.Path.{_≡_, refl, sym, ap, _∙_, subst}
 use mathlib.Core.List.{List, [], _∷_, _++_, append-assoc, append-nil}
@@ -12,10 +12,10 @@ use Rattle.grammar.specs.Value.{Value}
 use Rattle.grammar.specs.Grammar.{Gives}
 use Rattle.grammar.specs.Promise.{GivesIn, Completable, Barred, Faulty, TooDeep, Got, got, fault, deep, Promise, PromiseAt}
 use Rattle.grammar.proofs.Texts.{true-false, headOf, tailOf, Alike, alike-self}
-use Rattle.grammar.proofs.Layers.{Literal, raise, raise′}
+use Rattle.grammar.proofs.Layers.{Literal, raise′}
 use Rattle.grammar.proofs.Same.{given, some-layer}
 use Rattle.grammar.proofs.Reading.{Read, literal}
-use Rattle.grammar.proofs.Told.{By, Same, Tells, reads}
+use Rattle.grammar.proofs.Told.{By, Tells, reads}
 use Rattle.grammar.proofs.Limits.{fault-wider}
 use Rattle.grammar.proofs.Whole.{told-literal, nothing-left, sound, complete, layer-complete, literal-suc, one-value}
 
@@ -31,15 +31,15 @@ NoneSo P u q = (r : List ℕ) → Alike q r → (v : Value) → P (u ++ r) v →
 
 barred-of : (P : List ℕ → Value → Type 0) (u q : List ℕ) → NoneSo P u q → Barred P u q
 barred-of P u [] none = λ v x. none [] refl v (subst (λ y. P y v) (sym (append-nil u)) x)
-barred-of P u (b ∷ q) none = λ c. none (b ∷ c .0) (c .0, refl) (c .1) (subst (λ y. P y (c .1)) (append-assoc u (b ∷ []) (c .0)) (c .2))
+barred-of P u (b ∷ q) none = λ t v x. none (b ∷ t) (t, refl) v x
 
 none-of : (P : List ℕ → Value → Type 0) (u q : List ℕ) → Barred P u q → NoneSo P u q
 none-of P u [] bar r e v x = bar v (subst (λ y. P y v) (ap (λ y. u ++ y) e ∙ append-nil u) x)
-none-of P u (b ∷ q) bar r (w, e) v x = bar (w, v, subst (λ y. P y v) (ap (λ y. u ++ y) e ∙ sym (append-assoc u (b ∷ []) w)) x)
+none-of P u (b ∷ q) bar r (w, e) v x = bar w v (subst (λ y. P (u ++ y) v) e x)
 
 -- ---- the promise is kept
 completable-in : (k : ℕ) (u : List ℕ) → Completable (Literal k) u → Completable (GivesIn k) u
-completable-in k u (t, v, x) = (t, v, given k (u ++ t) v x)
+completable-in k u (t, v, bt, x) = (t, v, bt, given k (u ++ t) v x)
 
 -- no limit gives a text that is a fault at one of them
 no-text : (k : ℕ) (s q : List ℕ) (v : Value) → literal k s ≡ fault q → Gives s v → ⊥
@@ -93,7 +93,7 @@ fork (c ∷ w) q [] q′ e = second c (w ++ q) w (sym e) refl
 fork (b ∷ u) q (b′ ∷ u′) q′ e = fork-on b b′ u q u′ q′ (ap headOf e) (fork u q u′ q′ (ap tailOf e))
 
 no-further : (P : List ℕ → Value → Type 0) (u q u′ : List ℕ) (c : ℕ) (z w : List ℕ) → q ≡ c ∷ z → u′ ≡ u ++ (c ∷ w) → Barred P u q → Completable P u′ → ⊥
-no-further P u q u′ c z w eq eu bar (t, v, x) =
+no-further P u q u′ c z w eq eu bar (t, v, bt, x) =
     let e : u′ ++ t ≡ u ++ (c ∷ (w ++ t)) = ap (λ y. y ++ t) eu ∙ append-assoc u (c ∷ w) t in
     none-of P u q bar (c ∷ (w ++ t)) (subst (λ y. Alike y (c ∷ (w ++ t))) (sym eq) (w ++ t, refl)) v (subst (λ y. P y v) e x)
 
@@ -113,7 +113,7 @@ module _ (k : ℕ) (s : List ℕ) where
   -- a bracket that may stand there is no fault
   not-both : (u q u′ q′ : List ℕ) → Faulty k u q → TooDeep k u′ q′ → Fork u q u′ q′ → ⊥
   not-both u q u′ q′ f d (meet eu eq) =
-      let (t, v, x) = d .may-stand in
+      let (t, v, bt, x) = d .may-stand in
       let e : (u′ ++ d .bracket ∷ []) ++ t ≡ u ++ (d .bracket ∷ t) = append-assoc u′ (d .bracket ∷ []) t ∙ ap (λ y. y ++ (d .bracket ∷ t)) (sym eu) in
       none-of Gives u q (f .there) (d .bracket ∷ t) (subst (λ y. Alike y (d .bracket ∷ t)) (sym (eq ∙ d .begins)) (t, refl)) v (subst (λ y. Gives y v) e (x .0))
   not-both u q u′ q′ f d (first c z w eq eu) = no-further (GivesIn k) u q u′ c z w eq eu (bars-in k u q (f .there)) (d .before)

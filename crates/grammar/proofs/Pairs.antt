@@ -8,11 +8,11 @@ use mathlib.Core.List.{List, [], _∷_, _++_, append-assoc}
 use mathlib.Core.Bool.{true, false}
 use lib.Dec.{eqb}
 use Rattle.grammar.specs.Bytes.{isBlank}
-use Rattle.grammar.specs.Value.{Value, Item}
-use Rattle.grammar.specs.Promise.{got, fault, deep}
+use Rattle.grammar.specs.Value.{Value}
+use Rattle.grammar.specs.Promise.{AllBytes, got, fault, deep}
 use Rattle.grammar.proofs.Texts.{case-of, Blanks, headOf, tailOf, head-is, alike-head, alike-cons, alike-on, gap}
 use Rattle.grammar.proofs.Layers.{Pair, pair, item}
-use Rattle.grammar.proofs.Reading.{Read, with, skip, paired}
+use Rattle.grammar.proofs.Reading.{Read, with, paired}
 use Rattle.grammar.proofs.Told.{By, Same, Told, moved, told-map, told-fault, told-deep}
 use Rattle.grammar.proofs.Tokens.{skips}
 
@@ -34,6 +34,9 @@ module _ (rd : List ℕ → Read Value) where
   pair-colon s b d t k g bb bd nt h ht =
       let hq = skips (b ++ (58 ∷ (d ++ t))) b (58 ∷ (d ++ t)) bb refl refl in
       rw (paired, h, hq, hq, skips (d ++ t) d t bd nt refl, ht)
+
+colon-bytes : AllBytes (58 ∷ (48 ∷ []))
+colon-bytes = (omega arith, (omega arith, tt))
 
 module _ (R R⁺ : List ℕ → Value → Type 0) (sub : (u : List ℕ) (v : Value) → R u v → R⁺ u v) (rd : List ℕ → Read Value) (rd-told : (s : List ℕ) → Told R R⁺ (By rd) s)
     (zero-value : Value) (zero-text : R (48 ∷ []) zero-value) where
@@ -60,7 +63,7 @@ module _ (R R⁺ : List ℕ → Value → Type 0) (sub : (u : List ℕ) (v : Val
     (
       u ++ b,
       eu ∙ ap (λ y. u ++ y) ez ∙ simp append-assoc,
-      (58 ∷ (48 ∷ []), item k zero-value, subst (λ y. Pair R y (item k zero-value)) (simp append-assoc) (pair u b [] (48 ∷ []) ru bb tt zero-text)),
+      (58 ∷ (48 ∷ []), item k zero-value, colon-bytes, subst (λ y. Pair R y (item k zero-value)) (simp append-assoc) (pair u b [] (48 ∷ []) ru bb tt zero-text)),
       λ r al.
           let ep : u ++ (b ++ r) ≡ (u ++ b) ++ r = simp append-assoc in
           let hr = sym (alike-head z r al) in
@@ -71,10 +74,10 @@ module _ (R R⁺ : List ℕ → Value → Type 0) (sub : (u : List ℕ) (v : Val
   told-key : (s : List ℕ) → Told R R⁺ (By rd) s → Good s
   told-key s (got k q, (u, eu, ru, same)) = let (b, z, bb, ez, nz) = gap q in told-colon s u q b z k eu ru same bb nz ez (case-of (eqb (headOf z) 58))
   told-key s (fault q, x) =
-      told-fault R R⁺ (Pair R) (Pair R⁺) (By rd) (By (paired rd)) [] (λ k. item k zero-value) (58 ∷ (48 ∷ [])) s q
+      told-fault R R⁺ (Pair R) (Pair R⁺) (By rd) (By (paired rd)) [] (λ k. item k zero-value) (58 ∷ (48 ∷ [])) s q colon-bytes
       (λ u k ru. pair u [] [] (48 ∷ []) ru tt tt zero-text) (λ y r al hy. pair-fault rd y r hy) x
   told-key s (deep q, x) =
-      told-deep R R⁺ (Pair R) (Pair R⁺) (By rd) (By (paired rd)) [] (λ k. item k zero-value) (58 ∷ (48 ∷ [])) s q
+      told-deep R R⁺ (Pair R) (Pair R⁺) (By rd) (By (paired rd)) [] (λ k. item k zero-value) (58 ∷ (48 ∷ [])) s q colon-bytes
       (λ u k ru. pair u [] [] (48 ∷ []) ru tt tt zero-text) (λ u k ru. pair u [] [] (48 ∷ []) ru tt tt (sub (48 ∷ []) zero-value zero-text)) (λ y r al hy. pair-deep rd y r hy) x
 
   pub told-pair : (s : List ℕ) → Told (Pair R) (Pair R⁺) (By (paired rd)) s

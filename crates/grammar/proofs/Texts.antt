@@ -1,8 +1,8 @@
 -- Laws on texts: the next byte, blanks in front, and texts that go on alike. The end of a text counts as a next byte 256, which is none; where a
 -- law must tell the two apart it asks that texts are `Alike`. Assumes nothing.
-use Prim.Native.Nat.{ℕ, _+_, _<_}
+use Prim.Native.Nat.{ℕ, _<_}
 use native.Mathlib.Omega.{arith}
-use mathlib.Core.Path.{_≡_, refl, sym, ap, _∙_, subst}
+use mathlib.Core.Path.{_≡_, refl, sym, ap, subst}
 use mathlib.Core.Logic.{_⊎_, inl, inr}
 use mathlib.Core.List.{List, [], _∷_, _++_}
 use mathlib.Core.Bool.{Bool, true, false, _||_}
@@ -10,6 +10,7 @@ use lib.Dec.{eqb}
 use borrow.Author.Tests.{eqb-true}
 use Rattle.grammar.specs.Bytes.{isBlank, isQuote}
 use Rattle.grammar.specs.Grammar.{All}
+use Rattle.grammar.specs.Promise.{AllBytes}
 
 pub case-of : (b : Bool) → (b ≡ true) ⊎ (b ≡ false)
 case-of true = inl refl
@@ -18,7 +19,7 @@ case-of false = inr refl
 pub true-false : {X : Type 0} → true ≡ false → X
 true-false e = absurd (let z : _≡_ {A = ℕ} 0 1 = cc in omega arith)
 
-pub or-true : (a b : Bool) → (a || b) ≡ true → (a ≡ true) ⊎ (b ≡ true)
+or-true : (a b : Bool) → (a || b) ≡ true → (a ≡ true) ⊎ (b ≡ true)
 or-true true b h = inl refl
 or-true false b h = inr h
 
@@ -65,6 +66,10 @@ Blanks u = All isBlank u
 pub all-append : (test : ℕ → Bool) (u w : List ℕ) → All test u → All test w → All test (u ++ w)
 all-append test [] w hu hw = hw
 all-append test (b ∷ u) w hu hw = (hu .0, all-append test u w (hu .1) hw)
+
+pub bytes-append : (u w : List ℕ) → AllBytes u → AllBytes w → AllBytes (u ++ w)
+bytes-append [] w hu hw = hw
+bytes-append (b ∷ u) w hu hw = (hu .0, bytes-append u w (hu .1) hw)
 
 pub blank-by : (P : ℕ → Type 0) → P 32 → P 9 → P 10 → P 13 → (b : ℕ) → isBlank b ≡ true → P b
 unfolding isBlank

@@ -11,7 +11,7 @@ use Rattle.decimal.specs.Decimal.{isDigit, digitsOf, decimal}
 use Rattle.grammar.specs.Bytes.{isBlank, isBreak, isEscape, unescape}
 use Rattle.grammar.specs.Value.{Value}
 use Rattle.grammar.specs.Grammar.{All, Natural, nought, nonzero, Quoted, closed, raw, escaped}
-use Rattle.grammar.specs.Promise.{Completable, got, fault, deep}
+use Rattle.grammar.specs.Promise.{AllBytes, Completable, got, fault, deep}
 use Rattle.grammar.proofs.Texts.{case-of, true-false, Blanks, headOf, tailOf, head-is, Alike, alike-head, run}
 use Rattle.grammar.proofs.Reading.{Read, with, skip, afterDigits, natural, word, quoted}
 use Rattle.grammar.proofs.Told.{By, Told, moved, told-map}
@@ -74,7 +74,7 @@ told-nonzero s d t e hd nd =
 told-digit : (s : List ℕ) → eqb (headOf s) 48 ≡ false → (isDigit (headOf s) ≡ true) ⊎ (isDigit (headOf s) ≡ false) → Told Natural Natural (By natural) s
 told-digit s n (inl h) = told-nonzero s (headOf s) (tailOf s) (digit-cons s h) h n
 told-digit s n (inr h) =
-    (fault s, ([], refl, (48 ∷ [], 0, nought), λ r al. let e = sym (alike-head s r al) in natural-bad r (subst (λ x. eqb x 48 ≡ false) e n) (subst (λ x. isDigit x ≡ false) e h)))
+    (fault s, ([], refl, (48 ∷ [], 0, (omega arith, tt), nought), λ r al. let e = sym (alike-head s r al) in natural-bad r (subst (λ x. eqb x 48 ≡ false) e n) (subst (λ x. isDigit x ≡ false) e h)))
 
 told-nought : (s : List ℕ) → (eqb (headOf s) 48 ≡ true) ⊎ (eqb (headOf s) 48 ≡ false) → Told Natural Natural (By natural) s
 told-nought s (inl h) = (got 0 (tailOf s), (48 ∷ [], head-is s 48 (omega arith) h, nought, λ r al. natural-nought r))
@@ -100,25 +100,20 @@ word-bad : (v : Value) (c : ℕ) (w r : List ℕ) → eqb (headOf r) c ≡ false
 unfolding word
 word-bad v c w r h = rw (word, h)
 
--- all its letters are bytes
-abbrev pub Small : List ℕ → Type 0
-Small [] = Unit {0}
-Small (c ∷ w) = (c < 256) × Small w
-
-word-letter : (v : Value) (c : ℕ) (w s : List ℕ) → c < 256 → (eqb (headOf s) c ≡ true) ⊎ (eqb (headOf s) c ≡ false) → Told (Is v w) (Is v w) (By (word v w)) (tailOf s) → Told (Is v (c ∷ w)) (Is v (c ∷ w)) (By (word v (c ∷ w))) s
+word-letter : (v : Value) (c : ℕ) (w s : List ℕ) → AllBytes (c ∷ w) → (eqb (headOf s) c ≡ true) ⊎ (eqb (headOf s) c ≡ false) → Told (Is v w) (Is v w) (By (word v w)) (tailOf s) → Told (Is v (c ∷ w)) (Is v (c ∷ w)) (By (word v (c ∷ w))) s
 word-letter v c w s lt (inl h) ih =
-    moved (Is v (c ∷ w)) (Is v (c ∷ w)) (By (word v (c ∷ w))) (head-is s c lt h)
+    moved (Is v (c ∷ w)) (Is v (c ∷ w)) (By (word v (c ∷ w))) (head-is s c (lt .0) h)
     (told-map (Is v w) (Is v w) (Is v (c ∷ w)) (Is v (c ∷ w)) (By (word v w)) (By (word v (c ∷ w))) (c ∷ []) (λ x. x) (tailOf s)
     (λ u x e. (ap (λ y. c ∷ y) (e .0), e .1)) (λ u x e. (ap (λ y. c ∷ y) (e .0), e .1)) (λ y g al hy. word-on v c w y g hy) ih)
-word-letter v c w s lt (inr h) ih = (fault s, ([], refl, (c ∷ w, v, (refl, refl)), λ r al. word-bad v c w r (subst (λ x. eqb x c ≡ false) (sym (alike-head s r al)) h)))
+word-letter v c w s lt (inr h) ih = (fault s, ([], refl, (c ∷ w, v, lt, (refl, refl)), λ r al. word-bad v c w r (subst (λ x. eqb x c ≡ false) (sym (alike-head s r al)) h)))
 
-pub told-word : (v : Value) (w : List ℕ) → Small w → (s : List ℕ) → Told (Is v w) (Is v w) (By (word v w)) s
+pub told-word : (v : Value) (w : List ℕ) → AllBytes w → (s : List ℕ) → Told (Is v w) (Is v w) (By (word v w)) s
 unfolding word
 told-word v [] lt s = (got v s, ([], refl, (refl, refl), λ r al. refl))
-told-word v (c ∷ w) lt s = word-letter v c w s (lt .0) (case-of (eqb (headOf s) c)) (told-word v w (lt .1) (tailOf s))
+told-word v (c ∷ w) lt s = word-letter v c w s lt (case-of (eqb (headOf s) c)) (told-word v w (lt .1) (tailOf s))
 
 -- ---- strings in the quote q, which is no backslash
-module _ (q : ℕ) (q-slash : eqb 92 q ≡ false) where
+module _ (q : ℕ) (q-byte : q < 256) (q-slash : eqb 92 q ≡ false) where
   -- what may follow, where `slash` says that a backslash stands before it
   abbrev pub Rest : Bool → List ℕ → List ℕ → Type 0
   Rest false u w = Quoted q u w
@@ -168,8 +163,8 @@ module _ (q : ℕ) (q-slash : eqb 92 q ≡ false) where
 
   open-string : (slash : Bool) → Completable (Rest slash) []
   unfolding isEscape
-  open-string false = (q ∷ [], [], closed)
-  open-string true = (92 ∷ (q ∷ []), unescape 92 ∷ [], escaped refl closed)
+  open-string false = (q ∷ [], [], (q-byte, tt), closed)
+  open-string true = (92 ∷ (q ∷ []), unescape 92 ∷ [], (omega arith, (q-byte, tt)), escaped refl closed)
 
   abbrev Good : Bool → List ℕ → Type 0
   Good slash s = Told (Rest slash) (Rest slash) (By (quoted q slash)) s

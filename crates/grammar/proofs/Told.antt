@@ -1,14 +1,13 @@
--- The claim that every reader meets. It was `Told`: where it gives a value, the grammar gives it for the part that was read; where it refuses, the
--- grammar can complete the part before; and whatever follows that part alike is read alike. The laws below carry the claim from a part to the
--- whole: `told-map` where something stands before and the value is made into another, `told-fault` and `told-deep` where a part is refused. Assumes
--- nothing.
+-- The claim that every reader meets, `Told`: where it gives a value, the grammar gives it for the part that was read; where it refuses, the grammar
+-- can complete the part before; and whatever goes on alike behind that part is read alike. The laws carry the claim from a part to the whole:
+-- `told-map` where something stands before and the value is made into another, `told-fault` and `told-deep` where a part is refused. Assumes nothing.
 use Prim.Native.Nat.{ℕ}
-use mathlib.Core.Path.{_≡_, refl, sym, subst}
+use mathlib.Core.Path.{_≡_, sym, subst}
 use mathlib.Core.List.{List, [], _∷_, _++_, append-assoc, append-nil}
 use mathlib.Core.Bool.{true}
 use Rattle.grammar.specs.Bytes.{isOpen}
-use Rattle.grammar.specs.Promise.{Completable, got, fault, deep}
-use Rattle.grammar.proofs.Texts.{headOf, Alike, alike-self, alike-on}
+use Rattle.grammar.specs.Promise.{AllBytes, Completable, got, fault, deep}
+use Rattle.grammar.proofs.Texts.{bytes-append, headOf, Alike, alike-self, alike-on}
 use Rattle.grammar.proofs.Reading.{Read, with}
 
 -- a reader as a relation: it reads the text as the outcome
@@ -38,8 +37,8 @@ moved R R⁺ Rd e x = subst (λ y. Told R R⁺ Rd y) (sym e) x
 
 -- p in front of a thing, and another thing made of it
 module _ {A B : Type 0} (R R⁺ : List ℕ → A → Type 0) (Q Q⁺ : List ℕ → B → Type 0) (Rd : List ℕ → Read A → Type 0) (Rd′ : List ℕ → Read B → Type 0) (p : List ℕ) (f : A → B) where
-  before : (S : List ℕ → A → Type 0) (T : List ℕ → B → Type 0) (end u : List ℕ) → ((w : List ℕ) (v : A) → S w v → T (p ++ (w ++ end)) (f v)) → Completable S u → Completable T (p ++ u)
-  before S T end u up (t, v, x) = (t ++ end, f v, subst (λ y. T y (f v)) (simp append-assoc) (up (u ++ t) v x))
+  before : (S : List ℕ → A → Type 0) (T : List ℕ → B → Type 0) (end u : List ℕ) → AllBytes end → ((w : List ℕ) (v : A) → S w v → T (p ++ (w ++ end)) (f v)) → Completable S u → Completable T (p ++ u)
+  before S T end u be up (t, v, bt, x) = (t ++ end, f v, bytes-append t end bt be, subst (λ y. T y (f v)) (simp append-assoc) (up (u ++ t) v x))
 
   onward : (s u q : List ℕ) (out : List ℕ → Read A) (out′ : List ℕ → Read B) → s ≡ u ++ q → ((y r : List ℕ) → Alike s y → Rd y (out r) → Rd′ (p ++ y) (out′ r)) → Same Rd u out q → Same Rd′ (p ++ u) out′ q
   onward s u q out out′ e on same r al = subst (λ y. Rd′ y (out′ r)) (sym (append-assoc p u r)) (on (u ++ r) r (alike-on s u q r e al) (same r al))
@@ -48,21 +47,21 @@ module _ {A B : Type 0} (R R⁺ : List ℕ → A → Type 0) (Q Q⁺ : List ℕ 
   parts s u q e = rw e (simp append-assoc)
 
   -- a refusal within a part is the refusal of the whole: `end` completes the whole once the part is complete
-  pub told-fault : (end s q : List ℕ) → ((u : List ℕ) (v : A) → R u v → Q (p ++ (u ++ end)) (f v))
+  pub told-fault : (end s q : List ℕ) → AllBytes end → ((u : List ℕ) (v : A) → R u v → Q (p ++ (u ++ end)) (f v))
       → ((y r : List ℕ) → Alike s y → Rd y (fault r) → Rd′ (p ++ y) (fault r))
       → Tells R R⁺ Rd s (fault q) → Told Q Q⁺ Rd′ (p ++ s)
-  told-fault end s q up on (u, e, via, same) = (fault q, (p ++ u, parts s u q e, before R Q end u up via, onward s u q fault fault e on same))
+  told-fault end s q be up on (u, e, via, same) = (fault q, (p ++ u, parts s u q e, before R Q end u be up via, onward s u q fault fault e on same))
 
-  pub told-deep : (end s q : List ℕ) → ((u : List ℕ) (v : A) → R u v → Q (p ++ (u ++ end)) (f v)) → ((u : List ℕ) (v : A) → R⁺ u v → Q⁺ (p ++ (u ++ end)) (f v))
+  pub told-deep : (end s q : List ℕ) → AllBytes end → ((u : List ℕ) (v : A) → R u v → Q (p ++ (u ++ end)) (f v)) → ((u : List ℕ) (v : A) → R⁺ u v → Q⁺ (p ++ (u ++ end)) (f v))
       → ((y r : List ℕ) → Alike s y → Rd y (deep r) → Rd′ (p ++ y) (deep r))
       → Tells R R⁺ Rd s (deep q) → Told Q Q⁺ Rd′ (p ++ s)
-  told-deep end s q up up⁺ on (u, e, via, via⁺, o, same) =
-      (deep q, (p ++ u, parts s u q e, before R Q end u up via, subst (Completable Q⁺) (sym (append-assoc p u (headOf q ∷ []))) (before R⁺ Q⁺ end (u ++ (headOf q ∷ [])) up⁺ via⁺), o, onward s u q deep deep e on same))
+  told-deep end s q be up up⁺ on (u, e, via, via⁺, o, same) =
+      (deep q, (p ++ u, parts s u q e, before R Q end u be up via, subst (Completable Q⁺) (sym (append-assoc p u (headOf q ∷ []))) (before R⁺ Q⁺ end (u ++ (headOf q ∷ [])) be up⁺ via⁺), o, onward s u q deep deep e on same))
 
   pub told-map : (s : List ℕ) → ((u : List ℕ) (v : A) → R u v → Q (p ++ u) (f v)) → ((u : List ℕ) (v : A) → R⁺ u v → Q⁺ (p ++ u) (f v))
       → ((y : List ℕ) (g : Read A) → Alike s y → Rd y g → Rd′ (p ++ y) (with f g))
       → Told R R⁺ Rd s → Told Q Q⁺ Rd′ (p ++ s)
   told-map s up up⁺ on (got v q, (u, e, x, same)) = (got (f v) q, (p ++ u, parts s u q e, up u v x, onward s u q (got v) (got (f v)) e (λ y r al h. on y (got v r) al h) same))
-  told-map s up up⁺ on (fault q, x) = told-fault [] s q (λ u v r. subst (λ y. Q (p ++ y) (f v)) (sym (append-nil u)) (up u v r)) (λ y r al h. on y (fault r) al h) x
+  told-map s up up⁺ on (fault q, x) = told-fault [] s q tt (λ u v r. subst (λ y. Q (p ++ y) (f v)) (sym (append-nil u)) (up u v r)) (λ y r al h. on y (fault r) al h) x
   told-map s up up⁺ on (deep q, x) =
-      told-deep [] s q (λ u v r. subst (λ y. Q (p ++ y) (f v)) (sym (append-nil u)) (up u v r)) (λ u v r. subst (λ y. Q⁺ (p ++ y) (f v)) (sym (append-nil u)) (up⁺ u v r)) (λ y r al h. on y (deep r) al h) x
+      told-deep [] s q tt (λ u v r. subst (λ y. Q (p ++ y) (f v)) (sym (append-nil u)) (up u v r)) (λ u v r. subst (λ y. Q⁺ (p ++ y) (f v)) (sym (append-nil u)) (up⁺ u v r)) (λ y r al h. on y (deep r) al h) x

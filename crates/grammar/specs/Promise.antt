@@ -1,7 +1,8 @@
 -- What the outcome of reading a text says, by the grammar alone. Document 01, "The literal": "The text is exactly one value. Faults are found left
 -- to right, at the first byte that no valid text could have after what precedes it, nesting aside." Refusal 6: "literal fault". Refusal 7: "a
--- bracket that may stand there would be the 33rd open"; here the (k + 1)-st. Definitions only. Assumes nothing.
-use Prim.Native.Nat.{ℕ, suc, _≤_}
+-- bracket that may stand there would be the 33rd open"; here the (k + 1)-st. For every text one outcome keeps the promise, and one only
+-- (proofs/Kept.antt). Definitions only. Assumes nothing.
+use Prim.Native.Nat.{ℕ, suc, _<_, _≤_}
 use mathlib.Core.Path.{_≡_}
 use mathlib.Core.List.{List, [], _∷_, _++_}
 use mathlib.Core.Bool.{true}
@@ -15,21 +16,25 @@ use Rattle.grammar.specs.Nesting.{Within}
 abbrev pub GivesIn : ℕ → List ℕ → Value → Type 0
 GivesIn k s v = Gives s v × Within v k
 
--- u can be completed to a text of the relation R
-abbrev pub Completable : {A : Type 0} → (List ℕ → A → Type 0) → List ℕ → Type 0
-Completable {A} R u = (t : List ℕ) × (v : A) × R (u ++ t) v
+abbrev pub AllBytes : List ℕ → Type 0
+AllBytes [] = Unit {0}
+AllBytes (b ∷ u) = (b < 256) × AllBytes u
 
--- behind u the next byte of q can not stand, whatever follows; where q has none, the text can not end
+-- some bytes complete u to a text of the relation R
+abbrev pub Completable : {A : Type 0} → (List ℕ → A → Type 0) → List ℕ → Type 0
+Completable {A} R u = (t : List ℕ) × (v : A) × AllBytes t × R (u ++ t) v
+
+-- behind u the next byte of q can not stand, whatever follows; where q has none, the text can not end there
 abbrev pub Barred : (List ℕ → Value → Type 0) → List ℕ → List ℕ → Type 0
 Barred R u [] = (v : Value) → R u v → ⊥
-Barred R u (b ∷ q) = Completable R (u ++ b ∷ []) → ⊥
+Barred R u (b ∷ q) = (t : List ℕ) (v : Value) → R (u ++ b ∷ t) v → ⊥
 
--- 6, where u was read and q is left: no valid text goes on so, nesting aside
+-- 6, where u was read and q is left: u can be completed, within k brackets even, and no valid text goes on as q does, nesting aside
 pub record Faulty (k : ℕ) (u q : List ℕ) : Type 0 where
   pub before : Completable (GivesIn k) u
   pub there : Barred Gives u q
 
--- 7, where u was read and q is left: q begins with a bracket that may stand there, if k + 1 brackets may be open, and not if only k may
+-- 7, where u was read and q is left: u can be completed, and q begins with a bracket that may stand there if k + 1 may be open, and not if only k may
 pub record TooDeep (k : ℕ) (u q : List ℕ) : Type 0 where
   pub before : Completable (GivesIn k) u
   pub bracket : ℕ

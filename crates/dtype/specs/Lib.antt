@@ -1,0 +1,13 @@
+pub mod TypeNumbers
+pub mod PlainBytes
+pub mod Dtype
+pub mod Entries
+pub mod Names
+pub mod Shape
+pub mod Flat
+pub mod Record
+pub mod Limits
+pub mod Paths
+pub mod Places
+pub mod Agrees
+pub mod Seen

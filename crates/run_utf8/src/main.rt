@@ -1,0 +1,35 @@
+// Replays recorded texts, framed as the crate frames reads them, one answer a line: `ok`, or the place of the first ill-formed sequence.
+use frames::Frame;
+use libc::STDOUT_FILENO;
+use utf8::Text;
+
+fn main() {
+    let mut room = io::large_buffer();
+    run_cases(&mut room);
+}
+
+// A proved loop has to end, and nothing says that the input does: no run has that many cases.
+fn run_cases(room: &mut [u8]) {
+    let mut turns = u64::MAX;
+    while turns > 0 && run_case(room) {
+        turns -= 1;
+    }
+}
+
+// One case, and whether to go on.
+fn run_case(room: &mut [u8]) -> bool {
+    let Frame::Case(n) = frames::next(room) else {
+        return false;
+    };
+    tell(utf8::check(&room[..n]))
+}
+
+fn tell(text: Text) -> bool {
+    match text {
+        Text::WellFormed => io::write_all(STDOUT_FILENO, b"ok\n"),
+        Text::Ill(at) => {
+            io::print_decimal(STDOUT_FILENO, at as u64);
+            io::write_all(STDOUT_FILENO, b"\n")
+        }
+    }
+}

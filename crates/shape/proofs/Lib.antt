@@ -1,0 +1,3 @@
+pub mod Passed
+pub mod Turns
+pub mod OneOutcome

@@ -1,0 +1,36 @@
+-- Document 01, "The refusal numbers": 22, "count or a stride of the declared order over 2^64-1", 23, "lent .. room too small", in this order, and
+-- "every lent buffer stays unchanged. On success, room beyond what was needed is unchanged." Count and strides are the crate dtype's.
+-- Definitions only. Assumes nothing.
+use Prim.Native.Nat.{ℕ}
+use mathlib.Core.Path.{_≡_}
+use mathlib.Core.List.{List, _++_}
+use lib.Dec.{ltb}
+use lib.ListN.{length, drop}
+use Rattle.counts.specs.Outcome.{Outcome, gives, refused, unless}
+use Rattle.dtype.specs.declared.Order.{Order}
+use Rattle.dtype.specs.Shape.{product, strides}
+use Rattle.dtype.specs.Limits.{overShape}
+use Rattle.shape.specs.declared.StridesWritten.{StridesWritten}
+use Rattle.shape.specs.Answer.{wrote}
+
+-- the item count, or 22
+unfoldable pub itemCount : Order → List ℕ → Outcome ℕ
+itemCount o s = unless (overShape o s) 22 (gives (product s))
+
+-- the item count where the strides have room, or 22, or 23
+unfoldable pub stridesCount : Order → List ℕ → (room : ℕ) → Outcome ℕ
+stridesCount o s room = unless (overShape o s) 22 (unless (ltb room (length s)) 23 (gives (product s)))
+
+-- a buffer with new numbers at its front and the rest as it was
+abbrev pub front : (new old : List ℕ) → List ℕ
+front new old = new ++ drop (length new) old
+
+-- what a buffer holds afterwards: the new numbers, or what it held where the answer is a refusal
+abbrev pub left : Outcome ℕ → (new old : List ℕ) → List ℕ
+left (gives n) new old = front new old
+left (refused n) new old = old
+
+-- what writing the strides owes
+pub record Writes (o : Order) (s out : List ℕ) (r : StridesWritten) (out′ : List ℕ) : Type 0 where
+  pub answered : wrote r ≡ stridesCount o s (length out)
+  pub out-after : out′ ≡ left (stridesCount o s (length out)) (strides o s) out

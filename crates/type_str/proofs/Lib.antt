@@ -1,0 +1,7 @@
+pub mod Tables
+pub mod Checks
+pub mod Splits
+pub mod Texts
+pub mod RoundTrip
+pub mod Outcomes
+pub mod Edges

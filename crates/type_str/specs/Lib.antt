@@ -1,0 +1,6 @@
+pub mod Spelling
+pub mod TypeString
+pub mod Bytes
+pub mod Text
+pub mod Answer
+pub mod Parts
