@@ -1,19 +1,20 @@
--- Document 01, "Both sides of each edge": the lines marked P that speak of shapes, strides and sizes, in its order, as one claim, `Edges`; and
--- some more cases, `Listed`. Each is computed. Assumes nothing.
-use Prim.Native.Nat.{ℕ, _^_}
+-- Document 01, "Both sides of each edge": the lines marked P that speak of shapes, strides and sizes, in its order, as one claim, `Edges`;
+-- some more cases, `Listed`; and the limits 13, 20 and 21 from both sides, `Bounds`. Each is computed. Assumes nothing.
+use Prim.Native.Nat.{ℕ, zero, suc, _^_}
 use mathlib.Core.Bool.{true, false}
 use mathlib.Core.Path.{_≡_, refl}
 use mathlib.Core.List.{List, [], _∷_}
+use lib.ListN.{replicate}
 use Rattle.counts.specs.Outcome.{gives, refused}
-use Rattle.type_str.specs.declared.Endianness.the-variants.{Little}
-use Rattle.type_str.specs.declared.TypeChar.the-variants.{Int, UnicodeStr}
+use Rattle.type_str.specs.declared.Endianness.the-variants.{Little, Irrelevant}
+use Rattle.type_str.specs.declared.TypeChar.the-variants.{Int, UnicodeStr, Object}
 use Rattle.type_str.specs.declared.TimeUnits.the-variants.{Absent}
 use Rattle.dtype.specs.declared.Order.{Order}
 use Rattle.dtype.specs.declared.Order.the-variants.{C, Fortran}
-use Rattle.dtype.specs.Dtype.{Dtype, plain, array, record-of, end-of-fields, field-then, sizeOf}
+use Rattle.dtype.specs.Dtype.{Dtype, Fields, plain, array, record-of, end-of-fields, field-then, sizeOf}
 use Rattle.dtype.specs.Shape.{product, strides, item}
 use Rattle.dtype.specs.Record.{Record, table, names, tableOf}
-use Rattle.dtype.specs.Limits.{overSize, overShape, limited}
+use Rattle.dtype.specs.Limits.{overLevels, overEntries, overSize, overShape, limited}
 use Rattle.dtype.specs.Paths.{offset}
 
 -- `<i2`
@@ -106,4 +107,64 @@ listed =
       none-below = refl;
       c-late-zero = refl;
       c-late-zero-strides = refl;
+    }
+
+-- The limits 13, 20 and 21, both sides of each, and their order.
+-- n dimensions of 1, and n array levels of 1
+abbrev ones : ℕ → List ℕ
+ones n = replicate n 1
+
+abbrev levels-of : ℕ → Dtype
+levels-of zero = i2
+levels-of (suc n) = array 1 (levels-of n)
+
+-- n fields of one type, without a name
+abbrev fields-of : ℕ → Dtype → Fields
+fields-of zero d = end-of-fields
+fields-of (suc n) d = field-then [] d (fields-of n d)
+
+-- a field with a name of n bytes
+abbrev long-name : ℕ → Dtype
+long-name n = record-of (field-then (replicate n 97) i2 end-of-fields)
+
+-- `|O`
+abbrev object : Dtype
+object = plain (record { order = Irrelevant; letter = Object; size = 0; units = Absent })
+
+abbrev typed : Dtype → Record
+typed d = record { dtype = d; shape = []; order = C }
+
+pub record Bounds : Type 0 where
+  pub dimensions-32 : limited (shaped C (ones 32)) ≡ gives (shaped C (ones 32))
+  pub dimensions-33 : limited (shaped C (ones 33)) ≡ refused 13
+  pub levels-32 : overLevels (levels-of 32) ≡ false
+  pub levels-33 : overLevels (levels-of 33) ≡ true
+  -- a record and 511 fields are 512 entries
+  pub entries-512 : overEntries (record-of (fields-of 511 i2)) ≡ false
+  pub entries-513 : limited (typed (record-of (fields-of 512 i2))) ≡ refused 20
+  pub names-65536 : overEntries (long-name 65536) ≡ false
+  pub names-65537 : overEntries (long-name 65537) ≡ true
+  -- 20 before 21, and 13 before 20
+  pub entries-first : limited (typed (record-of (field-then [] (array (2 ^ 63) i2) (fields-of 512 i2)))) ≡ refused 20
+  pub levels-first : limited (typed (record-of (field-then [] (levels-of 33) (fields-of 512 i2)))) ≡ refused 13
+  -- 21, and none beside an `O`
+  pub size-over : limited (typed (record-of (field-then [] (array (2 ^ 63) i2) end-of-fields))) ≡ refused 21
+  pub object-beside : overSize (record-of (field-then [] (array (2 ^ 63) i2) (field-then [] object end-of-fields))) ≡ false
+
+pub bounds : Bounds
+unfolding limited overShape
+bounds =
+    record {
+      dimensions-32 = refl;
+      dimensions-33 = refl;
+      levels-32 = refl;
+      levels-33 = refl;
+      entries-512 = refl;
+      entries-513 = refl;
+      names-65536 = refl;
+      names-65537 = refl;
+      entries-first = refl;
+      levels-first = refl;
+      size-over = refl;
+      object-beside = refl;
     }

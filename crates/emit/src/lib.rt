@@ -1,4 +1,4 @@
-// Writes pieces of a text to lent room, one behind another. A piece that has no room is not stored, and the place behind it is answered all
+// Writes pieces of a text to lent room, one behind another. A byte that has no room is not stored, and the place behind it is answered all
 // the same: so a run on a scratch byte measures a text, and the same code then writes it. Places stop at 2^64-1, where no room reaches.
 // No function here has a `requires`.
 ghost use mathlib.Core.Path.{_≡_};

@@ -1,6 +1,6 @@
 -- A text to be written: its layout, its bytes in front of whatever follows, and the value that it gives. Document 01, "Header bytes out", has three
 -- layouts: "`(3, )`", "`('b', '<f8', (2,3,))`" and "every field followed by comma and space". Which one a header's parts take is the writer's to
--- say; none here prints `None` or a negative number, which no header has. Definitions only. Assumes nothing.
+-- say; none here prints `None` or a negative number, which no written header has. Definitions only. Assumes nothing.
 use Prim.Native.Nat.{ℕ, zero, suc}
 use mathlib.Core.List.{List, [], _∷_}
 use mathlib.Core.Bool.{Bool, true, false, cond}

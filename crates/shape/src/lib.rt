@@ -1,4 +1,4 @@
-// The item count and the strides of a shape (document 01, "The record"; `strides` of the crate's read.rs), with refusals 22 and 23. No public
+// The item count and the strides of a shape (document 01, "The record"; `strides` of npyz's read.rs), with refusals 22 and 23. No public
 // function here has a `requires`. What each answer stands for is in specs/Answer.antt.
 use counts::ItemCount;
 use counts::Items;

@@ -1,6 +1,5 @@
--- No second outcome satisfies a statement of this crate's public functions. Each answer can be told from what it stands for. `TimeUnits::put` and
--- `TypeStr::put` state `Emits`, for which `emits-one` of the crate emit serves. Assumes nothing.
-use Prim.Native.Nat.{ℕ}
+-- No second outcome satisfies a statement of this crate's public functions. Each answer can be told from what it stands for. Assumes nothing.
+use Prim.Native.Nat.{ℕ, _^_, _<_}
 use mathlib.Core.Path.{_≡_, refl}
 use mathlib.Core.Bool.{Bool, cond}
 use mathlib.Core.List.{List}
@@ -8,10 +7,12 @@ use lib.Dec.{eqb}
 use Rattle.counts.specs.Outcome.{Outcome, gives, refused}
 use Rattle.counts.specs.OneOutcome.{OneOutcome}
 use Rattle.counts.proofs.OneOutcome.{by-equation, by-inverse, beside}
-use Rattle.type_str.specs.Spelling.{orderByte, orderOf, letterByte, letterOf, unitsOf}
+use Rattle.emit.specs.Emits.{Emits}
+use Rattle.emit.proofs.Outcomes.{emits-one}
+use Rattle.type_str.specs.Spelling.{orderByte, orderOf, letterByte, letterOf, unitText, unitsOf}
 use Rattle.type_str.specs.TypeString.{isObject, validated, typeString}
 use Rattle.type_str.specs.Bytes.{isUnicode, numBytes}
-use Rattle.type_str.specs.Text.{isType, typePrinted, typePlaced, Prints}
+use Rattle.type_str.specs.Text.{typeText, isType, typePrinted, typePlaced, Prints}
 use Rattle.type_str.specs.Answer.{orderAnswer, letterAnswer, unitsAnswer, answer, printAnswer}
 use Rattle.type_str.specs.declared.Endianness.{Endianness}
 use Rattle.type_str.specs.declared.TypeChar.{TypeChar}
@@ -113,3 +114,9 @@ pub print-one : (t : TypeStr) (room : List ℕ) → OneOutcome {A = TypePrint ×
 print-one t room x y p q =
     beside (by-inverse printAnswer print-back print-same (typePrinted t room)) (by-equation (typePlaced t room)) x y
     (p .answered, p .room-after) (q .answered, q .room-after)
+
+pub units-put-one : (u : TimeUnits) (old : List ℕ) (at : ℕ) → OneOutcome {A = List ℕ × ℕ} (λ r. Emits (unitText u) old at (r .0) (r .1) × (r .1 < 2 ^ 64))
+units-put-one u = emits-one (unitText u)
+
+pub type-put-one : (t : TypeStr) (old : List ℕ) (at : ℕ) → OneOutcome {A = List ℕ × ℕ} (λ r. Emits (typeText t) old at (r .0) (r .1) × (r .1 < 2 ^ 64))
+type-put-one t = emits-one (typeText t)

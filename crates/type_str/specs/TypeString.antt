@@ -1,6 +1,8 @@
 -- Document 01, "The record": "decimal size, leading zeros allowed, absent for `O` and needed otherwise; then optional units in brackets .. Sizes:
 -- b 1; i, u 1 2 4 8; f 2 4 8 16; c 8 16 32; m, M 8; others any. `|` is refused for U, and for b i u f c m M when the size is not 1. Units stand
--- exactly on m and M. Checked in order: syntax, number, byte order, size, units." The numbers are 15 to 19. Definitions only. Assumes nothing.
+-- exactly on m and M. Checked in order: syntax, number, byte order, size, units." The numbers are 15 to 19. "any escape in it is a syntax
+-- fault": an escape begins with a backslash, and what it stands for is none of the bytes that are read here, so it is 15 raw and decoded. Definitions only.
+-- Assumes nothing.
 use Prim.Native.Nat.{ℕ, _^_}
 use mathlib.Core.List.{List, [], _∷_}
 use mathlib.Core.Bool.{Bool, true, false, not, cond, _&&_, _||_}

@@ -13,7 +13,7 @@ use lib.Dec.{eqb}
 use lib.ListN.{length}
 use Rattle.counts.specs.Outcome.{Outcome, gives, refused}
 use Rattle.counts.specs.OneOutcome.{OneOutcome}
-use Rattle.counts.proofs.OneOutcome.{by-equation, by-answer, beside}
+use Rattle.counts.proofs.OneOutcome.{by-equation, by-inverse, beside}
 use Rattle.utf8.specs.Scalar.{isScalar}
 use Rattle.utf8.specs.Utf8.{encode, WellFormed, FirstIll}
 use Rattle.utf8.specs.Decode.{Point, point, decode, firstIll, unlessIll, utf8}
@@ -30,12 +30,8 @@ use Rattle.utf8.proofs.Texts.{found-well-formed, well-formed-found, fou
 pub is-scalar-one : (value : ℕ) → OneOutcome (λ r. r ≡ isScalar value)
 is-scalar-one value = by-equation (isScalar value)
 
--- no two answers stand for the same, where the answer can be told from what it stands for
-told : {A B : Type 0} (stands : A → B) (back : B → A) → ((x : A) → back (stands x) ≡ x) → (x y : A) → stands x ≡ stands y → x ≡ y
-told stands back same x y e = sym (same x) ∙ ap back e ∙ same y
-
 pub decode-one : (text : List ℕ) → OneOutcome (λ r. decoded r ≡ decode text)
-decode-one text = by-answer decoded (told decoded back same) (decode text)
+decode-one text = by-inverse decoded back same (decode text)
   where
     back : Option Point → Decoded
     back (some (point v n)) = Decoded.Scalar v n
@@ -46,7 +42,7 @@ decode-one text = by-answer decoded (told decoded back same) (decode text)
     same Decoded.Ill = refl
 
 pub check-one : (text : List ℕ) → OneOutcome (Checks text)
-check-one text x y p q = by-answer place (told place back same) (firstIll text) x y (p .placed) (q .placed)
+check-one text x y p q = by-inverse place back same (firstIll text) x y (p .placed) (q .placed)
   where
     back : Option ℕ → Text
     back none = Text.WellFormed
@@ -60,7 +56,7 @@ check-one text x y p q = by-answer place (told place back same) (firstIll text) 
 pub encode-one : (value : ℕ) (room : List ℕ) → OneOutcome {A = Encoded × List ℕ} (λ r. Encodes value room (r .0) (r .1))
 encode-one value room x y p q =
     let r = encoding value (length room) in
-    beside (by-answer encoded (told encoded back same) r) (by-equation (after r value room)) x y (p .answered, p .room-after) (q .answered, q .room-after)
+    beside (by-inverse encoded back same r) (by-equation (after r value room)) x y (p .answered, p .room-after) (q .answered, q .room-after)
   where
     back : Outcome ℕ → Encoded
     back (gives n) = Encoded.Written n
