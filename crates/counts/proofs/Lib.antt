@@ -2,3 +2,4 @@ pub mod OneOutcome
 pub mod Fits
 pub mod Outcomes
 pub mod Alike
+pub mod Holds

@@ -11,6 +11,7 @@ use lib.Dec.{leb, eqb}
 use borrow.Author.Tests.{eqb-true}
 use Rattle.counts.specs.Outcome.{Outcome, gives, refused, then, each, unless}
 use Rattle.counts.proofs.Alike.{true-false, and-left, and-right}
+use Rattle.counts.proofs.Holds.{Holds, unless-holds, holds-of}
 use Rattle.decimal.specs.Decimal.{isDigit, digitsOf, afterDigits, decimal, decimalFrom, printed}
 use Rattle.decimal.proofs.Prints.{digits-printed, decimal-printed, drop-printed, printed-some}
 use Rattle.type_str.specs.Spelling.{orderOf, letterOf, unitText, unitsOf}
@@ -25,7 +26,7 @@ use Rattle.type_str.specs.declared.TypeStr.{TypeStr}
 
 -- ---- from a type to its text and back
 -- units begin with no digit
-units-stop : (u : TimeUnits) → digitsOf (unitText u []) ≡ []
+pub units-stop : (u : TimeUnits) → digitsOf (unitText u []) ≡ []
 unfolding digitsOf isDigit
 units-stop Absent = refl
 units-stop Year = refl
@@ -46,11 +47,11 @@ none-of-some : (ds : List ℕ) → 0 < length ds → none ds ≡ false
 none-of-some [] h = absurd (omega arith)
 none-of-some (d ∷ ds) h = refl
 
-abbrev typeOf : Endianness → TypeChar → ℕ → TimeUnits → TypeStr
+abbrev pub typeOf : Endianness → TypeChar → ℕ → TimeUnits → TypeStr
 typeOf o l n u = record { order = o; letter = l; size = n; units = u }
 
 -- the digits and what stands behind them, by what they are
-sized-as : (o : Endianness) (l : TypeChar) (s ds rest : List ℕ) (u : TimeUnits) (n : ℕ) → digitsOf s ≡ ds → afterDigits s ≡ rest → sizeStands l ds ≡ true → decimal ds ≡ n
+pub sized-as : (o : Endianness) (l : TypeChar) (s ds rest : List ℕ) (u : TimeUnits) (n : ℕ) → digitsOf s ≡ ds → afterDigits s ≡ rest → sizeStands l ds ≡ true → decimal ds ≡ n
     → unitsOf rest ≡ gives u → sizedBy o l s ≡ gives (typeOf o l n u)
 unfolding sized
 sized-as o l s ds rest u n e f h d k =
@@ -94,16 +95,8 @@ print-parse t h =
     rw (typeString, syntax-back t (and-right (passes (checked t)) _ h)) (checked-passes t (and-left (passes (checked t)) _ h))
 
 -- ---- from a text to a type that may be printed
-abbrev Holds : (TypeStr → Type 0) → Outcome TypeStr → Type 0
-Holds P (gives t) = P t
-Holds P (refused n) = Unit {0}
-
 abbrev Bare : TypeStr → Type 0
 Bare t = cond (isObject (t .letter)) (eqb (t .size) 0) true ≡ true
-
-unless-holds : (P : TypeStr → Type 0) (b : Bool) (n : ℕ) (o : Outcome TypeStr) → (b ≡ false → Holds P o) → Holds P (unless b n o)
-unless-holds P true n o h = tt
-unless-holds P false n o h = h refl
 
 object-bare : (b : Bool) (ds : List ℕ) → cond b (none ds) (not (none ds)) ≡ true → cond b (eqb (decimal ds) 0) true ≡ true
 unfolding decimalFrom
@@ -161,7 +154,7 @@ parse-type s = go (syntax s) (syntax-bare s)
 
 -- EXACTLY THE TYPES THAT SOME TYPE STRING GIVES MAY BE PRINTED
 pub is-type-exact : (t : TypeStr) → (isType t ≡ true) ↔ ((s : List ℕ) × (typeString s ≡ gives t))
-is-type-exact t = (λ h. (typeText t [], print-parse t h), λ g. subst (Holds (λ x. isType x ≡ true)) (g .1) (parse-type (g .0)))
+is-type-exact t = (λ h. (typeText t [], print-parse t h), λ g. holds-of (λ x. isType x ≡ true) (typeString (g .0)) t (g .1) (parse-type (g .0)))
 
 -- PARSING AND PRINTING GIVES A TEXT OF THE SAME TYPE, the canonical one: it depends on the type alone
 pub parse-print : (s : List ℕ) (t : TypeStr) → typeString s ≡ gives t → typeString (typeText t []) ≡ gives t

@@ -4,3 +4,4 @@ pub mod Bytes
 pub mod Text
 pub mod Answer
 pub mod Parts
+pub mod Spells
