@@ -41,7 +41,7 @@ class Entry:
 
 
 class Record:
-    """table, names (decoded, end to end), shape, fortran; and beside the record version (a pair) and data, where the data starts."""
+    """dtype (a Type), table, names (decoded, end to end), shape, fortran; and beside the record version (a pair) and data, where the data starts."""
 
     def count(self):
         return product(self.shape)
@@ -159,7 +159,7 @@ def record_of(value):
     found = descr(of(b'descr'), late)
     if late:
         refuse(13)
-    record.table = table_of(found)
+    record.dtype, record.table = found, table_of(found)
     record.names = b''.join(entry.name for entry in record.table if entry.name is not None)
     if len(record.table) > MOST_ENTRIES or len(record.names) > MOST_NAMES:
         refuse(20)

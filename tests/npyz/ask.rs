@@ -14,6 +14,7 @@
 //! in the room before it failed is told: `refused 28, 10 stored`. Version and nothing else is read by this program itself: npyz does not tell it.
 use npyz::{DType, Deserialize, Field, NpyHeader, Order, Serialize, TypeRead, TypeStr, TypeWrite, WriteOptions, WriterBuilder};
 use std::alloc::{GlobalAlloc, Layout, System};
+use std::any::Any;
 use std::io::{self, Cursor, Read, Write};
 use std::panic::{catch_unwind, AssertUnwindSafe};
 use std::sync::atomic::{AtomicUsize, Ordering};
@@ -174,14 +175,20 @@ fn listing(file: &[u8], header: &NpyHeader, data: u64) -> String {
     lines.into_iter().fold(head, |all, line| all + "; " + &line)
 }
 
+fn panicked(panic: Box<dyn Any + Send>) -> String {
+    let text = panic.downcast_ref::<String>().cloned().or_else(|| panic.downcast_ref::<&str>().map(|text| text.to_string()));
+    format!("panic {}", text.unwrap_or_default().replace('\n', " "))
+}
+
 /// What is said of a write into a room: the bytes stored, or why not and how many were stored before.
-fn stored(result: io::Result<()>, room: &[u8], left: usize) -> String {
+fn stored(result: std::thread::Result<io::Result<()>>, room: &[u8], left: usize) -> String {
     let bytes = &room[..room.len() - left];
-    match result {
-        Ok(()) => format!("bytes {}", hex(bytes)),
-        Err(e) if bytes.is_empty() => refusal(e),
-        Err(e) => format!("{}, {} stored", refusal(e), bytes.len()),
-    }
+    let why = match result {
+        Ok(Ok(())) => return format!("bytes {}", hex(bytes)),
+        Ok(Err(e)) => refusal(e),
+        Err(panic) => panicked(panic),
+    };
+    if bytes.is_empty() { why } else { format!("{}, {} stored", why, bytes.len()) }
 }
 
 fn write(mut parts: Parts) -> Result<String, String> {
@@ -192,7 +199,7 @@ fn write(mut parts: Parts) -> Result<String, String> {
     let dtype = parts.tree()?;
     let (left, result) = {
         let mut free = &mut room[..];
-        let result = WriteOptions::new_header_only().dtype(dtype).shape(&shape).order(order).writer(&mut free).write_header_only().map(|_| ());
+        let result = catch_unwind(AssertUnwindSafe(|| WriteOptions::new_header_only().dtype(dtype).shape(&shape).order(order).writer(&mut free).write_header_only().map(|_| ())));
         (free.len(), result)
     };
     Ok(stored(result, &room, left))
@@ -200,7 +207,7 @@ fn write(mut parts: Parts) -> Result<String, String> {
 
 fn read_element<T: Deserialize>(dtype: &DType, run: &[u8], show: fn(T) -> String) -> String {
     match T::reader(dtype) {
-        Ok(reader) => reader.read_one(run).map_or_else(refusal, show),
+        Ok(reader) => reader.read_one(run).map_or_else(|e| if e.kind() == io::ErrorKind::UnexpectedEof { format!("error {}", e) } else { refusal(e) }, show),
         Err(e) => refusal(e),
     }
 }
@@ -212,7 +219,7 @@ fn write_element<T: Serialize + ?Sized>(dtype: &DType, value: &T, mut room: Vec<
     };
     let (left, result) = {
         let mut free = &mut room[..];
-        let result = writer.write_one(&mut free, value);
+        let result = catch_unwind(AssertUnwindSafe(|| writer.write_one(&mut free, value)));
         (free.len(), result)
     };
     stored(result, &room, left)
@@ -269,10 +276,7 @@ fn main() {
     while input.read_exact(&mut length).is_ok() {
         let mut case = vec![0u8; u32::from_le_bytes(length) as usize];
         input.read_exact(&mut case).unwrap();
-        let line = catch_unwind(AssertUnwindSafe(|| answer(&case))).unwrap_or_else(|panic| {
-            let text = panic.downcast_ref::<String>().cloned().or_else(|| panic.downcast_ref::<&str>().map(|text| text.to_string()));
-            format!("panic {}", text.unwrap_or_default().replace('\n', " "))
-        });
+        let line = catch_unwind(AssertUnwindSafe(|| answer(&case))).unwrap_or_else(panicked);
         output.write_all(line.as_bytes()).unwrap();
         output.write_all(b"\n").unwrap();
     }
