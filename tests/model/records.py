@@ -60,7 +60,7 @@ EDGES = [
     (nested(15, record((b'[(', plain(b'|O')))), [], False, LONG, 7), (nested(600, I4), [], False, LONG, 20), (nested(500, I4), [], False, LONG, 7),
     # (1,0) and (2,0), 4 and 28
     (of_length(65_525), [3], False, 65_536, 0), (of_length(65_525), [3], False, 65_535, 28), (of_length(65_526), [3], False, 65_552, 0), (of_length(65_526), [3], False, 65_551, 28),
-    (record((b"'" * 65_500, I4)), [3], False, LONG, 4), (record((b"'" * 65_498, I4)), [3], False, LONG, 4), (record((b"'" * 65_498, I4)), [3], False, 0, 4),
+    (record((b"'" * 65_500, I4)), [3], False, LONG, 4), (record((b"'" * 65_498, I4)), [3], False, LONG, 4), (record((b"'" * 65_498, I4)), [3], False, 0, 4), (record((b"'" * 65_498 + '\u00e9'.encode(), I4)), [3], False, LONG, 4),
     # the order: 27, 13, 20, 21, 22, 7, 4, 28
     (record((b'a', HIGH), (b'\xff', I4)), [], False, LONG, 27), (record((b'a', HIGH), (b'b', WIDE)), [], False, LONG, 13), (record((b'a', WIDE), (b'b', HUGE)), [], False, LONG, 20), (HUGE, [2 ** 32, 2 ** 32], False, LONG, 21), (DEEP, [2 ** 32, 2 ** 32], False, LONG, 22),
     (record((b"'" * 65_498, I4), (b'b', DEEP)), [3], False, LONG, 7), (DEEP, [3], False, 0, 7), (I4, [2 ** 32, 2 ** 32], False, 0, 22), (HUGE, [3], False, 0, 21), (HIGH, [3], False, 0, 13), (array([2], I4), [3], False, 0, 27),
