@@ -45,25 +45,35 @@ HIGH = record((b'a', array([1] * 33, I4)))
 # dtype, shape, whether Fortran, room -> the refusal's number, or 0
 EDGES = [
     (I4, [3], False, 80, 0), (I4, [3], False, 79, 28), (I4, [3], False, 0, 28), (I4, [3], True, 80, 0), (I4, [], False, 80, 0), (record(), [3], False, 80, 0), (record((b'', I4)), [], True, 96, 0),
-    (record((b'a', plain(b'<i2')), (b'b', array([2], plain(b'<U3')))), [2, 3], False, 128, 0), (plain(b'<i08'), [3], False, 80, 0), (plain(b'<O'), [3], False, 80, 0), (plain(b'>M8[as]'), [3], False, 96, 0),
-    (record((b"it's \\ \r\n\t\"\x00", I4)), [1], False, LONG, 0), (record(('\u00e9'.encode(), I4)), [1], False, LONG, 0), (record((b'\xed\xa0\x80', I4)), [1], False, LONG, 27), (record((b'\xc3', I4), (b'\xa9', I4)), [1], False, LONG, 27),
+    (record((b'a', plain(b'<i2')), (b'b', array([2], plain(b'<U3')))), [2, 3], False, 128, 0), (plain(b'<i08'), [3], False, 80, 0), (plain(b'<O'), [3], False, 80, 0),
+    (plain(b'>M8[as]'), [3], False, 96, 0),
+    (record((b"it's \\ \r\n\t\"\x00", I4)), [1], False, LONG, 0), (record(('\u00e9'.encode(), I4)), [1], False, LONG, 0), (record((b'\xed\xa0\x80', I4)), [1], False, LONG, 27),
+    (record((b'\xc3', I4), (b'\xa9', I4)), [1], False, LONG, 27),
     # 27
     (array([2], I4), [3], False, LONG, 27), (array([1] * 33, I4), [3], False, LONG, 27),
     # 13, 20, 21, 22
-    (I4, [1] * 32, False, LONG, 0), (I4, [1] * 33, False, LONG, 13), (record((b'a', array([1] * 32, I4))), [], False, LONG, 0), (HIGH, [], False, LONG, 13), (record((b'a', array([1] * 32, record((b'b', array([1] * 32, I4)))))), [], False, LONG, 0),
-    (record(*[(b'a', I4)] * 511), [], False, LONG, 0), (WIDE, [], False, LONG, 20), (of_length(65_536 + 62), [3], False, LONG, 0), (record((b'n' * 65_536, I4)), [], False, LONG, 0), (record((b'n' * 65_537, I4)), [], False, LONG, 20),
-    (plain(b'<U%d' % (2 ** 62 - 1)), [], False, LONG, 0), (plain(b'<U%d' % 2 ** 62), [], False, LONG, 21), (HUGE, [], False, LONG, 21), (record((b'a', HUGE), (b'b', plain(b'|O'))), [], False, LONG, 0),
+    (I4, [1] * 32, False, LONG, 0), (I4, [1] * 33, False, LONG, 13), (record((b'a', array([1] * 32, I4))), [], False, LONG, 0), (HIGH, [], False, LONG, 13),
+    (record((b'a', array([1] * 32, record((b'b', array([1] * 32, I4)))))), [], False, LONG, 0),
+    (record(*[(b'a', I4)] * 511), [], False, LONG, 0), (WIDE, [], False, LONG, 20), (of_length(65_536 + 62), [3], False, LONG, 0),
+    (record((b'n' * 65_536, I4)), [], False, LONG, 0), (record((b'n' * 65_537, I4)), [], False, LONG, 20),
+    (plain(b'<U%d' % (2 ** 62 - 1)), [], False, LONG, 0), (plain(b'<U%d' % 2 ** 62), [], False, LONG, 21), (HUGE, [], False, LONG, 21),
+    (record((b'a', HUGE), (b'b', plain(b'|O'))), [], False, LONG, 0),
     (record((b'a', array([0, 2 ** 61], plain(b'<i8')))), [], False, LONG, 21), (record((b'a', array([2 ** 61, 0], plain(b'<i8')))), [], False, LONG, 0),
-    (I4, [2 ** 32, 2 ** 32], False, LONG, 22), (I4, [2 ** 32, 2 ** 32 - 1], False, LONG, 0), (I4, [0, 2 ** 40, 2 ** 40], False, LONG, 22), (I4, [0, 2 ** 40, 2 ** 40], True, LONG, 0), (I4, [2 ** 40, 2 ** 40, 0], False, LONG, 0), (I4, [2 ** 40, 2 ** 40, 0], True, LONG, 22),
+    (I4, [2 ** 32, 2 ** 32], False, LONG, 22), (I4, [2 ** 32, 2 ** 32 - 1], False, LONG, 0), (I4, [0, 2 ** 40, 2 ** 40], False, LONG, 22),
+    (I4, [0, 2 ** 40, 2 ** 40], True, LONG, 0), (I4, [2 ** 40, 2 ** 40, 0], False, LONG, 0), (I4, [2 ** 40, 2 ** 40, 0], True, LONG, 22),
     # 7: "15 nested records with a sub-shape in the innermost open 32 brackets"
-    (nested(14, record((b'a', array([2], I4)))), [], False, LONG, 0), (nested(15, record((b'a', I4))), [], False, LONG, 7), (nested(15, record()), [], False, LONG, 0), (nested(15, I4), [], False, LONG, 0), (DEEP, [], False, LONG, 7), (nested(14, record((b'a', array([2], record())))), [], False, LONG, 0),
+    (nested(14, record((b'a', array([2], I4)))), [], False, LONG, 0), (nested(15, record((b'a', I4))), [], False, LONG, 7), (nested(15, record()), [], False, LONG, 0),
+    (nested(15, I4), [], False, LONG, 0), (DEEP, [], False, LONG, 7), (nested(14, record((b'a', array([2], record())))), [], False, LONG, 0),
     (nested(15, record((b'[(', plain(b'|O')))), [], False, LONG, 7), (nested(600, I4), [], False, LONG, 20), (nested(500, I4), [], False, LONG, 7),
     # (1,0) and (2,0), 4 and 28
     (of_length(65_525), [3], False, 65_536, 0), (of_length(65_525), [3], False, 65_535, 28), (of_length(65_526), [3], False, 65_552, 0), (of_length(65_526), [3], False, 65_551, 28),
-    (record((b"'" * 65_500, I4)), [3], False, LONG, 4), (record((b"'" * 65_498, I4)), [3], False, LONG, 4), (record((b"'" * 65_498, I4)), [3], False, 0, 4), (record((b"'" * 65_498 + '\u00e9'.encode(), I4)), [3], False, LONG, 4),
+    (record((b"'" * 65_500, I4)), [3], False, LONG, 4), (record((b"'" * 65_498, I4)), [3], False, LONG, 4), (record((b"'" * 65_498, I4)), [3], False, 0, 4),
+    (record((b"'" * 65_498 + '\u00e9'.encode(), I4)), [3], False, LONG, 4),
     # the order: 27, 13, 20, 21, 22, 7, 4, 28
-    (record((b'a', HIGH), (b'\xff', I4)), [], False, LONG, 27), (record((b'a', HIGH), (b'b', WIDE)), [], False, LONG, 13), (record((b'a', WIDE), (b'b', HUGE)), [], False, LONG, 20), (HUGE, [2 ** 32, 2 ** 32], False, LONG, 21), (DEEP, [2 ** 32, 2 ** 32], False, LONG, 22),
-    (record((b"'" * 65_498, I4), (b'b', DEEP)), [3], False, LONG, 7), (DEEP, [3], False, 0, 7), (I4, [2 ** 32, 2 ** 32], False, 0, 22), (HUGE, [3], False, 0, 21), (HIGH, [3], False, 0, 13), (array([2], I4), [3], False, 0, 27),
+    (record((b'a', HIGH), (b'\xff', I4)), [], False, LONG, 27), (record((b'a', HIGH), (b'b', WIDE)), [], False, LONG, 13),
+    (record((b'a', WIDE), (b'b', HUGE)), [], False, LONG, 20), (HUGE, [2 ** 32, 2 ** 32], False, LONG, 21), (DEEP, [2 ** 32, 2 ** 32], False, LONG, 22),
+    (record((b"'" * 65_498, I4), (b'b', DEEP)), [3], False, LONG, 7), (DEEP, [3], False, 0, 7), (I4, [2 ** 32, 2 ** 32], False, 0, 22), (HUGE, [3], False, 0, 21),
+    (HIGH, [3], False, 0, 13), (array([2], I4), [3], False, 0, 27),
 ]
 
 
@@ -115,7 +125,8 @@ def generated(count, seed):
 
 def damaged():
     """Tables and names that no reading gives: every number of some tables put to others, entries and name bytes dropped, added and exchanged."""
-    bases = [I4, record(), plain(b'|O'), plain(b'>m8[us]'), plain(b'<U3'), record((b'a', I4), (b'bc', array([2, 3], plain(b'|S5')))), record((b'', record((b'x', plain(b'<f8')))), (b'y', record())), record((b'a', array([0], record((b'b', plain(b'|O'))))))]
+    bases = [I4, record(), plain(b'|O'), plain(b'>m8[us]'), plain(b'<U3'), record((b'a', I4), (b'bc', array([2, 3], plain(b'|S5')))),
+             record((b'', record((b'x', plain(b'<f8')))), (b'y', record())), record((b'a', array([0], record((b'b', plain(b'|O'))))))]
     for base in bases:
         table, names = writer.numbers_of(base), writer.names_of(base)
         for place, number in enumerate(table):
