@@ -10,6 +10,9 @@ import automaton
 import rule
 
 MOST = 2 ** 64 - 1
+# The limits of 4, 13 and 20, and the rule for type strings; tests/npyz/compare-read puts others in their places to tell what npyz does.
+MOST_TEXT, MOST_DIMENSIONS, MOST_ENTRIES, MOST_NAMES = 131_072, 32, 512, 65_536
+type_string = rule.type_string
 
 
 class Refused(Exception):
@@ -38,7 +41,7 @@ class Entry:
 
 
 class Record:
-    """table, names (decoded, end to end), shape, fortran; and beside the record version (a pair) and data, where the data starts."""
+    """dtype (a Type), table, names (decoded, end to end), shape, fortran; and beside the record version (a pair) and data, where the data starts."""
 
     def count(self):
         return product(self.shape)
@@ -73,7 +76,7 @@ def preamble(file):
     if len(file) < start:
         refuse(3)
     length = int.from_bytes(file[8:start], 'little')
-    if length > 131_072:
+    if length > MOST_TEXT:
         refuse(4)
     return version, start, start + length
 
@@ -104,7 +107,7 @@ def descr(value, late):
     """The type of a descr, judged "depth first, left to right, each field as item count, name, inner descr, sub-shape". A sub-shape of over 32 dimensions is put into
     `late`, since its 13 comes after the whole descr."""
     if isinstance(value, bytes):
-        read = rule.type_string(value.raw)
+        read = type_string(value.raw)
         return refuse(read) if isinstance(read, int) else Type('plain', read)
     if not is_list(value):
         refuse(14)
@@ -114,7 +117,7 @@ def descr(value, late):
             refuse(14)
         found = descr(field[1], late)
         shape = dimensions(field[2]) if len(field) == 3 else []
-        if len(shape) > 32:
+        if len(shape) > MOST_DIMENSIONS:
             late.append(13)
             shape = []
         # "Sub-shape (2,3) means 2 of 3 of the type"
@@ -150,15 +153,15 @@ def record_of(value):
     if record.fortran is not True and record.fortran is not False:
         refuse(10)
     record.shape = dimensions(of(b'shape'))
-    if len(record.shape) > 32:
+    if len(record.shape) > MOST_DIMENSIONS:
         refuse(13)
     late = []
     found = descr(of(b'descr'), late)
     if late:
         refuse(13)
-    record.table = table_of(found)
+    record.dtype, record.table = found, table_of(found)
     record.names = b''.join(entry.name for entry in record.table if entry.name is not None)
-    if len(record.table) > 512 or len(record.names) > 65_536:
+    if len(record.table) > MOST_ENTRIES or len(record.names) > MOST_NAMES:
         refuse(20)
     # "no `O`, and some entry's size over 2^64-1"
     if not any(entry.kind == 'plain' and entry.what[1] == b'O' for entry in record.table) and any(entry.size > MOST for entry in record.table):
@@ -198,11 +201,8 @@ def quoted(name):
     return b"'" + name.replace(b'\\', b'\\\\').replace(b"'", b"\\'").replace(b'\r', b'\\r').replace(b'\n', b'\\n') + b"'"
 
 
-def listing(file):
-    """What the small program writes for a file."""
-    record = read(file, name_bytes=16_384, held=65_536)
-    if isinstance(record, int):
-        return b'refused %d\n' % record
+def lines_of(record):
+    """The lines of a record's listing."""
     numbers = lambda word, members: ' '.join([word] + [str(n) for n in members])
     size = record.item_size()
     lines = ['version %d.%d' % record.version, 'order ' + ('F' if record.fortran else 'C'), numbers('shape', record.shape), numbers('strides', record.strides()),
@@ -212,4 +212,15 @@ def listing(file):
         what = rule.printed(entry.what) if entry.kind == 'plain' else entry.what
         line = f'{number} {"-" if entry.parent is None else entry.parent} {entry.kind} {what}'.encode()
         out.append(line + (b' ' + quoted(entry.name) if entry.name is not None else b''))
-    return b'\n'.join(out) + b'\n'
+    return out
+
+
+def line(found):
+    """The record, or the refusal, in one line."""
+    return b'refused %d' % found if isinstance(found, int) else b'; '.join(lines_of(found))
+
+
+def listing(file):
+    """What the small program writes for a file."""
+    record = read(file, name_bytes=16_384, held=65_536)
+    return b'refused %d\n' % record if isinstance(record, int) else b'\n'.join(lines_of(record)) + b'\n'
