@@ -3,14 +3,14 @@
 use Prim.Native.Nat.{ℕ, zero, suc, _+_, _-_, _<_, _≤_}
 use native.Mathlib.Nat.{not-suc-le-zero}
 use native.Mathlib.Omega.{arith}
-use mathlib.Core.Path.{_≡_, refl, sym, ap, subst, _∙_}
+use mathlib.Core.Path.{_≡_, refl, ap, subst}
 use mathlib.Core.List.{List, [], _∷_}
-use mathlib.Core.Bool.{Bool, true, false, cond}
+use mathlib.Core.Bool.{Bool, true, false}
 use lib.ListN.{length}
-use lib.Dec.{eqb, lit<}
+use lib.Dec.{eqb}
 use borrow.Author.Tests.{eqb-true}
-use Rattle.literal.proofs.Ends.{Ahead, GapAhead, gap-ahead, then-ahead}
-use Rattle.literal.proofs.Steps.{gapLeft, gap-falls}
+use Rattle.literal.proofs.Ends.{Ahead, then-ahead}
+use Rattle.literal.proofs.Steps.{gapLeft, gap-enough, gap-falls}
 use Rattle.literal.specs.Got.{Got, got, fault, deep, pos, with}
 use Rattle.literal.specs.Text.{byteAt, skip}
 use Rattle.literal.specs.Brackets.{gapAt, thenAt, needAt, items, listBy, tupleBy}
@@ -82,12 +82,7 @@ module _ {A : Type 0} (rd : ℕ → Got A) (s : List ℕ) (close : ℕ) where
 
     pub list-row : (at : ℕ) (vs : List A) (e : ℕ) → Row rd s close vs (gapAt s at close) e → listBy rd s at close ≡ got vs e
     unfolding listBy
-    list-row at vs e h = read-row (length s + 2) (gapAt s at close) vs e (enough (gapAt s at close)) h
-      where
-        enough : (g : Gap) → gapLeft (length s) g < length s + 2
-        enough (Shut p) = omega arith
-        enough (Item p) = omega arith
-        enough (Stray p) = omega arith
+    list-row at vs e h = read-row (length s + 2) (gapAt s at close) vs e (gap-enough (length s) (gapAt s at close)) h
 
 -- ---- a tuple's items stand as a list's: where its comma stands, `thenAt` finds it too
 comma : (s : List ℕ) (q e : ℕ) → needAt s q 44 ≡ Value e → gapAt s e 41 ≡ thenAt s q 41

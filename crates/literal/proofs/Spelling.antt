@@ -3,17 +3,17 @@
 use Prim.Native.Nat.{ℕ, zero, suc, _+_, _-_, _<_, _≤_}
 use native.Mathlib.Nat.{not-suc-le-zero}
 use native.Mathlib.Omega.{arith}
-use mathlib.Core.Path.{_≡_, refl, sym, ap, subst, _∙_}
+use mathlib.Core.Path.{_≡_, refl, ap, subst, _∙_}
 use mathlib.Core.List.{List, [], _∷_, _++_, append-assoc, append-nil}
-use mathlib.Core.Bool.{Bool, true, false, _||_, cond, or-assoc, or-false}
+use mathlib.Core.Bool.{Bool, true, false, _||_, or-assoc, or-false}
 use lib.ListN.{length, length-append}
 use lib.Dec.{eqb, ltb}
 use borrow.Author.Tests.{ltb-true}
 use denote.Enum.Declared.{tagOf}
 use types.Run.{OneOf, miss}
-use Rattle.grammar.specs.Bytes.{isBreak, isEscape, unescape}
+use Rattle.grammar.specs.Bytes.{isBreak, isEscape}
 use Rattle.literal.proofs.strings.Piece.{the-type}
-use Rattle.literal.proofs.Positions.{pass-in}
+use Rattle.literal.proofs.Positions.{by-test, pass-in}
 use Rattle.literal.specs.Text.{byteAt}
 use Rattle.literal.specs.Strings.{escapeAt, pieceBy, pieceAt, Spelled, ends, heard, pieces, spelled}
 use Rattle.literal.specs.declared.Parsed.{Parsed}
@@ -26,10 +26,6 @@ abbrev pub PieceAhead : ℕ → ℕ → Piece → Type 0
 PieceAhead lo hi (Close p) = (lo < p) × (p ≤ hi)
 PieceAhead lo hi (Byte b p) = (lo < p) × (p ≤ hi)
 PieceAhead lo hi (Bad p) = Unit {0}
-
-by-test : (P : Piece → Type 0) (t : Bool) {x y : Piece} → (t ≡ true → P x) → (t ≡ false → P y) → P (cond t x y)
-by-test P true h k = h refl
-by-test P false h k = k refl
 
 piece-from : (lo mid hi : ℕ) (p : Piece) → lo ≤ mid → PieceAhead mid hi p → PieceAhead lo hi p
 piece-from lo mid hi (Close p) le h = omega arith

@@ -9,7 +9,7 @@ use Rattle.grammar.specs.Bytes.{isBreak, isEscape, unescape}
 use Rattle.literal.specs.Got.{Got, giving}
 use Rattle.literal.specs.Text.{byteAt}
 use Rattle.literal.specs.declared.Parsed.{Parsed}
-use Rattle.literal.specs.declared.Parsed.the-variants.{Value, Fault, Deep}
+use Rattle.literal.specs.declared.Parsed.the-variants.{Value, Fault}
 use Rattle.literal.specs.declared.strings.Piece.{Piece}
 use Rattle.literal.specs.declared.strings.Piece.the-variants.{Close, Byte, Bad}
 use Rattle.literal.specs.declared.strings.Scan.{Scan}

@@ -1,12 +1,11 @@
 -- The invariant: the string is the bytes passed, and then its pieces from `at` on; the bytes passed, n of them, are stored. Assumes nothing.
 use mathlib.Core.Path.{_≡_, refl, sym, ap, subst, _∙_}
 use native.Mathlib.Omega.{arith}
-use Prim.Native.Nat.{ℕ, _+_, _-_, _<_, _≤_}
+use Prim.Native.Nat.{ℕ, _-_}
 use mathlib.Core.Bool.{Bool, false}
-use mathlib.Core.List.{List, [], _∷_, _++_}
-use lib.ListN.{length, length-append, length-set, set}
+use mathlib.Core.List.{List, []}
+use lib.ListN.{length, length-append}
 use lib.Seq.{sets, length-sets}
-use Rattle.literal.specs.Strings.{pieceAt}
 use Rattle.literal.specs.declared.strings.Piece.{Piece}
 use borrow.Author.Needs.{needs}
 use Rattle.literal.proofs.Spelling.{PieceAhead, piece-ahead, Along, along-start, along-stop, along-byte}

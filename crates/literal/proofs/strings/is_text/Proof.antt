@@ -1,11 +1,11 @@
 -- The invariant: the string is the bytes passed, and then its pieces from `at` on; the bytes passed are the first i of the key. Assumes nothing.
-use mathlib.Core.Path.{_≡_, refl, sym, ap, subst, _∙_}
+use mathlib.Core.Path.{refl, sym, ap, subst, _∙_}
 use native.Mathlib.Omega.{arith}
-use Prim.Native.Nat.{ℕ, _-_, _<_, _≤_}
+use Prim.Native.Nat.{ℕ, _-_, _≤_}
 use mathlib.Core.Bool.{Bool, false}
-use mathlib.Core.List.{List, [], _∷_, _++_}
+use mathlib.Core.List.{List, []}
 use lib.ListN.{length}
-use Rattle.literal.specs.Strings.{pieceAt, same, Spelled}
+use Rattle.literal.specs.Strings.{same, Spelled}
 use Rattle.literal.specs.declared.strings.Piece.{Piece}
 use borrow.Author.Needs.{needs}
 use Rattle.literal.proofs.Spelling.{PieceAhead, piece-ahead, Along, along-start, along-stop, along-byte}

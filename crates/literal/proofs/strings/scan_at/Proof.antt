@@ -1,16 +1,12 @@
 -- The invariant: the string is the bytes passed, and then its pieces from `at` on; `len` and `escape` tell of those bytes. Assumes nothing.
 use mathlib.Core.Path.{_≡_, refl, sym, ap, subst, _∙_}
 use native.Mathlib.Omega.{arith}
-use Prim.Native.Nat.{_-_, _<_}
-use mathlib.Core.Bool.{Bool, false, _||_}
+use Prim.Native.Nat.{_-_}
 use mathlib.Core.List.{List, [], _∷_, _++_}
 use Prim.Native.Nat.{ℕ, _+_}
 use lib.ListN.{length, length-append}
-use lib.Dec.{eqb}
-use Rattle.literal.specs.Text.{byteAt}
-use Rattle.literal.specs.Strings.{pieceAt, scanned}
+use Rattle.literal.specs.Strings.{scanned}
 use Rattle.literal.specs.declared.strings.Piece.{Piece}
-use Rattle.literal.specs.declared.strings.Piece.the-variants.{Byte}
 use borrow.Author.Needs.{needs}
 use Rattle.literal.proofs.Spelling.{PieceAhead, piece-ahead, Along, along-start, along-close, along-bad, along-byte}
 use Rattle.literal.proofs.strings.scan_at.Statement.{statement}
