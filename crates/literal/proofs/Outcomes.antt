@@ -5,12 +5,13 @@ use mathlib.Core.List.{List}
 use mathlib.Core.Bool.{Bool}
 use lib.ListN.{length}
 use lib.Seq.{sets}
+use Rattle.counts.specs.Same.{same}
 use Rattle.counts.specs.OneOutcome.{OneOutcome}
 use Rattle.counts.proofs.OneOutcome.{by-equation, beside}
 use Rattle.grammar.specs.Bytes.{unescape}
 use Rattle.literal.specs.Got.{pos}
 use Rattle.literal.specs.Text.{byteAt, kindOf, past}
-use Rattle.literal.specs.Strings.{pieceAt, spelled, scanned, same}
+use Rattle.literal.specs.Strings.{pieceAt, spelled, scanned}
 use Rattle.literal.specs.Tokens.{naturalAt, tokenAt}
 use Rattle.literal.specs.Brackets.{gapAt, thenAt, needAt, endedAt, keyBy, listBy}
 use Rattle.literal.specs.Literal.{value, literalOf}

@@ -2,7 +2,7 @@
 -- an opening quote, piece by piece: a piece is a byte as it stands, or an escape. Definitions only. Assumes nothing.
 use Prim.Native.Nat.{ℕ, zero, suc, _+_}
 use mathlib.Core.List.{List, [], _∷_}
-use mathlib.Core.Bool.{Bool, true, false, _||_, cond}
+use mathlib.Core.Bool.{Bool, false, _||_, cond}
 use lib.ListN.{length}
 use lib.Dec.{eqb, ltb}
 use Rattle.grammar.specs.Bytes.{isBreak, isEscape, unescape}
@@ -59,10 +59,3 @@ stringAt q s at = giving (λ e. spelled q s at .bytes) (spelled q s at .ended)
 -- what a scan of it tells
 abbrev pub scanned : Spelled → Scan
 scanned r = record { ended = r .ended; len = length (r .bytes); escape = r .escape }
-
--- the two lists hold the same bytes
-unfoldable pub same : List ℕ → List ℕ → Bool
-same [] [] = true
-same [] (y ∷ ys) = false
-same (x ∷ xs) [] = false
-same (x ∷ xs) (y ∷ ys) = cond (eqb x y) (same xs ys) false

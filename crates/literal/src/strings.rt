@@ -3,7 +3,8 @@
 ghost use mathlib.Core.Path.{_≡_};
 ghost use lib.ListN.{length, set};
 ghost use lib.Seq.{sets};
-ghost use Rattle.literal.specs.Strings.{escapeAt, pieceAt, spelled, scanned, same};
+ghost use Rattle.literal.specs.Strings.{escapeAt, pieceAt, spelled, scanned};
+ghost use Rattle.counts.specs.Same.{same};
 use super::Parsed;
 use super::bytes::is_break;
 use super::bytes::is_escape;

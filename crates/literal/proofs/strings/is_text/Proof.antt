@@ -5,7 +5,8 @@ use Prim.Native.Nat.{ℕ, _-_, _≤_}
 use mathlib.Core.Bool.{Bool, false}
 use mathlib.Core.List.{List, []}
 use lib.ListN.{length}
-use Rattle.literal.specs.Strings.{same, Spelled}
+use Rattle.counts.specs.Same.{same}
+use Rattle.literal.specs.Strings.{Spelled}
 use Rattle.literal.specs.declared.strings.Piece.{Piece}
 use borrow.Author.Needs.{needs}
 use Rattle.literal.proofs.Spelling.{PieceAhead, piece-ahead, Along, along-start, along-stop, along-byte}
