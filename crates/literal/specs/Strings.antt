@@ -39,7 +39,7 @@ ends r = record { bytes = []; escape = false; ended = r }
 abbrev pub heard : ℕ → Bool → Spelled → Spelled
 heard b e r = record { bytes = b ∷ r .bytes; escape = e || r .escape; ended = r .ended }
 
--- at most m pieces
+-- the pieces from a position on, fewer than m
 unfoldable pub pieces : ℕ → ℕ → List ℕ → ℕ → Spelled
 pieces zero q s at = ends (Fault at)
 pieces (suc m) q s at = elim (pieceAt q s at) [

@@ -41,6 +41,7 @@ fn escape_at(text: &[u8], at: usize) -> Piece
     }
 }
 
+// The piece that stands at a position: the closing quote, a byte as it stands, or an escape.
 pub fn piece_at(text: &[u8], at: usize, quote: u8) -> Piece
     ensures { λ r. ⌜ r ≡ pieceAt quote (now (text .entry)) at ⌝ }
 {
@@ -60,6 +61,7 @@ pub fn piece_at(text: &[u8], at: usize, quote: u8) -> Piece
     Piece::Byte(b, at + 1)
 }
 
+// Passes over a string, up to its end or its fault.
 pub fn scan_at(text: &[u8], from: usize, quote: u8) -> Scan
     ensures { λ r. ⌜ r ≡ scanned (spelled quote (now (text .entry)) from) ⌝ }
 {
@@ -72,15 +74,15 @@ pub fn scan_at(text: &[u8], from: usize, quote: u8) -> Scan
             Piece::Close(e) => {
                 return Scan {
                     ended: Parsed::Value(e),
-                    len: len,
-                    escape: escape,
+                    len,
+                    escape,
                 };
             }
             Piece::Bad(e) => {
                 return Scan {
                     ended: Parsed::Fault(e),
-                    len: len,
-                    escape: escape,
+                    len,
+                    escape,
                 };
             }
             Piece::Byte(_, e) => {

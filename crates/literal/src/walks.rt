@@ -44,6 +44,7 @@ pub fn count_items(text: &[u8], from: usize, close: u8, room: usize) -> Count
     }
 }
 
+// The count of a bracket that ends at a gap where no item stands, behind n items.
 fn counted(g: Gap, n: usize) -> Count
     ensures { λ r. ⌜ r ≡ countAt g n ⌝ }
 {
@@ -54,6 +55,7 @@ fn counted(g: Gap, n: usize) -> Count
     }
 }
 
+// The sign of the integer that stands at a position, and its digits.
 pub fn integer_at(text: &[u8], at: usize) -> Integer
     ensures { λ r. ⌜ r ≡ integerAt (now (text .entry)) at ⌝ }
 {
@@ -65,6 +67,7 @@ pub fn integer_at(text: &[u8], at: usize) -> Integer
     }
 }
 
+// An integer whose digits begin at `from`, by how they were read.
 fn digits_to(minus: bool, from: usize, r: Parsed) -> Integer
     ensures { λ x. ⌜ x ≡ digitsTo minus from r ⌝ }
 {
