@@ -54,6 +54,9 @@ piece-ahead q s at = by-test P (ltb at (length s)) (λ h. inside (ltb-true at (l
         (λ h. by-test P (eqb (byteAt s at) 92) (λ h. piece-from at (at + 1) (length s) (escapeAt s (at + 1)) (omega arith) (escape-ahead s (at + 1)))
         (λ h. omega arith)))
 
+pub byte-ahead : (q : ℕ) (s : List ℕ) (at b p : ℕ) → pieceAt q s at ≡ Byte b p → (at < p) × (p ≤ length s)
+byte-ahead q s at b p h = subst (λ (x : Piece). PieceAhead at (length s) x) h (piece-ahead q s at)
+
 -- ---- a string is the bytes us, of which some are escapes where e says so, and then the pieces of r
 abbrev pub after : List ℕ → Bool → Spelled → Spelled
 after us e r = record { bytes = us ++ r .bytes; escape = e || r .escape; ended = r .ended }
@@ -104,7 +107,7 @@ module _ (q : ℕ) (s : List ℕ) (from : ℕ) where
     }
 
     pub along-byte : (b p : ℕ) → Along q s from at us e → pieceAt q s at ≡ Byte b p → Along q s from p (us ++ b ∷ []) (e || eqb (byteAt s at) 92)
-    along-byte b p w h = byte-by (w .bound) b p (w .enough) (w .rest) (w .far) h (subst (λ (x : Piece). PieceAhead at (length s) x) h (piece-ahead q s at))
+    along-byte b p w h = byte-by (w .bound) b p (w .enough) (w .rest) (w .far) h (byte-ahead q s at b p h)
 
     -- what the `else` of `let Piece::Byte(b, e) = p else { .. }` knows: the string has no more bytes
     pub along-stop : (p : Piece) → Along q s from at us e → pieceAt q s at ≡ p → OneOf (0 ∷ 2 ∷ []) (tagOf the-type p) → spelled q s from .bytes ≡ us
