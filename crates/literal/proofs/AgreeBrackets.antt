@@ -7,9 +7,8 @@ use mathlib.Core.List.{List, [], _∷_, map}
 use mathlib.Core.Bool.{Bool, true, false, _&&_}
 use lib.ListN.{length, drop, length-drop}
 use lib.Dec.{eqb, lit<}
-use borrow.Author.Tests.{eqb-true, eq-eqb, ne-eqb}
+use borrow.Author.Tests.{eqb-true, ne-eqb}
 use Rattle.grammar.specs.Bytes.{isBlank}
-use Rattle.grammar.specs.Value as value
 use Rattle.grammar.specs.Value.{Value, Item as DictItem}
 use Rattle.grammar.specs.Promise as promise
 use Rattle.grammar.proofs.Layers.{item}
@@ -18,16 +17,13 @@ use Rattle.grammar.proofs.Reading as reading
 use Rattle.grammar.proofs.Reading.{Read, parted, upTo, paired}
 use Rattle.literal.proofs.Positions.{byte-in, past-from}
 use Rattle.literal.proofs.Ends.{Ahead, past-within}
-use Rattle.literal.proofs.Steps.{gapLeft}
-use Rattle.literal.proofs.Left.{skip-left, tail-left, head-skipped, Here, Agrees, agrees-with, here-skip, here-skipped}
+use Rattle.literal.proofs.Left.{skip-left, tail-left, head-skipped, Agrees, agrees-with, here-skip, here-skipped}
 use Rattle.literal.specs.Node.{Node, Pair, pair}
 use Rattle.literal.specs.Forget.{forget}
 use Rattle.literal.specs.Got.{Got, got, fault, deep, pos, with}
 use Rattle.literal.specs.Text.{byteAt, skip}
 use Rattle.literal.specs.Brackets.{gapAt, thenAt, needAt, items, listBy, tupleBy, keyBy, pairBy}
 use Rattle.literal.specs.declared.Parsed.the-variants.{Value as Ends, Fault, Deep}
-use Rattle.literal.specs.declared.gaps.Gap.{Gap}
-use Rattle.literal.specs.declared.gaps.Gap.the-variants.{Shut, Item, Stray}
 
 -- the byte behind blanks, as both readings ask for it
 head-test : (s : List ℕ) (p c : ℕ) {t : Bool} → eqb (byteAt s (skip s p)) c ≡ t → eqb (headOf (reading.skip (drop p s))) c ≡ t

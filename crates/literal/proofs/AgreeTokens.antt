@@ -3,34 +3,29 @@ use Prim.Native.Nat.{ℕ, zero, suc, _+_, _-_, _<_, _≤_}
 use native.Mathlib.Nat.{not-suc-le-zero}
 use native.Mathlib.Omega.{arith}
 use native.Mathlib.Decide.{decLt}
-use mathlib.Core.Path.{_≡_, refl, sym, ap, subst, _∙_}
+use mathlib.Core.Path.{_≡_, refl, sym, ap, _∙_}
 use mathlib.Core.List.{List, [], _∷_}
-use mathlib.Core.Bool.{Bool, true, false, cond}
-use lib.ListN.{length, take, drop, drop-of-length-le, List·getD-eq-default}
-use lib.Dec.{eqb, ltb, lit<}
+use mathlib.Core.Bool.{Bool, true, false}
+use lib.ListN.{length, drop, drop-of-length-le, List·getD-eq-default}
+use lib.Dec.{eqb, lit<}
 use borrow.Author.Tests.{eqb-true, lt-ltb, le-ltb}
 use Rattle.grammar.specs.Bytes.{isBreak, isEscape, unescape}
-use Rattle.grammar.specs.Value as value
 use Rattle.grammar.specs.Value.{Value}
-use Rattle.grammar.specs.Promise as promise
-use Rattle.grammar.proofs.Texts.{headOf, tailOf}
-use Rattle.grammar.proofs.Reading as reading
+use Rattle.grammar.proofs.Texts.{headOf}
 use Rattle.grammar.proofs.Reading.{natural, word, quoted}
 use Rattle.decimal.specs.Decimal.{isDigit, decimal, decimalFrom}
 use Rattle.literal.proofs.Positions.{byte-in, class-in, past-more}
 use Rattle.literal.proofs.Ends.{Bytes, past-within}
-use Rattle.literal.proofs.Left.{head-left, tail-left, drop-left, digits-left, digits-part, Here, Agrees, agrees-with, here-next}
+use Rattle.literal.proofs.Left.{head-left, tail-left, drop-left, digits-left, digits-part, Agrees, agrees-with, here-next}
 use Rattle.literal.specs.Node.{Node}
 use Rattle.literal.specs.Forget.{forget}
-use Rattle.literal.specs.Got.{Got, got, fault, deep, with, giving}
+use Rattle.literal.specs.Got.{Got, with, giving}
 use Rattle.literal.specs.Text.{byteAt, part, past}
-use Rattle.literal.specs.Strings.{escapeAt, pieceBy, pieceAt, Spelled, ends, heard, pieces, spelled, stringAt}
+use Rattle.literal.specs.Strings.{escapeAt, pieceAt, Spelled, heard, pieces, spelled, stringAt}
 use Rattle.literal.specs.Tokens.{naturalAt, wordAt}
 use Rattle.literal.specs.declared.Parsed.{Parsed}
 use Rattle.literal.specs.declared.Parsed.the-variants.{Value as Ends, Fault, Deep}
 use Rattle.literal.specs.declared.bytes.Class.the-variants.{Digits}
-use Rattle.literal.specs.declared.strings.Piece.{Piece}
-use Rattle.literal.specs.declared.strings.Piece.the-variants.{Close, Byte, Bad}
 
 abbrev pub as-read : {A : Type 0} → A → A
 as-read a = a

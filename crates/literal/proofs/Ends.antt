@@ -1,10 +1,9 @@
 -- Where readings end: a value ends behind its first byte and within the text. Each law follows the definition that it speaks of. Assumes nothing.
 use Prim.Native.Nat.{ℕ, zero, suc, _+_, _-_, _<_, _≤_}
-use native.Mathlib.Nat.{not-suc-le-zero}
 use native.Mathlib.Omega.{arith}
-use mathlib.Core.Path.{_≡_, refl, sym, ap, subst, _∙_}
+use mathlib.Core.Path.{_≡_, refl, sym, subst, _∙_}
 use mathlib.Core.List.{List, [], _∷_}
-use mathlib.Core.Bool.{Bool, true, false, cond}
+use mathlib.Core.Bool.{Bool, true, false}
 use lib.ListN.{length, drop, length-drop}
 use lib.Dec.{eqb, lit<}
 use borrow.Author.Tests.{eqb-true}
@@ -13,7 +12,7 @@ use types.Run.{OneOf, miss}
 use Rattle.grammar.specs.Bytes.{isBlank, isOpen}
 use Rattle.decimal.specs.Decimal.{isDigit}
 use Rattle.literal.proofs.bytes.Kind.{the-type}
-use Rattle.literal.proofs.Positions.{byte-in, class-in, open-in, kind-in, past-from}
+use Rattle.literal.proofs.Positions.{by-test, byte-in, class-in, past-from}
 use Rattle.literal.proofs.Spelling.{PieceAhead, piece-ahead}
 use Rattle.literal.specs.Node.{Node, Pair, span, nodes, pairs, list, tuple, dict, pair}
 use Rattle.literal.specs.Got.{Got, got, fault, deep, pos, with, giving}
@@ -55,10 +54,6 @@ pub ahead-from : (lo mid hi : ℕ) (r : Parsed) → lo ≤ mid → Ahead mid hi 
 ahead-from lo mid hi (Value e) le h = omega arith
 ahead-from lo mid hi (Fault p) le h = tt
 ahead-from lo mid hi (Deep p) le h = tt
-
-by-test : {A : Type 0} (P : A → Type 0) (t : Bool) {x y : A} → (t ≡ true → P x) → (t ≡ false → P y) → P (cond t x y)
-by-test P true h k = h refl
-by-test P false h k = k refl
 
 -- ---- tokens
 run-within : (f : ℕ → Bool) (l : List ℕ) → run f l ≤ length l

@@ -11,3 +11,8 @@ pub mod AgreeTokens
 pub mod AgreeBrackets
 pub mod AgreeValue
 pub mod Meaning
+pub mod Counting
+pub mod Integers
+pub mod Escapes
+pub mod Outcomes
+pub mod Examples

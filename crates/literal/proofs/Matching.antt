@@ -1,16 +1,16 @@
 -- A list of bytes told apart from a given one byte by byte, and stored byte by byte. Assumes nothing.
-use Prim.Native.Nat.{ℕ, zero, suc, _+_, _<_, _≤_}
+use Prim.Native.Nat.{ℕ, suc, _+_, _<_, _≤_}
 use native.Mathlib.Omega.{arith}
 use native.Mathlib.Decide.{decLt}
 use native.Mathlib.Numerals.{add-one}
-use mathlib.Core.Path.{_≡_, refl, sym, ap, _∙_}
+use mathlib.Core.Path.{_≡_, sym, ap, _∙_}
 use mathlib.Core.List.{List, [], _∷_, _++_, append-assoc, append-nil}
-use mathlib.Core.Bool.{true, false}
+use mathlib.Core.Bool.{false, and-true, and-false}
 use lib.ListN.{length, getD, drop, set, drop-of-length-le}
 use lib.Seq.{drop-cons, sets}
 use lib.Dec.{eqb}
 use borrow.Author.Tests.{eq-eqb, ne-eqb}
-use Rattle.literal.specs.Strings.{same}
+use Rattle.counts.specs.Same.{same}
 
 -- the bytes us are the first i of the key
 abbrev pub Matches : List ℕ → List ℕ → ℕ → Type 0
@@ -18,7 +18,6 @@ Matches us key i = (r : List ℕ) → same (us ++ r) key ≡ same r (drop i key)
 
 module _ (us key : List ℕ) (i : ℕ) (h : Matches us key i) where
   pub match-end : i ≤ length key → eqb i (length key) ≡ same us key
-  unfolding same
   match-end le = sym (ap (λ (l : List ℕ). same l key) (sym (append-nil us)) ∙ h [] ∙ tail)
     where
       whole : length key ≤ i → same [] (drop i key) ≡ eqb i (length key)
@@ -32,19 +31,16 @@ module _ (us key : List ℕ) (i : ℕ) (h : Matches us key i) where
 
   module _ (b : ℕ) (x : List ℕ) where
     next : same ((us ++ b ∷ []) ++ x) key ≡ same (b ∷ x) (drop i key)
-    next = ap (λ (l : List ℕ). same l key) (simp append-assoc) ∙ h (b ∷ x)
+    next = let e : (us ++ b ∷ []) ++ x ≡ us ++ b ∷ x = simp append-assoc in ap (λ (l : List ℕ). same l key) e ∙ h (b ∷ x)
 
     pub match-short : length key ≤ i → false ≡ same ((us ++ b ∷ []) ++ x) key
-    unfolding same
     match-short le = sym (next ∙ rw (drop-of-length-le key le))
 
     pub match-other : i < length key → (getD key i 0 ≡ b → ⊥) → false ≡ same ((us ++ b ∷ []) ++ x) key
-    unfolding same
-    match-other lt ne = sym (next ∙ rw (drop-cons key i 0 lt, same, ne-eqb b (getD key i 0) (λ e. ne (sym e))))
+    match-other lt ne = sym (next ∙ rw (drop-cons key i 0 lt, ne-eqb b (getD key i 0) (λ e. ne (sym e)), and-false))
 
   pub match-more : (b : ℕ) → i < length key → getD key i 0 ≡ b → Matches (us ++ b ∷ []) key (i + 1)
-  unfolding same
-  match-more b lt e x = next b x ∙ rw (drop-cons key i 0 lt, same, eq-eqb b (getD key i 0) (sym e), ← add-one i)
+  match-more b lt e x = next b x ∙ rw (drop-cons key i 0 lt, eq-eqb b (getD key i 0) (sym e), and-true, ← add-one i)
 
 sets-more : (old us : List ℕ) (i b : ℕ) → sets old i (us ++ b ∷ []) ≡ set (sets old i us) (i + length us) b
 sets-more old [] i b = simp plus-zero

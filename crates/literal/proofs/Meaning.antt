@@ -12,7 +12,6 @@ use Rattle.grammar.specs.Promise.{PromiseAt, GivesIn}
 use Rattle.grammar.proofs.Reading as reading
 use Rattle.grammar.proofs.Kept.{placed, kept-at, only-kept-at, one-outcome-at}
 use Rattle.literal.proofs.Left.{Agrees}
-use Rattle.literal.proofs.Steps.{thing}
 use Rattle.literal.proofs.AgreeValue.{literal-agrees}
 use Rattle.literal.specs.Node.{Node}
 use Rattle.literal.specs.Got.{Got, got, fault, deep, pos}

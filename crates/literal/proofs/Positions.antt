@@ -5,9 +5,10 @@ use native.Mathlib.Omega.{arith}
 use native.Mathlib.Numerals.{add-one}
 use mathlib.Core.Path.{_≡_, refl, sym, ap, _∙_}
 use mathlib.Core.List.{List, [], _∷_}
-use mathlib.Core.Bool.{Bool, true, false}
+use mathlib.Core.Bool.{Bool, true, false, cond}
 use lib.ListN.{length, getD, drop}
 use Rattle.grammar.specs.Bytes.{isBlank, isQuote, isOpen}
+use Rattle.grammar.proofs.Texts.{true-false}
 use Rattle.decimal.specs.Decimal.{isDigit}
 use Rattle.literal.specs.Text.{byteAt, kindOf, isIn, run, past}
 use Rattle.literal.specs.declared.bytes.Class.{Class}
@@ -27,8 +28,10 @@ byte-in [] i b e h = absurd (omega arith)
 byte-in (x ∷ s) zero b e h = suc-le-suc zero-le
 byte-in (x ∷ s) (suc i) b e h = suc-le-suc (byte-in s i b e h)
 
-true-false : {A : Type 0} → true ≡ false → A
-true-false e = absurd (let z : _≡_ {A = ℕ} 0 1 = cc in omega arith)
+-- by what a test says
+pub by-test : {A : Type 0} (P : A → Type 0) (t : Bool) {x y : A} → (t ≡ true → P x) → (t ≡ false → P y) → P (cond t x y)
+by-test P true h k = h refl
+by-test P false h k = k refl
 
 -- what passes a test that 256 fails stands in the text
 pub pass-in : (f : ℕ → Bool) (s : List ℕ) (i : ℕ) → f 256 ≡ false → f (byteAt s i) ≡ true → i < length s

@@ -5,15 +5,16 @@ use native.Mathlib.Nat.{not-suc-le-zero}
 use native.Mathlib.Omega.{arith}
 use mathlib.Core.Path.{_≡_, refl, sym, ap, subst, _∙_}
 use mathlib.Core.List.{List, [], _∷_}
-use mathlib.Core.Bool.{Bool, true, false, cond}
+use mathlib.Core.Bool.{Bool, true, false}
 use lib.ListN.{length}
-use lib.Dec.{eqb, lit<}
+use lib.Dec.{eqb}
 use borrow.Author.Tests.{eqb-true}
-use Rattle.literal.proofs.Ends.{Ahead, GapAhead, gap-ahead, then-ahead}
-use Rattle.literal.proofs.Steps.{gapLeft, gap-falls}
+use Rattle.literal.proofs.Ends.{Ahead, then-ahead}
+use Rattle.literal.proofs.Steps.{Stops, gapLeft, gap-enough, gap-falls}
+use Rattle.literal.specs.Node.{Node, Pair, pair}
 use Rattle.literal.specs.Got.{Got, got, fault, deep, pos, with}
 use Rattle.literal.specs.Text.{byteAt, skip}
-use Rattle.literal.specs.Brackets.{gapAt, thenAt, needAt, items, listBy, tupleBy}
+use Rattle.literal.specs.Brackets.{gapAt, thenAt, needAt, items, listBy, tupleBy, keyBy, pairBy}
 use Rattle.literal.specs.Rows.{Row}
 use Rattle.literal.specs.declared.Parsed.{Parsed}
 use Rattle.literal.specs.declared.Parsed.the-variants.{Value, Fault, Deep}
@@ -55,6 +56,20 @@ module _ {A : Type 0} (rd : ℕ → Got A) (s : List ℕ) (close : ℕ) where
   row-step [] p e h = absurd h
   row-step (v ∷ us) p e h = (v, us, h .0, refl, h .1, h .2)
 
+  -- the same, where the code's answer for the item is known: the item was read, and the row goes on behind it
+  pub row-next : (vs : List A) (p q e : ℕ) (r : Parsed) → Row rd s close vs (Item p) e → r ≡ pos (rd p) → r ≡ Value q
+      → (v : A) × (us : List A) × (vs ≡ v ∷ us) × (rd p ≡ got v q) × Row rd s close us (thenAt s q close) e
+  row-next [] p q e r h hr hq = absurd h
+  row-next (v ∷ us) p q e r h hr hq =
+      let same : Value q ≡ Value (h .0) = sym hq ∙ hr ∙ ap pos (h .1) in
+      let there : h .0 ≡ q = cc in
+      (v, us, refl, h .1 ∙ ap (got v) there, subst (λ (x : ℕ). Row rd s close us (thenAt s x close) e) there (h .2))
+
+  -- no item of a row is refused
+  pub row-reads : (vs : List A) (p e : ℕ) (r : Parsed) → Row rd s close vs (Item p) e → r ≡ pos (rd p) → Stops r → ⊥
+  row-reads [] p e r h hr st = absurd h
+  row-reads (v ∷ us) p e r h hr st = subst (λ (x : Parsed). Stops x) (hr ∙ ap pos (h .1)) st
+
   pub row-shut : (vs : List A) (p e : ℕ) → Row rd s close vs (Shut p) e → (vs ≡ []) × (p ≡ e)
   row-shut [] p e h = (refl, h)
   row-shut (v ∷ us) p e h = absurd h
@@ -82,12 +97,7 @@ module _ {A : Type 0} (rd : ℕ → Got A) (s : List ℕ) (close : ℕ) where
 
     pub list-row : (at : ℕ) (vs : List A) (e : ℕ) → Row rd s close vs (gapAt s at close) e → listBy rd s at close ≡ got vs e
     unfolding listBy
-    list-row at vs e h = read-row (length s + 2) (gapAt s at close) vs e (enough (gapAt s at close)) h
-      where
-        enough : (g : Gap) → gapLeft (length s) g < length s + 2
-        enough (Shut p) = omega arith
-        enough (Item p) = omega arith
-        enough (Stray p) = omega arith
+    list-row at vs e h = read-row (length s + 2) (gapAt s at close) vs e (gap-enough (length s) (gapAt s at close)) h
 
 -- ---- a tuple's items stand as a list's: where its comma stands, `thenAt` finds it too
 comma : (s : List ℕ) (q e : ℕ) → needAt s q 44 ≡ Value e → gapAt s e 41 ≡ thenAt s q 41
@@ -128,3 +138,54 @@ module _ {A : Type 0} (rd : ℕ → Got A) (s : List ℕ) where
       go (Shut e) hg = rw (tupleBy, hg) refl
       go (Stray p) hg = rw (tupleBy, hg) tt
       go (Item p) hg = rw (tupleBy, hg) (first-row p (rd p) refl)
+
+-- ---- a pair that was read: its key, and its value where the key's reading says
+module _ (rd : ℕ → Got Node) (s : List ℕ) where
+  abbrev PairGot : ℕ → Got Pair → Type 0
+  PairGot at (got e q) = (p : ℕ) × (keyBy rd s at ≡ got (e .key) p) × (rd p ≡ got (e .value) q)
+  PairGot at (fault a) = Unit {0}
+  PairGot at (deep a) = Unit {0}
+
+  pair-got : (at : ℕ) → PairGot at (pairBy rd s at)
+  unfolding pairBy with
+  pair-got at = go (keyBy rd s at) refl
+    where
+      valued : (k : Node) (p : ℕ) → keyBy rd s at ≡ got k p → (r : Got Node) → rd p ≡ r → PairGot at (with (λ e. pair k) r)
+      valued k p hk (got v q) hr = (p, hk, hr)
+      valued k p hk (fault a) hr = tt
+      valued k p hk (deep a) hr = tt
+
+      go : (g : Got Node) → keyBy rd s at ≡ g → PairGot at (elim g [ got k p ↦ with (λ e. pair k) (rd p) | fault a ↦ fault a | deep a ↦ deep a ])
+      go (got k p) hk = valued k p hk (rd p) refl
+      go (fault a) hk = tt
+      go (deep a) hk = tt
+
+  pub pair-parts : (at q : ℕ) (e : Pair) → pairBy rd s at ≡ got e q → (p : ℕ) × (keyBy rd s at ≡ got (e .key) p) × (rd p ≡ got (e .value) q)
+  pair-parts at q e h = subst (PairGot at) h (pair-got at)
+
+  abbrev KeyGot : ℕ → Got Node → Type 0
+  KeyGot at (got k p) = (q : ℕ) × (rd at ≡ got k q)
+  KeyGot at (fault a) = Unit {0}
+  KeyGot at (deep a) = Unit {0}
+
+  key-got : (at : ℕ) → KeyGot at (keyBy rd s at)
+  unfolding keyBy
+  key-got at = go (rd at) refl
+    where
+      colon : (k : Node) (q : ℕ) → rd at ≡ got k q → (r : Parsed) → KeyGot at (elim r [ Value e ↦ got k (skip s e) | Fault a ↦ fault a | Deep a ↦ deep a ])
+      colon k q hr (Value e) = (q, hr)
+      colon k q hr (Fault a) = tt
+      colon k q hr (Deep a) = tt
+
+      go : (g : Got Node) → rd at ≡ g → KeyGot at (elim g [
+        | got k q ↦ elim (needAt s q 58) [ Value e ↦ got k (skip s e) | Fault a ↦ fault a | Deep a ↦ deep a ]
+        | fault a ↦ fault a
+        | deep a ↦ deep a
+      ])
+      go (got k q) hr = colon k q hr (needAt s q 58)
+      go (fault a) hr = tt
+      go (deep a) hr = tt
+
+  -- a key that was read is a value that stands there
+  pub key-stands : (at p : ℕ) (k : Node) → keyBy rd s at ≡ got k p → (q : ℕ) × (rd at ≡ got k q)
+  key-stands at p k h = subst (KeyGot at) h (key-got at)

@@ -3,17 +3,17 @@
 use Prim.Native.Nat.{ℕ, zero, suc, _+_, _-_, _<_, _≤_}
 use native.Mathlib.Nat.{not-suc-le-zero}
 use native.Mathlib.Omega.{arith}
-use mathlib.Core.Path.{_≡_, refl, sym, ap, subst, _∙_}
+use mathlib.Core.Path.{_≡_, refl, ap, subst, _∙_}
 use mathlib.Core.List.{List, [], _∷_, _++_, append-assoc, append-nil}
-use mathlib.Core.Bool.{Bool, true, false, _||_, cond, or-assoc, or-false}
+use mathlib.Core.Bool.{Bool, true, false, _||_, or-assoc, or-false}
 use lib.ListN.{length, length-append}
 use lib.Dec.{eqb, ltb}
 use borrow.Author.Tests.{ltb-true}
 use denote.Enum.Declared.{tagOf}
 use types.Run.{OneOf, miss}
-use Rattle.grammar.specs.Bytes.{isBreak, isEscape, unescape}
+use Rattle.grammar.specs.Bytes.{isBreak, isEscape}
 use Rattle.literal.proofs.strings.Piece.{the-type}
-use Rattle.literal.proofs.Positions.{pass-in}
+use Rattle.literal.proofs.Positions.{by-test, pass-in}
 use Rattle.literal.specs.Text.{byteAt}
 use Rattle.literal.specs.Strings.{escapeAt, pieceBy, pieceAt, Spelled, ends, heard, pieces, spelled}
 use Rattle.literal.specs.declared.Parsed.{Parsed}
@@ -26,10 +26,6 @@ abbrev pub PieceAhead : ℕ → ℕ → Piece → Type 0
 PieceAhead lo hi (Close p) = (lo < p) × (p ≤ hi)
 PieceAhead lo hi (Byte b p) = (lo < p) × (p ≤ hi)
 PieceAhead lo hi (Bad p) = Unit {0}
-
-by-test : (P : Piece → Type 0) (t : Bool) {x y : Piece} → (t ≡ true → P x) → (t ≡ false → P y) → P (cond t x y)
-by-test P true h k = h refl
-by-test P false h k = k refl
 
 piece-from : (lo mid hi : ℕ) (p : Piece) → lo ≤ mid → PieceAhead mid hi p → PieceAhead lo hi p
 piece-from lo mid hi (Close p) le h = omega arith
@@ -57,6 +53,9 @@ piece-ahead q s at = by-test P (ltb at (length s)) (λ h. inside (ltb-true at (l
         (λ h. by-test P (isBreak (byteAt s at)) (λ h. tt)
         (λ h. by-test P (eqb (byteAt s at) 92) (λ h. piece-from at (at + 1) (length s) (escapeAt s (at + 1)) (omega arith) (escape-ahead s (at + 1)))
         (λ h. omega arith)))
+
+pub byte-ahead : (q : ℕ) (s : List ℕ) (at b p : ℕ) → pieceAt q s at ≡ Byte b p → (at < p) × (p ≤ length s)
+byte-ahead q s at b p h = subst (λ (x : Piece). PieceAhead at (length s) x) h (piece-ahead q s at)
 
 -- ---- a string is the bytes us, of which some are escapes where e says so, and then the pieces of r
 abbrev pub after : List ℕ → Bool → Spelled → Spelled
@@ -108,7 +107,7 @@ module _ (q : ℕ) (s : List ℕ) (from : ℕ) where
     }
 
     pub along-byte : (b p : ℕ) → Along q s from at us e → pieceAt q s at ≡ Byte b p → Along q s from p (us ++ b ∷ []) (e || eqb (byteAt s at) 92)
-    along-byte b p w h = byte-by (w .bound) b p (w .enough) (w .rest) (w .far) h (subst (λ (x : Piece). PieceAhead at (length s) x) h (piece-ahead q s at))
+    along-byte b p w h = byte-by (w .bound) b p (w .enough) (w .rest) (w .far) h (byte-ahead q s at b p h)
 
     -- what the `else` of `let Piece::Byte(b, e) = p else { .. }` knows: the string has no more bytes
     pub along-stop : (p : Piece) → Along q s from at us e → pieceAt q s at ≡ p → OneOf (0 ∷ 2 ∷ []) (tagOf the-type p) → spelled q s from .bytes ≡ us

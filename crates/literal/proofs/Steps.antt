@@ -5,9 +5,8 @@ use native.Mathlib.Nat.{not-suc-le-zero}
 use native.Mathlib.Omega.{arith}
 use mathlib.Core.Path.{_≡_, refl, sym, ap, subst, _∙_}
 use mathlib.Core.List.{List, [], _∷_}
-use mathlib.Core.Bool.{Bool, true, false}
+use mathlib.Core.Bool.{true, false}
 use lib.ListN.{length}
-use lib.Dec.{eqb}
 use borrow.Author.Tests.{eq-eqb, ne-eqb}
 use denote.Enum.Declared.{tagOf}
 use types.Run.{OneOf, miss}
@@ -15,8 +14,8 @@ use Rattle.grammar.specs.Bytes.{isOpen}
 use Rattle.literal.proofs.Parsed.{the-type}
 use Rattle.literal.proofs.gaps.Gap as gap
 use Rattle.literal.proofs.Ends.{pos-with, Ahead, GapAhead, gap-from, gap-ahead, then-ahead}
-use Rattle.literal.specs.Node.{Node, span, list, tuple, dict, nodes, pairs}
-use Rattle.literal.specs.Got.{Got, got, fault, deep, pos, with}
+use Rattle.literal.specs.Node.{Node}
+use Rattle.literal.specs.Got.{Got, got, fault, deep, pos}
 use Rattle.literal.specs.Text.{byteAt, skip}
 use Rattle.literal.specs.Tokens.{tokenAt}
 use Rattle.literal.specs.Brackets.{gapAt, thenAt, needAt, endedAt, items, listBy, tupleBy, keyBy, pairBy}
@@ -51,6 +50,11 @@ gapLeft hi (Shut e) = 0
 gapLeft hi (Item p) = hi + 1 - p
 gapLeft hi (Stray p) = 0
 
+pub gap-enough : (hi : ℕ) (g : Gap) → gapLeft hi g < hi + 2
+gap-enough hi (Shut e) = omega arith
+gap-enough hi (Item p) = omega arith
+gap-enough hi (Stray p) = omega arith
+
 pub gap-falls : (p q hi : ℕ) (g : Gap) → p < q → q ≤ hi → GapAhead q hi g → gapLeft hi g < gapLeft hi (Item p)
 gap-falls p q hi (Shut e) lt le h = omega arith
 gap-falls p q hi (Item r) lt le h = omega arith
@@ -62,12 +66,7 @@ module _ {A : Type 0} (rd : ℕ → Got A) (s : List ℕ) (close from : ℕ) whe
 
   pub reach-start : Reach (gapAt s from close)
   unfolding listBy
-  reach-start = (length s + 2, enough (gapAt s from close), refl)
-    where
-      enough : (g : Gap) → gapLeft (length s) g < length s + 2
-      enough (Shut e) = omega arith
-      enough (Item p) = omega arith
-      enough (Stray p) = omega arith
+  reach-start = (length s + 2, gap-enough (length s) (gapAt s from close), refl)
 
   ended-by : (m : ℕ) (g : Gap) → gapLeft (length s) g < m → OneOf (0 ∷ 2 ∷ []) (tagOf gap.the-type g) → pos (items rd s close m g) ≡ endedAt g
   unfolding items

@@ -1,16 +1,15 @@
 -- What a value that was read is, by the kind of its first byte: `view`. Then what each value tells of its place and its first byte. By cases on the
 -- tests that the reading makes, over the whole outcome. Assumes nothing.
-use Prim.Native.Nat.{ℕ, zero, suc, _+_, _-_, _<_, _≤_}
+use Prim.Native.Nat.{ℕ, zero, suc, _+_, _-_, _<_}
 use native.Mathlib.Omega.{arith}
 use mathlib.Core.Path.{_≡_, refl, sym, ap, subst, _∙_}
 use mathlib.Core.List.{List}
 use mathlib.Core.Bool.{Bool, true, false, _||_}
 use lib.Dec.{eqb}
-use borrow.Author.Tests.{eqb-true}
 use Rattle.grammar.specs.Bytes.{isOpen}
 use Rattle.decimal.specs.Decimal.{decimal}
 use Rattle.literal.proofs.Rows.{RowGot, row-list, row-tuple}
-use Rattle.literal.specs.Node.{Node, Pair, Span, span, spanOf, string, integer, True, False, None, list, tuple, dict, nodes, pairs}
+use Rattle.literal.specs.Node.{Node, span, spanOf, string, integer, True, False, None, list, tuple, dict, nodes, pairs}
 use Rattle.literal.specs.Got.{Got, got, fault, deep, with, giving}
 use Rattle.literal.specs.Text.{byteAt, part, kindOf}
 use Rattle.literal.specs.Strings.{Spelled, spelled}

@@ -8,3 +8,4 @@ pub mod Literal
 pub mod Forget
 pub mod Rows
 pub mod Answer
+pub mod Walks

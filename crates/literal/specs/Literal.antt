@@ -2,7 +2,7 @@
 -- "a bracket that may stand there would be the 33rd open". That it reads what the grammar gives, and that a fault stands where document 01 has it, is
 -- proved against crate grammar. Definitions only. Assumes nothing.
 use Prim.Native.Nat.{ℕ, zero, suc, _+_}
-use mathlib.Core.List.{List, [], _∷_}
+use mathlib.Core.List.{List}
 use mathlib.Core.Bool.{true, false}
 use lib.ListN.{length}
 use lib.Dec.{eqb}

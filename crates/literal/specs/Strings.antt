@@ -2,14 +2,14 @@
 -- an opening quote, piece by piece: a piece is a byte as it stands, or an escape. Definitions only. Assumes nothing.
 use Prim.Native.Nat.{ℕ, zero, suc, _+_}
 use mathlib.Core.List.{List, [], _∷_}
-use mathlib.Core.Bool.{Bool, true, false, _||_, cond}
+use mathlib.Core.Bool.{Bool, false, _||_, cond}
 use lib.ListN.{length}
 use lib.Dec.{eqb, ltb}
 use Rattle.grammar.specs.Bytes.{isBreak, isEscape, unescape}
 use Rattle.literal.specs.Got.{Got, giving}
 use Rattle.literal.specs.Text.{byteAt}
 use Rattle.literal.specs.declared.Parsed.{Parsed}
-use Rattle.literal.specs.declared.Parsed.the-variants.{Value, Fault, Deep}
+use Rattle.literal.specs.declared.Parsed.the-variants.{Value, Fault}
 use Rattle.literal.specs.declared.strings.Piece.{Piece}
 use Rattle.literal.specs.declared.strings.Piece.the-variants.{Close, Byte, Bad}
 use Rattle.literal.specs.declared.strings.Scan.{Scan}
@@ -39,7 +39,7 @@ ends r = record { bytes = []; escape = false; ended = r }
 abbrev pub heard : ℕ → Bool → Spelled → Spelled
 heard b e r = record { bytes = b ∷ r .bytes; escape = e || r .escape; ended = r .ended }
 
--- at most m pieces
+-- the pieces from a position on, fewer than m
 unfoldable pub pieces : ℕ → ℕ → List ℕ → ℕ → Spelled
 pieces zero q s at = ends (Fault at)
 pieces (suc m) q s at = elim (pieceAt q s at) [
@@ -59,10 +59,3 @@ stringAt q s at = giving (λ e. spelled q s at .bytes) (spelled q s at .ended)
 -- what a scan of it tells
 abbrev pub scanned : Spelled → Scan
 scanned r = record { ended = r .ended; len = length (r .bytes); escape = r .escape }
-
--- the two lists hold the same bytes
-unfoldable pub same : List ℕ → List ℕ → Bool
-same [] [] = true
-same [] (y ∷ ys) = false
-same (x ∷ xs) [] = false
-same (x ∷ xs) (y ∷ ys) = cond (eqb x y) (same xs ys) false

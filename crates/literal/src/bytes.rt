@@ -6,7 +6,7 @@ ghost use Rattle.decimal.specs.Decimal.{isDigit};
 ghost use Rattle.literal.specs.Text.{byteAt, kindOf, isIn, past, skip};
 
 // The two classes that are passed over in runs.
-pub enum Class {
+enum Class {
     Blank,
     Digits,
 }
@@ -86,6 +86,7 @@ pub fn unescape(b: u8) -> u8
     }
 }
 
+// What a value that begins with the byte is.
 pub fn kind_of(b: u16) -> Kind
     ensures { λ r. ⌜ r ≡ kindOf b ⌝ }
 {
@@ -129,12 +130,14 @@ fn pass(text: &[u8], from: usize, class: Class) -> usize
     at
 }
 
+// The first position from `from` on that holds no blank.
 pub fn blanks(text: &[u8], from: usize) -> usize
     ensures { λ r. ⌜ r ≡ skip (now (text .entry)) from ⌝ }
 {
     pass(text, from, Class::Blank)
 }
 
+// The first position from `from` on that holds no digit.
 pub fn digits(text: &[u8], from: usize) -> usize
     ensures { λ r. ⌜ r ≡ past isDigit (now (text .entry)) from ⌝ }
 {

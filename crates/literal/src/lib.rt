@@ -3,6 +3,7 @@ pub mod bytes;
 pub mod gaps;
 pub mod strings;
 pub mod tokens;
+pub mod walks;
 
 ghost use mathlib.Core.Path.{_≡_};
 ghost use Rattle.literal.specs.Got.{pos};

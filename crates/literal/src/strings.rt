@@ -3,7 +3,8 @@
 ghost use mathlib.Core.Path.{_≡_};
 ghost use lib.ListN.{length, set};
 ghost use lib.Seq.{sets};
-ghost use Rattle.literal.specs.Strings.{escapeAt, pieceAt, spelled, scanned, same};
+ghost use Rattle.literal.specs.Strings.{escapeAt, pieceAt, spelled, scanned};
+ghost use Rattle.counts.specs.Same.{same};
 use super::Parsed;
 use super::bytes::is_break;
 use super::bytes::is_escape;
@@ -40,6 +41,7 @@ fn escape_at(text: &[u8], at: usize) -> Piece
     }
 }
 
+// The piece that stands at a position: the closing quote, a byte as it stands, or an escape.
 pub fn piece_at(text: &[u8], at: usize, quote: u8) -> Piece
     ensures { λ r. ⌜ r ≡ pieceAt quote (now (text .entry)) at ⌝ }
 {
@@ -59,6 +61,7 @@ pub fn piece_at(text: &[u8], at: usize, quote: u8) -> Piece
     Piece::Byte(b, at + 1)
 }
 
+// Passes over a string, up to its end or its fault.
 pub fn scan_at(text: &[u8], from: usize, quote: u8) -> Scan
     ensures { λ r. ⌜ r ≡ scanned (spelled quote (now (text .entry)) from) ⌝ }
 {
@@ -71,15 +74,15 @@ pub fn scan_at(text: &[u8], from: usize, quote: u8) -> Scan
             Piece::Close(e) => {
                 return Scan {
                     ended: Parsed::Value(e),
-                    len: len,
-                    escape: escape,
+                    len,
+                    escape,
                 };
             }
             Piece::Bad(e) => {
                 return Scan {
                     ended: Parsed::Fault(e),
-                    len: len,
-                    escape: escape,
+                    len,
+                    escape,
                 };
             }
             Piece::Byte(_, e) => {

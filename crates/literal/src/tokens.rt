@@ -40,6 +40,7 @@ fn word(text: &[u8], from: usize, known: &[u8]) -> Parsed
     Parsed::Value(at)
 }
 
+// A string, an integer, or one of the three words.
 pub fn token(text: &[u8], at: usize) -> Parsed
     ensures { λ r. ⌜ r ≡ pos (tokenAt (now (text .entry)) at) ⌝ }
 {

@@ -34,7 +34,6 @@ pub tuple-value-requires : (t : ℕ) → tuple-lts.Need-value-requires (tuple-to
 tuple-value-requires t c κs =
     let s = c .before .before .before .before .before .args .text .now in
     let at = c .before .before .before .before .before .args .from in
-    let rd = valueOf (c .before .before .before .before .before .args .room) s in
     let from-p = gap-item s at 41 _ (c .before .before .before .gap-at .result) (lit< tt) (c .before .before .before .gap-at .ensures) (c .before .g .given .1) in
     omega arith
 
@@ -68,7 +67,6 @@ pub tuple-list-requires : (t : ℕ) → tuple-lts.Need-list-requires (tuple-told
 tuple-list-requires t c κs =
     let s = c .before .before .before .before .before .before .before .before .before .before .before .before .before .args .text .now in
     let at = c .before .before .before .before .before .before .before .before .before .before .before .before .before .args .from in
-    let rd = valueOf (c .before .before .before .before .before .before .before .before .before .before .before .before .before .args .room) s in
     let from-p = gap-item s at 41 _ (c .before .before .before .before .before .before .before .before .before .before .before .gap-at .result) (lit< tt) (c .before .before .before .before .before .before .before .before .before .before .before .gap-at .ensures) (c .before .before .before .before .before .before .before .before .before .g .given .1) in
     let p-q = read-ahead _ (length s) _ (c .before .before .before .before .before .before .before .value .result) _ (c .before .before .before .before .before .before .before .value .ensures) (c .before .before .before .before .before .r .given .1) (value-ahead (c .before .before .before .before .before .before .before .before .before .before .before .before .before .args .room) s _) in
     let q-e = read-ahead _ (length s) _ (c .before .before .before .need .result) _ (c .before .before .before .need .ensures) (c .before .c .given .1) (need-ahead s _ 44 (lit< tt)) in

@@ -1,7 +1,4 @@
 -- The class is the one that its arm names. Assumes nothing.
-use mathlib.Core.Path.{ap}
-use mathlib.Core.Path.{_∙_, sym}
-use Rattle.literal.specs.Text.{isIn}
 use borrow.Author.Needs.{needs}
 use Rattle.literal.proofs.bytes.is_in.Statement.{statement}
 use Rattle.literal.proofs.bytes.is_in.Tie as tie

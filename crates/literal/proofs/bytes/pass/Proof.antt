@@ -1,6 +1,6 @@
 -- The invariant: the run from `from` on ends where the run from `at` on ends. A byte of the class stands in the text, since 256 is of neither class.
 -- Assumes nothing.
-use Prim.Native.Nat.{_<_, _≤_, _-_}
+use Prim.Native.Nat.{_-_}
 use mathlib.Core.Path.{_≡_, refl, sym, _∙_}
 use mathlib.Core.Bool.{true, false}
 use native.Mathlib.Omega.{arith}

@@ -1,15 +1,13 @@
 -- The invariant: the string is the bytes passed, and then its pieces from `at` on; the bytes passed, n of them, are stored. Assumes nothing.
-use mathlib.Core.Path.{_≡_, refl, sym, ap, subst, _∙_}
+use mathlib.Core.Path.{_≡_, refl, sym, ap, _∙_}
 use native.Mathlib.Omega.{arith}
-use Prim.Native.Nat.{ℕ, _+_, _-_, _<_, _≤_}
+use Prim.Native.Nat.{ℕ, _-_}
 use mathlib.Core.Bool.{Bool, false}
-use mathlib.Core.List.{List, [], _∷_, _++_}
-use lib.ListN.{length, length-append, length-set, set}
+use mathlib.Core.List.{List, []}
+use lib.ListN.{length, length-append}
 use lib.Seq.{sets, length-sets}
-use Rattle.literal.specs.Strings.{pieceAt}
-use Rattle.literal.specs.declared.strings.Piece.{Piece}
 use borrow.Author.Needs.{needs}
-use Rattle.literal.proofs.Spelling.{PieceAhead, piece-ahead, Along, along-start, along-stop, along-byte}
+use Rattle.literal.proofs.Spelling.{byte-ahead, Along, along-start, along-stop, along-byte}
 use Rattle.literal.proofs.Matching.{stored-more}
 use Rattle.literal.proofs.strings.decode.Statement.{statement}
 use Rattle.literal.proofs.strings.decode.Tie as tie
@@ -31,11 +29,7 @@ enum-known-p c = search needs
 
 same-length : tie.Need-same-length Inv-loop μ-loop
 same-length c =
-    let s = c .before .before .before .before .before .args .text .now in
-    let q = c .before .before .before .before .before .args .quote in
-    let from = c .before .before .before .before .before .args .from in
     let old = c .before .before .before .before .before .args .out .now in
-    let at = c .before .before .loop .at in
     let w = c .before .before .loop .inv in
     ap length (w .4) ∙ length-sets old 0 (w .0)
 
@@ -57,22 +51,18 @@ add-n : tie.Need-add-n Inv-loop μ-loop
 add-n c =
     let s = c .before .before .before .before .before .before .before .before .before .before .before .args .text .now in
     let q = c .before .before .before .before .before .before .before .before .before .before .before .args .quote in
-    let from = c .before .before .before .before .before .before .before .before .before .before .before .args .from in
-    let old = c .before .before .before .before .before .before .before .before .before .before .before .args .out .now in
     let at = c .before .before .before .before .before .before .before .before .loop .at in
     let w = c .before .before .before .before .before .before .before .before .loop .inv in
-    let ahead = subst (λ (x : Piece). PieceAhead at (length s) x) (sym (c .before .before .before .before .before .before .before .piece-at .ensures) ∙ c .before .before .before .before .before .p .given .1) (piece-ahead q s at) in
+    let ahead = byte-ahead q s at _ _ (sym (c .before .before .before .before .before .before .before .piece-at .ensures) ∙ c .before .before .before .before .before .p .given .1) in
     omega (arith, w .3, w .2 .far)
 
 loop-less : tie.Need-loop-less Inv-loop μ-loop
 loop-less c =
     let s = c .before .before .before .before .before .before .before .before .before .before .before .args .text .now in
     let q = c .before .before .before .before .before .before .before .before .before .before .before .args .quote in
-    let from = c .before .before .before .before .before .before .before .before .before .before .before .args .from in
-    let old = c .before .before .before .before .before .before .before .before .before .before .before .args .out .now in
     let at = c .before .before .before .before .before .before .before .before .loop .at in
     let w = c .before .before .before .before .before .before .before .before .loop .inv in
-    let ahead = subst (λ (x : Piece). PieceAhead at (length s) x) (sym (c .before .before .before .before .before .before .before .piece-at .ensures) ∙ c .before .before .before .before .before .p .given .1) (piece-ahead q s at) in
+    let ahead = byte-ahead q s at _ _ (sym (c .before .before .before .before .before .before .before .piece-at .ensures) ∙ c .before .before .before .before .before .p .given .1) in
     omega arith
 
 loop-again : tie.Need-loop-again Inv-loop μ-loop

@@ -1,14 +1,14 @@
 -- The invariant: the string is the bytes passed, and then its pieces from `at` on; the bytes passed are the first i of the key. Assumes nothing.
-use mathlib.Core.Path.{_≡_, refl, sym, ap, subst, _∙_}
+use mathlib.Core.Path.{refl, sym, ap, _∙_}
 use native.Mathlib.Omega.{arith}
-use Prim.Native.Nat.{ℕ, _-_, _<_, _≤_}
+use Prim.Native.Nat.{ℕ, _-_, _≤_}
 use mathlib.Core.Bool.{Bool, false}
-use mathlib.Core.List.{List, [], _∷_, _++_}
+use mathlib.Core.List.{List, []}
 use lib.ListN.{length}
-use Rattle.literal.specs.Strings.{pieceAt, same, Spelled}
-use Rattle.literal.specs.declared.strings.Piece.{Piece}
+use Rattle.counts.specs.Same.{same}
+use Rattle.literal.specs.Strings.{Spelled}
 use borrow.Author.Needs.{needs}
-use Rattle.literal.proofs.Spelling.{PieceAhead, piece-ahead, Along, along-start, along-stop, along-byte}
+use Rattle.literal.proofs.Spelling.{byte-ahead, Along, along-start, along-stop, along-byte}
 use Rattle.literal.proofs.Matching.{Matches, match-end, match-short, match-other, match-more}
 use Rattle.literal.proofs.strings.is_text.Statement.{statement}
 use Rattle.literal.proofs.strings.is_text.Tie as tie
@@ -74,12 +74,9 @@ loop-less : tie.Need-loop-less Inv-loop μ-loop
 loop-less c =
     let s = c .before .before .before .before .before .before .before .before .before .before .args .text .now in
     let q = c .before .before .before .before .before .before .before .before .before .before .args .quote in
-    let from = c .before .before .before .before .before .before .before .before .before .before .args .from in
-    let key = c .before .before .before .before .before .before .before .before .before .before .args .key .now in
     let at = c .before .before .before .before .before .before .before .loop .at in
-    let i = c .before .before .before .before .before .before .before .loop .i in
     let w = c .before .before .before .before .before .before .before .loop .inv in
-    let ahead = subst (λ (x : Piece). PieceAhead at (length s) x) (sym (c .before .before .before .before .before .before .piece-at .ensures) ∙ c .before .before .before .before .p .given .1) (piece-ahead q s at) in
+    let ahead = byte-ahead q s at _ _ (sym (c .before .before .before .before .before .before .piece-at .ensures) ∙ c .before .before .before .before .p .given .1) in
     omega arith
 
 loop-again : tie.Need-loop-again Inv-loop μ-loop

@@ -1,18 +1,13 @@
 -- The invariant: the string is the bytes passed, and then its pieces from `at` on; `len` and `escape` tell of those bytes. Assumes nothing.
-use mathlib.Core.Path.{_≡_, refl, sym, ap, subst, _∙_}
+use mathlib.Core.Path.{_≡_, refl, sym, ap, _∙_}
 use native.Mathlib.Omega.{arith}
-use Prim.Native.Nat.{_-_, _<_}
-use mathlib.Core.Bool.{Bool, false, _||_}
+use Prim.Native.Nat.{_-_}
 use mathlib.Core.List.{List, [], _∷_, _++_}
 use Prim.Native.Nat.{ℕ, _+_}
 use lib.ListN.{length, length-append}
-use lib.Dec.{eqb}
-use Rattle.literal.specs.Text.{byteAt}
-use Rattle.literal.specs.Strings.{pieceAt, scanned}
-use Rattle.literal.specs.declared.strings.Piece.{Piece}
-use Rattle.literal.specs.declared.strings.Piece.the-variants.{Byte}
+use Rattle.literal.specs.Strings.{scanned}
 use borrow.Author.Needs.{needs}
-use Rattle.literal.proofs.Spelling.{PieceAhead, piece-ahead, Along, along-start, along-close, along-bad, along-byte}
+use Rattle.literal.proofs.Spelling.{byte-ahead, Along, along-start, along-close, along-bad, along-byte}
 use Rattle.literal.proofs.strings.scan_at.Statement.{statement}
 use Rattle.literal.proofs.strings.scan_at.Tie as tie
 
@@ -64,20 +59,18 @@ add-len : tie.Need-add-len Inv-loop μ-loop
 add-len c =
     let s = c .before .before .before .before .before .before .before .args .text .now in
     let q = c .before .before .before .before .before .before .before .args .quote in
-    let from = c .before .before .before .before .before .before .before .args .from in
     let at = c .before .before .before .before .before .loop .at in
     let w = c .before .before .before .before .before .loop .inv in
-    let ahead = subst (λ (x : Piece). PieceAhead at (length s) x) (sym (c .before .before .before .before .piece-at .ensures) ∙ c .before .before .p3 .given .1) (piece-ahead q s at) in
+    let ahead = byte-ahead q s at _ _ (sym (c .before .before .before .before .piece-at .ensures) ∙ c .before .before .p3 .given .1) in
     omega (arith, w .1, w .2 .far)
 
 loop-less : tie.Need-loop-less Inv-loop μ-loop
 loop-less c =
     let s = c .before .before .before .before .before .before .before .args .text .now in
     let q = c .before .before .before .before .before .before .before .args .quote in
-    let from = c .before .before .before .before .before .before .before .args .from in
     let at = c .before .before .before .before .before .loop .at in
     let w = c .before .before .before .before .before .loop .inv in
-    let ahead = subst (λ (x : Piece). PieceAhead at (length s) x) (sym (c .before .before .before .before .piece-at .ensures) ∙ c .before .before .p3 .given .1) (piece-ahead q s at) in
+    let ahead = byte-ahead q s at _ _ (sym (c .before .before .before .before .piece-at .ensures) ∙ c .before .before .p3 .given .1) in
     omega arith
 
 loop-again : tie.Need-loop-again Inv-loop μ-loop
