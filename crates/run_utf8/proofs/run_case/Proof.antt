@@ -1,0 +1,128 @@
+-- `run_utf8::run_case` is safe: the case's length is within the buffer's. Assumes nothing.
+use mathlib.Core.Path.{sym}
+use native.Mathlib.Omega.{arith}
+use borrow.Author.Needs.{needs}
+use lib.Seq.{length-take-le}
+use Rattle.run_utf8.proofs.run_case.Statement.{statement}
+use Rattle.run_utf8.proofs.run_case.Tie as tie
+
+slice-aggregate-read-full : tie.Need-slice-aggregate-read-full
+slice-aggregate-read-full c = search needs
+
+read-full-requires : tie.Need-read-full-requires
+read-full-requires c κs = search needs
+
+returns : tie.Need-returns
+returns c = search needs
+
+array-read-wide : tie.Need-array-read-wide
+array-read-wide c = search needs
+
+wide-requires : tie.Need-wide-requires
+wide-requires c κs = search needs
+
+array-read-wide-2 : tie.Need-array-read-wide-2
+array-read-wide-2 c = search needs
+
+wide-requires-2 : tie.Need-wide-requires-2
+wide-requires-2 c κs = search needs
+
+mul-length : tie.Need-mul-length
+mul-length c = search needs
+
+add-length : tie.Need-add-length
+add-length c = search needs
+
+array-read-wide-3 : tie.Need-array-read-wide-3
+array-read-wide-3 c = search needs
+
+wide-requires-3 : tie.Need-wide-requires-3
+wide-requires-3 c κs = search needs
+
+mul-length-2 : tie.Need-mul-length-2
+mul-length-2 c = search needs
+
+add-length-2 : tie.Need-add-length-2
+add-length-2 c = search needs
+
+array-read-wide-4 : tie.Need-array-read-wide-4
+array-read-wide-4 c = search needs
+
+wide-requires-4 : tie.Need-wide-requires-4
+wide-requires-4 c κs = search needs
+
+mul-length-3 : tie.Need-mul-length-3
+mul-length-3 c = search needs
+
+add-length-3 : tie.Need-add-length-3
+add-length-3 c = search needs
+
+returns-2 : tie.Need-returns-2
+returns-2 c = search needs
+
+slice-relend-prefix-read-full : tie.Need-slice-relend-prefix-read-full
+slice-relend-prefix-read-full c = search needs
+
+slice-aggregate-read-full-2 : tie.Need-slice-aggregate-read-full-2
+slice-aggregate-read-full-2 c = sym (length-take-le _ _ (omega arith))
+
+read-full-requires-2 : tie.Need-read-full-requires-2
+read-full-requires-2 c κs = search needs
+
+same-length : tie.Need-same-length
+same-length c = search needs
+
+returns-3 : tie.Need-returns-3
+returns-3 c = search needs
+
+slice-reshare-prefix-check : tie.Need-slice-reshare-prefix-check
+slice-reshare-prefix-check c = search needs
+
+slice-aggregate-check : tie.Need-slice-aggregate-check
+slice-aggregate-check c = sym (length-take-le _ _ (omega arith))
+
+check-requires : tie.Need-check-requires
+check-requires c κs = search needs
+
+print-requires : tie.Need-print-requires
+print-requires c κs = search needs
+
+same-length-2 : tie.Need-same-length-2
+same-length-2 c = search needs
+
+returns-4 : tie.Need-returns-4
+returns-4 c = search needs
+
+pub run-case-spec : {M : Type 1} → statement M
+run-case-spec =
+    tie.close
+    (tie.spec
+    slice-aggregate-read-full
+    read-full-requires
+    returns
+    array-read-wide
+    wide-requires
+    array-read-wide-2
+    wide-requires-2
+    mul-length
+    add-length
+    array-read-wide-3
+    wide-requires-3
+    mul-length-2
+    add-length-2
+    array-read-wide-4
+    wide-requires-4
+    mul-length-3
+    add-length-3
+    returns-2
+    slice-relend-prefix-read-full
+    slice-aggregate-read-full-2
+    read-full-requires-2
+    same-length
+    returns-3
+    slice-reshare-prefix-check
+    slice-aggregate-check
+    check-requires
+    print-requires
+    same-length-2
+    returns-4)

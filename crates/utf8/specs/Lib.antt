@@ -1,0 +1,4 @@
+pub mod Scalar
+pub mod Utf8
+pub mod Decode
+pub mod Answer
