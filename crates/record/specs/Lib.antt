@@ -1,0 +1,13 @@
+pub mod Parts
+pub mod Dict
+pub mod Dimensions
+pub mod Descr
+pub mod FromValue
+pub mod Prefix
+pub mod Rooms
+pub mod Header
+pub mod Layout
+pub mod Padding
+pub mod Within
+pub mod File
+pub mod Sound
