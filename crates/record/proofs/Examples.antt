@@ -24,7 +24,8 @@ use Rattle.dtype.specs.declared.Order.the-variants.{C, Fortran}
 use Rattle.dtype.specs.Dtype.{Dtype, Fields, plain, array, record-of, end-of-fields, field-then}
 use Rattle.dtype.specs.Record.{Record}
 use Rattle.dtype.specs.Limits.{overShape, limited}
-use Rattle.record.specs.Prefix.{one-zero, three-zero, prefix, textOf}
+use Rattle.record.specs.Version.{one-zero, three-zero}
+use Rattle.record.specs.Prefix.{prefix, textOf}
 use Rattle.record.specs.FromValue.{recordFrom, recordOf}
 use Rattle.record.specs.Rooms.{Rooms}
 use Rattle.record.specs.Header.{Header, Reading, Keeps, recordIn, housed, headerBy}

@@ -15,7 +15,8 @@ use Rattle.grammar.specs.Value.{Value}
 use Rattle.grammar.specs.Promise.{got}
 use Rattle.utf8.specs.Decode.{utf8}
 use Rattle.dtype.specs.Record.{Record}
-use Rattle.record.specs.Prefix.{Version, one-zero, two-zero, three-zero, major, versionOf, magic, lengthWidth, textStart, little, littleBytes, most-text, Prefix, dataStart, prefix, textOf}
+use Rattle.record.specs.Version.{Version, one-zero, two-zero, three-zero, major, versionOf, lengthWidth, textStart}
+use Rattle.record.specs.Prefix.{magic, little, littleBytes, most-text, Prefix, dataStart, prefix, textOf}
 use Rattle.record.specs.FromValue.{recordOf}
 use Rattle.record.specs.Rooms.{Rooms}
 use Rattle.record.specs.Header.{Reading, recordIn, housed, headerBy}

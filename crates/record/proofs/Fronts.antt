@@ -12,7 +12,8 @@ use borrow.Author.Tests.{le-ltb}
 use Rattle.counts.specs.Outcome.{then, unless}
 use Rattle.counts.specs.Same.{same}
 use Rattle.utf8.proofs.Scalars.{side}
-use Rattle.record.specs.Prefix.{Version, one-zero, two-zero, three-zero, versionOf, magic, lengthWidth, textStart, Prefix, dataStart, lengthRead, prefix, textOf}
+use Rattle.record.specs.Version.{Version, one-zero, two-zero, three-zero, versionOf, lengthWidth, textStart}
+use Rattle.record.specs.Prefix.{magic, Prefix, dataStart, lengthRead, prefix, textOf}
 use Rattle.record.specs.Rooms.{Rooms}
 use Rattle.record.specs.Header.{Reading, recordIn, housed, headerBy}
 use Rattle.record.proofs.Holds.{Holds, then-alike, then-alike-held}

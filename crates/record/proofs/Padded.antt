@@ -6,7 +6,8 @@ use mathlib.Core.Path.{_≡_, refl}
 use mathlib.Core.Bool.{Bool, true, false, cond}
 use lib.Dec.{leb, ltb}
 use borrow.Author.Tests.{leb-true}
-use Rattle.record.specs.Prefix.{one-zero, two-zero, three-zero, lengthWidth, textStart, most-text}
+use Rattle.record.specs.Version.{one-zero, two-zero, three-zero, lengthWidth, textStart}
+use Rattle.record.specs.Prefix.{most-text}
 use Rattle.record.specs.Padding.{padding-unit, spacesBehind, paddedLength, versionFor}
 
 pub padded-multiple : (m : ℕ) → (m + spacesBehind m + 1) % padding-unit ≡ 0

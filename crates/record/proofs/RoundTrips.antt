@@ -19,7 +19,8 @@ use Rattle.utf8.specs.Decode.{utf8}
 use Rattle.utf8.proofs.Outcomes.{accepted-exactly}
 use Rattle.dtype.specs.Record.{Record}
 use Rattle.dtype.specs.Limits.{limited}
-use Rattle.record.specs.Prefix.{lengthWidth, most-text, prefix, textOf}
+use Rattle.record.specs.Version.{lengthWidth}
+use Rattle.record.specs.Prefix.{most-text, prefix, textOf}
 use Rattle.record.specs.FromValue.{recordOf}
 use Rattle.record.specs.Rooms.{Rooms, needs, tooSmall}
 use Rattle.record.specs.Header.{Header, Reading, Keeps, valueRead, recordIn, housed, headerBy}

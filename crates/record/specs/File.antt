@@ -11,7 +11,8 @@ use Rattle.counts.specs.Outcome.{Outcome, gives, refused, then, unless}
 use Rattle.grammar.specs.Print.{print, valueOf}
 use Rattle.dtype.specs.Record.{Record}
 use Rattle.dtype.specs.Limits.{limited}
-use Rattle.record.specs.Prefix.{Version, major, lengthWidth, textStart, littleBytes, most-text}
+use Rattle.record.specs.Version.{Version, major, lengthWidth, textStart}
+use Rattle.record.specs.Prefix.{littleBytes, most-text}
 use Rattle.record.specs.Layout.{headerLayout}
 use Rattle.record.specs.Padding.{padding, paddedLength, isAscii, versionFor}
 use Rattle.record.specs.Within.{within}

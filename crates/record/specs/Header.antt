@@ -9,7 +9,8 @@ use Rattle.grammar.specs.Value.{Value}
 use Rattle.grammar.specs.Promise.{Got, got, fault, deep, PromiseAt}
 use Rattle.utf8.specs.Decode.{utf8}
 use Rattle.dtype.specs.Record.{Record}
-use Rattle.record.specs.Prefix.{Version, Prefix, dataStart, prefix, textOf}
+use Rattle.record.specs.Version.{Version}
+use Rattle.record.specs.Prefix.{Prefix, dataStart, prefix, textOf}
 use Rattle.record.specs.FromValue.{recordOf}
 use Rattle.record.specs.Rooms.{Rooms, needs, tooSmall, Lent, roomsOf, holding}
 

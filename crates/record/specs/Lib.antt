@@ -1,8 +1,10 @@
 pub mod Parts
 pub mod Dict
 pub mod Dimensions
+pub mod Levels
 pub mod Descr
 pub mod FromValue
+pub mod Version
 pub mod Prefix
 pub mod Rooms
 pub mod Header

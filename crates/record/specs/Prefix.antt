@@ -1,40 +1,17 @@
--- Document 01, "From first byte to text": "Six bytes `93 4E 55 4D 50 59`, a major and a minor byte, then the text length, little-endian: 2 bytes for
--- (1,0), 4 for the others. Text starts at 10 or 12; data starts where the text ends." Refusals: 1 "under 8 bytes, or first six differ", 2 "other
--- version", 3 "length field or text incomplete", 4 "text over 131,072 bytes", in the order "1, 2, missing length field 3, 4, missing text 3".
--- Definitions only. Assumes nothing.
+-- Document 01, "From first byte to text": "Six bytes `93 4E 55 4D 50 59`, a major and a minor byte, then the text length, little-endian .. data starts
+-- where the text ends." Refusals: 1 "under 8 bytes, or first six differ", 3 "length field or text incomplete", 4 "text over 131,072 bytes", in the
+-- order "1, 2, missing length field 3, 4, missing text 3". Versions, and 2, are Version.antt. Definitions only. Assumes nothing.
 use Prim.Native.Nat.{ℕ, zero, suc, _+_, _*_, _/_, _%_}
 use mathlib.Core.List.{List, [], _∷_}
-use mathlib.Core.Bool.{not, cond, _||_, _&&_}
-use lib.Dec.{eqb, ltb}
+use mathlib.Core.Bool.{not, _||_}
+use lib.Dec.{ltb}
 use lib.ListN.{length, getD, take, drop}
-use Rattle.counts.specs.Outcome.{Outcome, gives, refused, then, unless}
+use Rattle.counts.specs.Outcome.{Outcome, gives, then, unless}
 use Rattle.counts.specs.Same.{same}
-
--- (1,0), (2,0), (3,0)
-pub data Version : Type 0 where
-  one-zero two-zero three-zero : Version
-
-abbrev pub major : Version → ℕ
-major one-zero = 1
-major two-zero = 2
-major three-zero = 3
-
-abbrev pub versionOf : (a b : ℕ) → Outcome Version
-versionOf a b =
-    cond (eqb a 1 && eqb b 0) (gives one-zero) (cond (eqb a 2 && eqb b 0) (gives two-zero) (cond (eqb a 3 && eqb b 0) (gives three-zero) (refused 2)))
+use Rattle.record.specs.Version.{Version, versionOf, lengthWidth, textStart}
 
 abbrev pub magic : List ℕ
 magic = 0x93 ∷ 0x4E ∷ 0x55 ∷ 0x4D ∷ 0x50 ∷ 0x59 ∷ []
-
--- "2 bytes for (1,0), 4 for the others"
-abbrev pub lengthWidth : Version → ℕ
-lengthWidth one-zero = 2
-lengthWidth two-zero = 4
-lengthWidth three-zero = 4
-
--- "Text starts at 10 or 12"
-abbrev pub textStart : Version → ℕ
-textStart v = 8 + lengthWidth v
 
 -- the number that bytes write, the lowest first; and so many bytes of a number in front of r
 abbrev pub little : List ℕ → ℕ

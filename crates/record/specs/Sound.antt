@@ -9,7 +9,7 @@ use Rattle.utf8.specs.Utf8.{WellFormed}
 use Rattle.type_str.specs.Text.{isType}
 use Rattle.dtype.specs.Dtype.{Dtype, Fields, plain, array, record-of, end-of-fields, field-then}
 use Rattle.dtype.specs.Record.{Record}
-use Rattle.record.specs.Layout.{levelsOf}
+use Rattle.record.specs.Levels.{levelsOf}
 
 -- dimensions
 abbrev pub Small : List ℕ → Type 0
