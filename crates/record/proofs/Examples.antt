@@ -30,7 +30,8 @@ use Rattle.record.specs.FromValue.{recordFrom, recordOf}
 use Rattle.record.specs.Rooms.{Rooms}
 use Rattle.record.specs.Header.{Header, Reading, Keeps, recordIn, housed, headerBy}
 use Rattle.record.specs.Padding.{spacesBehind, versionFor}
-use Rattle.record.specs.File.{bareText, version, text, textLength, fileBy, fileOf, headerLength, writing}
+use Rattle.record.specs.File.{bareText, version, text, textLength, fileBy, fileOf, headerLength}
+use Rattle.record.specs.Writing.{writing}
 use Rattle.record.proofs.OneHeader.{header-same}
 
 -- n times the byte b
@@ -253,4 +254,18 @@ pub record Written : Type 0 where
 
 pub written : Written
 unfolding printed lastDigits escapeOf typeText limited overShape spacesBehind versionFor version text textLength fileOf headerLength writing
-written = record { eighty-bytes = refl; eighty-long = refl; one-short = refl; a-and-b-text = refl; rank-over = refl; entries-over = refl; size-over = refl; count-over = refl; thirty-two = refl; thirty-three = refl; empty-innermost = refl; not-ascii = refl }
+written =
+    record {
+      eighty-bytes = refl;
+      eighty-long = refl;
+      one-short = refl;
+      a-and-b-text = refl;
+      rank-over = refl;
+      entries-over = refl;
+      size-over = refl;
+      count-over = refl;
+      thirty-two = refl;
+      thirty-three = refl;
+      empty-innermost = refl;
+      not-ascii = refl;
+    }

@@ -13,7 +13,7 @@ use Rattle.record.specs.Prefix.{prefix, textOf}
 use Rattle.record.specs.FromValue.{recordOf}
 use Rattle.record.specs.Rooms.{Rooms, Lent}
 use Rattle.record.specs.Header.{Header, Reading, Keeps, valueRead, recordIn, housed, headerBy, headerInto, lentAfter}
-use Rattle.record.specs.File.{writing, roomAfter}
+use Rattle.record.specs.Writing.{writing, roomAfter}
 use Rattle.record.proofs.Holds.{then-alike}
 
 record-in-same : (f g : Reading) → Keeps f → Keeps g → (s : List ℕ) → recordIn f s ≡ recordIn g s

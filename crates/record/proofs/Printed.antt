@@ -35,8 +35,7 @@ use Rattle.dtype.specs.Dtype.{Dtype, Fields, plain, array, record-of, end-of-fi
 use Rattle.dtype.specs.Record.{Record}
 use Rattle.record.specs.Dict.{key-order, key-shape, key-descr}
 use Rattle.record.specs.Header.{Reading, Keeps}
-use Rattle.record.specs.Levels.{levelsOf}
-use Rattle.record.specs.Layout.{dimensionRow, shapeLayout, fieldLayout, descrLayout, fieldRow, isFortran, headerLayout}
+use Rattle.record.specs.Layout.{dimensionRow, shapeLayout, fieldLayout, descrLayout, fieldRow, isFortran, headerLayout, levelsOf}
 use Rattle.record.specs.Version.{textStart}
 use Rattle.record.specs.Padding.{spacesBehind, padding}
 use Rattle.record.specs.File.{bareText, version, text, textLength}

@@ -22,10 +22,9 @@ use Rattle.dtype.specs.Limits.{over, overDimensions, overLevels, overEntries, o
 use Rattle.record.specs.Parts.{stringOr}
 use Rattle.record.specs.Dict.{key-order, key-shape, key-descr, isThe, allStrings, lastOf, needed}
 use Rattle.record.specs.Dimensions.{signed, dimension, dimensions, subShape, ranked, shapeOf}
-use Rattle.record.specs.Levels.{arrays, levelsOf}
-use Rattle.record.specs.Descr.{Field, twoOrThree, perhaps, descrOf, fieldsOf, fieldOf, namedOf, typedOf}
+use Rattle.record.specs.Descr.{Field, twoOrThree, perhaps, descrOf, fieldsOf, fieldOf, namedOf, typedOf, arrays}
 use Rattle.record.specs.FromValue.{orderOf, recordFrom, recordOf}
-use Rattle.record.specs.Layout.{dimensionRow, shapeLayout, fieldLayout, descrLayout, fieldRow, isFortran, headerLayout}
+use Rattle.record.specs.Layout.{dimensionRow, shapeLayout, fieldLayout, descrLayout, fieldRow, isFortran, headerLayout, levelsOf}
 use Rattle.record.specs.Sound.{Small, Good, AllGood, Sound}
 use Rattle.record.proofs.Holds.{Holds, then-holds, then-any, each-holds, weaker, unless-holds, by-equation, held}
 use Rattle.record.proofs.Clean.{Clean, AllClean, ItemsClean}

@@ -27,7 +27,8 @@ use Rattle.record.specs.Header.{Header, Reading, Keeps, valueRead, recor
 use Rattle.record.specs.Layout.{headerLayout}
 use Rattle.record.specs.Padding.{isAscii}
 use Rattle.record.specs.Within.{within}
-use Rattle.record.specs.File.{bareText, version, text, textLength, fileBy, fileOf, headerLength, writing}
+use Rattle.record.specs.File.{bareText, version, text, textLength, fileBy, fileOf, headerLength}
+use Rattle.record.specs.Writing.{writing}
 use Rattle.record.specs.Sound.{Sound}
 use Rattle.record.proofs.Holds.{Holds, then-holds, then-any, unless-holds, by-equation, held, gives-refused, unless-passed, unless-gives}
 use Rattle.record.proofs.Nested.{within-true, true-within}

@@ -14,10 +14,9 @@ use Rattle.dtype.specs.Dtype.{Dtype, Fields, plain, array, record-of, end-of-fi
 use Rattle.dtype.specs.Record.{Record}
 use Rattle.dtype.specs.Limits.{overDimensions, overLevels, limited}
 use Rattle.record.specs.Dimensions.{signed, dimensions, subShape, ranked}
-use Rattle.record.specs.Levels.{arrays, levelsOf}
-use Rattle.record.specs.Descr.{descrOf, fieldsOf, fieldOf}
+use Rattle.record.specs.Descr.{descrOf, fieldsOf, fieldOf, arrays}
 use Rattle.record.specs.FromValue.{orderOf, recordFrom, recordOf}
-use Rattle.record.specs.Layout.{dimensionRow, shapeLayout, fieldLayout, descrLayout, fieldRow, isFortran, headerLayout}
+use Rattle.record.specs.Layout.{dimensionRow, shapeLayout, fieldLayout, descrLayout, fieldRow, isFortran, headerLayout, levelsOf}
 use Rattle.record.specs.Sound.{Small, Good, AllGood, Sound}
 use Rattle.record.proofs.Holds.{unless-passed}
 

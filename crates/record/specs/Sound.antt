@@ -1,6 +1,6 @@
 -- A record that some reading gives, the limits 13, 20 to 22, 7 and 4 aside: what 27, "caller's record or type that no reading gives (13, 20 to 22,
 -- 7, 4 aside), or outermost an array", leaves. Every plain type is one that a type string gives, every length and dimension is at most 2^64-1,
--- every name is UTF-8, and the dtype is not outermost an array. Definitions only. Assumes nothing.
+-- every name is UTF-8, and the dtype is not outermost an array. That it is so both ways is proofs/RoundTrips.antt. Definitions only. Assumes nothing.
 use Prim.Native.Nat.{ℕ, _^_, _<_}
 use mathlib.Core.Path.{_≡_}
 use mathlib.Core.Bool.{true}
@@ -9,7 +9,7 @@ use Rattle.utf8.specs.Utf8.{WellFormed}
 use Rattle.type_str.specs.Text.{isType}
 use Rattle.dtype.specs.Dtype.{Dtype, Fields, plain, array, record-of, end-of-fields, field-then}
 use Rattle.dtype.specs.Record.{Record}
-use Rattle.record.specs.Levels.{levelsOf}
+use Rattle.record.specs.Layout.{levelsOf}
 
 -- dimensions
 abbrev pub Small : List ℕ → Type 0
