@@ -1,0 +1,14 @@
+pub mod Orders
+pub mod Padded
+pub mod Holds
+pub mod Nested
+pub mod Written
+pub mod Clean
+pub mod Read
+pub mod Files
+pub mod Printed
+pub mod RoundTrips
+pub mod OneHeader
+pub mod Filled
+pub mod Fronts
+pub mod Examples
