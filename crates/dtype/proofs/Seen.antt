@@ -35,7 +35,7 @@ some-split test (suc a) b e =
     rw (y, some-split test a b (suc e), z) (sym (or-assoc (test e) (someFrom test a (suc e)) (someFrom test b (e + suc a))))
 
 -- the entries below the first
-abbrev someBelow : (Dtype → Bool) → Dtype → Bool
+abbrev pub someBelow : (Dtype → Bool) → Dtype → Bool
 someBelow test (plain t) = false
 someBelow test (array n d) = someEntry test d
 someBelow test (record-of fs) = someEntryIn test fs
@@ -45,7 +45,7 @@ module _ (test : Dtype → Bool) (seen-at : ℕ → Bool) (t : List ℕ) (n : �
     (same : (d : Dtype) (e up m : ℕ) (x : List ℕ) → e + entriesOf d ≤ n → drop (entry-width * e) t ≡ flat d e up m x
     → (seen-at e || someBelow test d) ≡ (test d || someBelow test d)) where
   mutual
-    seen : (d : Dtype) (e up m : ℕ) (x : List ℕ) → e + entriesOf d ≤ n → drop (entry-width * e) t ≡ flat d e up m x
+    pub seen : (d : Dtype) (e up m : ℕ) (x : List ℕ) → e + entriesOf d ≤ n → drop (entry-width * e) t ≡ flat d e up m x
         → someFrom seen-at (entriesOf d) e ≡ someEntry test d
     seen (plain ty) e up m x r h = same (plain ty) e up m x r h ∙ or-false (test (plain ty))
     seen (array k d) e up m x r h =

@@ -35,7 +35,7 @@ saturated-sum : (b x y : ℕ) → saturated (saturated (b + saturated x) + y) �
 saturated-sum b x y = omega arith
 
 -- the names before a later entry are no fewer
-name-start-grows : (t : List ℕ) (e k : ℕ) → nameStart t e ≤ nameStart t (e + k)
+pub name-start-grows : (t : List ℕ) (e k : ℕ) → nameStart t e ≤ nameStart t (e + k)
 name-start-grows t e zero = let z : e + 0 ≡ e = omega arith in rw z (omega arith)
 name-start-grows t e (suc k) = let z : e + suc k ≡ suc (e + k) = omega arith in rw z (omega (arith, name-start-grows t e k))
 

@@ -1,0 +1,273 @@
+-- The type of a plain entry: its numbers are those of the type that `typeOf` gives, and of no other, so an entry agrees as plain exactly where it has
+-- a type, the extent 1 and that type's bytes. In a dtype's table the entries without a type are its types that no type string gives. Assumes nothing.
+use Prim.Native.Nat.{ℕ, _*_, _<_}
+use mathlib.Core.Path.{_≡_, refl, ap, sym, _∙_}
+use mathlib.Core.Bool.{Bool, true, false, not, cond, _||_, _&&_}
+use mathlib.Core.List.{List, [], _∷_}
+use native.Mathlib.Omega.{arith}
+use borrow.Author.Tests.{eqb-true, ne-eqb}
+use lib.Dec.{eqb}
+use lib.ListN.{drop}
+use Rattle.counts.specs.Outcome.{Outcome, gives, refused, then, unless}
+use Rattle.counts.specs.Number.{number}
+use Rattle.counts.specs.declared.Number.{Number}
+use Rattle.counts.proofs.Alike.{true-false}
+use Rattle.counts.proofs.Fits.{number-is-back, number-over-back}
+use Rattle.type_str.specs.Spelling.{firstOf, orders, letters, units, orderByte, letterByte, orderOf, letterOf}
+use Rattle.type_str.specs.Text.{isType}
+use Rattle.type_str.specs.TypeString.{isObject}
+use Rattle.type_str.specs.Bytes.{typeBytes, countedBytes, numBytes}
+use Rattle.type_str.specs.declared.TypeBytes.the-variants.{Sized, Unsized, TooLarge}
+use Rattle.counts.specs.Counts.{bytes}
+use Rattle.counts.specs.declared.Bytes.{Bytes}
+use Rattle.dtype.proofs.Types.{plain-bytes-type}
+use Rattle.type_str.specs.declared.Endianness.{Endianness}
+use Rattle.type_str.specs.declared.TypeChar.{TypeChar}
+use Rattle.type_str.specs.declared.TimeUnits.{TimeUnits}
+use Rattle.type_str.specs.declared.TimeUnits.the-variants.{Absent, Year, Month, Week, Day, Hour, Minute, Second, Millisecond, Microsecond, Nanosecond, Picosecond, Femtosecond, Attosecond}
+use Rattle.type_str.specs.declared.TypeStr.{TypeStr}
+use Rattle.type_str.proofs.Tables.{order-spelled, letter-spelled}
+use Rattle.dtype.specs.TypeNumbers.{unitsNumber}
+use Rattle.dtype.specs.PlainBytes.{plainBytes}
+use Rattle.dtype.specs.Dtype.{Dtype, plain, array, record-of}
+use Rattle.dtype.specs.Entries.{entriesOf, plainOnly}
+use Rattle.dtype.specs.Flat.{saturated, entryOf, entry-width, flat}
+use Rattle.dtype.specs.Record.{table}
+use Rattle.dtype.specs.Agrees.{entryAt}
+use Rattle.dtype.specs.Seen.{someFrom, objectAt}
+use Rattle.dtype.specs.declared.Entry.{Entry}
+use Rattle.dtype.proofs.Stands.{stands-entry}
+use Rattle.dtype.proofs.Seen.{someBelow, seen}
+use Rattle.table.specs.EntryType.{unitsFor, in-record, typed, typeOf}
+use Rattle.table.specs.Checked.{refuses, untyped}
+use Rattle.table.specs.Decides.{Decides, Typed-agrees, untypedAt}
+use Rattle.table.proofs.Tests.{by-eqb}
+
+-- no byte is over 255, so no order and no letter is
+pub order-past : (n : ℕ) → 255 < n → refused 15 ≡ orderOf n
+unfolding orderOf
+order-past n h =
+    simp (ne-eqb n 60 (λ e. omega arith), ne-eqb n 62 (λ e. omega arith), ne-eqb n 124 (λ e. omega arith))
+
+pub letter-past : (n : ℕ) → 255 < n → refused 15 ≡ letterOf n
+unfolding letterOf
+letter-past n h =
+    simp (
+      ne-eqb n 98 (λ e. omega arith),
+      ne-eqb n 105 (λ e. omega arith),
+      ne-eqb n 117 (λ e. omega arith),
+      ne-eqb n 102 (λ e. omega arith),
+      ne-eqb n 99 (λ e. omega arith),
+      ne-eqb n 109 (λ e. omega arith),
+      ne-eqb n 77 (λ e. omega arith),
+      ne-eqb n 83 (λ e. omega arith),
+      ne-eqb n 85 (λ e. omega arith),
+      ne-eqb n 79 (λ e. omega arith),
+      ne-eqb n 86 (λ e. omega arith),
+    )
+
+units-numbered : (u : TimeUnits) → unitsFor (unitsNumber u) ≡ gives u
+unfolding unitsFor
+units-numbered Absent = refl
+units-numbered Year = refl
+units-numbered Month = refl
+units-numbered Week = refl
+units-numbered Day = refl
+units-numbered Hour = refl
+units-numbered Minute = refl
+units-numbered Second = refl
+units-numbered Millisecond = refl
+units-numbered Microsecond = refl
+units-numbered Nanosecond = refl
+units-numbered Picosecond = refl
+units-numbered Femtosecond = refl
+units-numbered Attosecond = refl
+
+-- what a table's first case is, passes the test
+first-or : {A : Type 0} (test : A → Bool) (b a : A) (rest : Outcome A) → (rest ≡ gives a → test a ≡ true) → (x : Bool) → test b ≡ x
+    → cond x (gives b) rest ≡ gives a → test a ≡ true
+first-or test b a rest more true e k = let z : b ≡ a = cc in rw z at e
+first-or test b a rest more false e k = more k
+
+first-back : {A : Type 0} (test : A → Bool) (l : List A) (a : A) → firstOf test l ≡ gives a → test a ≡ true
+first-back test [] a h = let z : _≡_ {A = ℕ} 0 1 = cc in absurd (omega arith)
+first-back test (b ∷ l) a h = first-or test b a (firstOf test l) (first-back test l a) (test b) refl h
+
+order-back : (n : ℕ) (o : Endianness) → orderOf n ≡ gives o → n ≡ orderByte o
+unfolding orderOf
+order-back n o h = eqb-true n (orderByte o) (first-back (λ x. eqb n (orderByte x)) orders o h)
+
+letter-back : (n : ℕ) (l : TypeChar) → letterOf n ≡ gives l → n ≡ letterByte l
+unfolding letterOf
+letter-back n l h = eqb-true n (letterByte l) (first-back (λ x. eqb n (letterByte x)) letters l h)
+
+units-back : (n : ℕ) (u : TimeUnits) → unitsFor n ≡ gives u → n ≡ unitsNumber u
+unfolding unitsFor
+units-back n u h = eqb-true n (unitsNumber u) (first-back (λ x. eqb n (unitsNumber x)) units u h)
+
+-- the numbers of e are those of t
+record Written (e : Entry) (t : TypeStr) : Type 0 where
+  order : e .order ≡ orderByte (t .order)
+  letter : e .letter ≡ letterByte (t .letter)
+  number : e .number ≡ t .size
+  units : e .units ≡ unitsNumber (t .units)
+
+type-of-written : (e : Entry) (t : TypeStr) → Written e t → typeOf e ≡ in-record (typed t)
+unfolding typeOf
+type-of-written e t w =
+    rw (w .order, order-spelled (t .order), w .letter, letter-spelled (t .letter), w .units, units-numbered (t .units), w .number)
+
+abbrev made : Entry → Endianness → TypeChar → TimeUnits → TypeStr
+made e o l u = record { order = o; letter = l; size = e .number; units = u }
+
+given-made : (t m : TypeStr) (b : Bool) → in-record (unless (not b) 27 (gives m)) ≡ gives t → m ≡ t
+given-made t m true h = cc
+given-made t m false h = let z : _≡_ {A = ℕ} 0 1 = cc in absurd (omega arith)
+
+type-of-back : (e : Entry) (t : TypeStr) → typeOf e ≡ gives t → Written e t
+unfolding typeOf
+type-of-back e t h = go (orderOf (e .order)) (letterOf (e .letter)) (unitsFor (e .units)) refl refl refl h
+  where
+    go : (a : Outcome Endianness) (b : Outcome TypeChar) (d : Outcome TimeUnits) → orderOf (e .order) ≡ a → letterOf (e .letter) ≡ b → unitsFor (e .units) ≡ d
+        → in-record (then a (λ o. then b (λ l. then d (λ u. typed (made e o l u))))) ≡ gives t → Written e t
+    go (gives o) (gives l) (gives u) p q r k =
+        let z = given-made t (made e o l u) (isType (made e o l u)) k in
+        record {
+          order = order-back (e .order) o p ∙ ap (λ (x : TypeStr). orderByte (x .order)) z;
+          letter = letter-back (e .letter) l q ∙ ap (λ (x : TypeStr). letterByte (x .letter)) z;
+          number = ap (λ (x : TypeStr). x .size) z;
+          units = units-back (e .units) u r ∙ ap (λ (x : TypeStr). unitsNumber (x .units)) z;
+        }
+    go (gives o) (gives l) (refused n) p q r k = let z : _≡_ {A = ℕ} 0 1 = cc in absurd (omega arith)
+    go (gives o) (refused n) d p q r k = let z : _≡_ {A = ℕ} 0 1 = cc in absurd (omega arith)
+    go (refused n) b d p q r k = let z : _≡_ {A = ℕ} 0 1 = cc in absurd (omega arith)
+
+-- ---- the answers of `type_of`
+module _ (e : Entry) where
+  pub no-order : refused 15 ≡ orderOf (e .order) → refused 27 ≡ typeOf e
+  unfolding typeOf
+  no-order p = rw (← p)
+
+  pub no-letter : (o : Endianness) → gives o ≡ orderOf (e .order) → refused 15 ≡ letterOf (e .letter) → refused 27 ≡ typeOf e
+  unfolding typeOf
+  no-letter o p q = rw (← p, ← q)
+
+  module _ (o : Endianness) (l : TypeChar) (p : gives o ≡ orderOf (e .order)) (q : gives l ≡ letterOf (e .letter)) where
+    pub no-units : refused 15 ≡ unitsFor (e .units) → refused 27 ≡ typeOf e
+    unfolding typeOf
+    no-units r = rw (← p, ← q, ← r)
+
+    pub whole-type : (u : TimeUnits) → gives u ≡ unitsFor (e .units) → (b : Bool) → b ≡ isType (made e o l u)
+        → in-record (unless (not b) 27 (gives (made e o l u))) ≡ typeOf e
+    unfolding typeOf
+    whole-type u r b s = rw (← p, ← q, ← r, ← s)
+
+-- ---- `plain_agrees`
+refuses-typed : (t : TypeStr) → refuses (in-record (typed t)) ≡ not (isType t)
+refuses-typed t = go (isType t)
+  where
+    go : (b : Bool) → refuses (in-record (unless (not b) 27 (gives t))) ≡ not b
+    go true = refl
+    go false = refl
+
+pub plain-untyped : (e : Entry) → refused 27 ≡ typeOf e → Typed-agrees e → ⊥
+plain-untyped e h a = true-false (ap (λ (o : Outcome TypeStr). refuses o) h ∙ a .typed)
+
+pub plain-decided : (e : Entry) (t : TypeStr) (y : ℕ) → gives t ≡ typeOf e → e .extent ≡ 1 → y ≡ saturated (plainBytes t)
+    → Decides (eqb (e .bytes) y) (Typed-agrees e)
+plain-decided e t y h x s =
+    let w = type-of-back e t (sym h) in
+    by-eqb (e .bytes) y
+    (λ z.
+    record {
+      agrees =
+          record {
+            type = t;
+            order = w .order;
+            letter = w .letter;
+            number = w .number;
+            units = w .units;
+            extent = x;
+            bytes = z ∙ s;
+          };
+      typed = sym (ap (λ (o : Outcome TypeStr). refuses o) h);
+    })
+    (λ a.
+    let p = a .agrees in
+    let v = type-of-written e (p .type) (record { order = p .order; letter = p .letter; number = p .number; units = p .units }) in
+    let same : p .type ≡ t = given-made t (p .type) (isType (p .type)) (sym v ∙ sym h) in
+    p .bytes ∙ ap (λ (u : TypeStr). saturated (plainBytes u)) same ∙ sym s)
+
+-- ---- a dtype's types in its table
+untyped-plain : (ty : TypeStr) (up m : ℕ) → refuses (typeOf (entryOf (plain ty) up m)) ≡ not (isType ty)
+untyped-plain ty up m =
+    ap (λ (o : Outcome TypeStr). refuses o)
+    (type-of-written (entryOf (plain ty) up m) ty (record { order = refl; letter = refl; number = refl; units = refl }))
+    ∙ refuses-typed ty
+
+as-entry : (t : List ℕ) (e : ℕ) (x : Entry) → entryAt t e ≡ x → untypedAt t e ≡ (eqb (x .kind) 0 && refuses (typeOf x))
+as-entry t e x s = ap (λ (a : Entry). eqb (a .kind) 0 && refuses (typeOf a)) s
+
+untyped-at : (d : Dtype) (t : List ℕ) (e up m : ℕ) (x : List ℕ) → drop (entry-width * e) t ≡ flat d e up m x
+    → untypedAt t e ≡ plainOnly (λ ty. not (isType ty)) d
+untyped-at (plain ty) t e up m x h = as-entry t e (entryOf (plain ty) up m) (stands-entry (plain ty) t e up m x h) ∙ untyped-plain ty up m
+untyped-at (array n d) t e up m x h = as-entry t e (entryOf (array n d) up m) (stands-entry (array n d) t e up m x h)
+untyped-at (record-of fs) t e up m x h = as-entry t e (entryOf (record-of fs) up m) (stands-entry (record-of fs) t e up m x h)
+
+pub untyped-seen : (d : Dtype) → someFrom (untypedAt (table d)) (entriesOf d) 0 ≡ untyped d
+untyped-seen d =
+    seen (plainOnly (λ ty. not (isType ty))) (untypedAt (table d)) (table d) (entriesOf d)
+    (λ c e up m x r h. ap (λ (b : Bool). b || someBelow (plainOnly (λ ty. not (isType ty))) c) (untyped-at c (table d) e up m x h))
+    d 0 0 0 [] (omega arith) refl
+
+-- ---- numbers as entries hold them
+pub held-is : (a n : ℕ) → Number.Is n ≡ number a → n ≡ saturated a
+held-is a n e = omega (arith, number-is-back a n (sym e))
+
+pub held-over : (a : ℕ) → Number.Over ≡ number a → 18446744073709551615 ≡ saturated a
+held-over a e = omega (arith, number-over-back a (sym e))
+
+-- a plain type's bytes, by what `num_bytes` answers of it
+module _ (t : TypeStr) where
+  object-none : (b : Bool) → isObject (t .letter) ≡ b → typeBytes t ≡ cond b 0 (typeBytes t)
+  unfolding typeBytes
+  object-none true e = rw (typeBytes, e)
+  object-none false e = refl
+
+  bytes-by : (b : Bool) → isObject (t .letter) ≡ b → (m : Number) → number (typeBytes t) ≡ m → numBytes t ≡ cond b Unsized (countedBytes (bytes m))
+  unfolding numBytes
+  bytes-by b e m q = rw (numBytes, e, q)
+
+  pub sized-held : (n : Bytes) → Sized n ≡ numBytes t → n .0 ≡ saturated (plainBytes t)
+  sized-held n h = rw (plain-bytes-type t) (go (isObject (t .letter)) refl (number (typeBytes t)) refl)
+    where
+      go : (b : Bool) → isObject (t .letter) ≡ b → (m : Number) → number (typeBytes t) ≡ m → n .0 ≡ saturated (typeBytes t)
+      go true e m q = let z = h ∙ bytes-by true e m q in let y : _≡_ {A = ℕ} 0 1 = cc in absurd (omega arith)
+      go false e (Number.Is k) q =
+          let z = h ∙ bytes-by false e (Number.Is k) q in
+          let y : n ≡ record { 0 = k } = cc in
+          ap (λ (x : Bytes). x .0) y ∙ held-is (typeBytes t) k (sym q)
+      go false e Number.Over q = let z = h ∙ bytes-by false e Number.Over q in let y : _≡_ {A = ℕ} 0 1 = cc in absurd (omega arith)
+
+  pub unsized-held : Unsized ≡ numBytes t → 0 ≡ saturated (plainBytes t)
+  unsized-held h = rw (plain-bytes-type t) (go (isObject (t .letter)) refl (number (typeBytes t)) refl)
+    where
+      go : (b : Bool) → isObject (t .letter) ≡ b → (m : Number) → number (typeBytes t) ≡ m → 0 ≡ saturated (typeBytes t)
+      go true e m q = omega (arith, object-none true e)
+      go false e (Number.Is k) q = let z = h ∙ bytes-by false e (Number.Is k) q in let y : _≡_ {A = ℕ} 0 1 = cc in absurd (omega arith)
+      go false e Number.Over q = let z = h ∙ bytes-by false e Number.Over q in let y : _≡_ {A = ℕ} 0 1 = cc in absurd (omega arith)
+
+  pub large-held : TooLarge ≡ numBytes t → 18446744073709551615 ≡ saturated (plainBytes t)
+  large-held h = rw (plain-bytes-type t) (go (isObject (t .letter)) refl (number (typeBytes t)) refl)
+    where
+      go : (b : Bool) → isObject (t .letter) ≡ b → (m : Number) → number (typeBytes t) ≡ m → 18446744073709551615 ≡ saturated (typeBytes t)
+      go true e m q = let z = h ∙ bytes-by true e m q in let y : _≡_ {A = ℕ} 0 1 = cc in absurd (omega arith)
+      go false e (Number.Is k) q = let z = h ∙ bytes-by false e (Number.Is k) q in let y : _≡_ {A = ℕ} 0 1 = cc in absurd (omega arith)
+      go false e Number.Over q = held-over (typeBytes t) (sym q)
+
+-- ---- objects
+pub object-here : (t : List ℕ) (e : ℕ) (x : Entry) → x ≡ entryAt t e → x .letter ≡ 79 → objectAt t e ≡ true
+object-here t e x s h = let z : entryAt t e .letter ≡ 79 = rw s at h in rw z
+
+pub no-object-here : (t : List ℕ) (e : ℕ) (x : Entry) → x ≡ entryAt t e → (x .letter ≡ 79 → ⊥) → objectAt t e ≡ false
+no-object-here t e x s h = ne-eqb (entryAt t e .letter) 79 (λ p. h (ap (λ (a : Entry). a .letter) s ∙ p))

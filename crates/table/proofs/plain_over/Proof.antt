@@ -1,0 +1,22 @@
+-- `table::plain_over` meets its contract: only of `U` are there more bytes than the size. Assumes nothing.
+use Rattle.table.proofs.Limits.{unicode-over, other-over}
+use Rattle.table.specs.Decides.{isOver}
+use mathlib.Core.Path.{ap, _∙_}
+use borrow.Author.Needs.{needs}
+use Rattle.table.proofs.plain_over.Statement.{statement}
+use Rattle.table.proofs.plain_over.Tie as tie
+
+product-requires : tie.Need-product-requires
+product-requires c κs = search needs
+
+is-over-requires : tie.Need-is-over-requires
+is-over-requires c κs = search needs
+
+returns : tie.Need-returns
+returns c = c .is-over .ensures ∙ ap isOver (c .before .product .ensures) ∙ unicode-over _ _ (c .before .before .if1 .taken)
+
+returns-2 : tie.Need-returns-2
+returns-2 c = other-over _ _ (c .if1 .left) (search needs)
+
+pub plain-over-spec : {M : Type 1} → statement M
+plain-over-spec = tie.close (tie.spec product-requires is-over-requires returns returns-2)

@@ -1,0 +1,4 @@
+pub mod EntryType
+pub mod Checked
+pub mod Answer
+pub mod Decides
