@@ -1,6 +1,6 @@
 -- Values and the whole text: as in AgreeTokens.antt. The first byte is one of nine that are named, a digit, or none of these, and by each the two
 -- readings go the same way. Assumes nothing.
-use Prim.Native.Nat.{ℕ, zero, suc, _+_, _-_, _<_, _≤_}
+use Prim.Native.Nat.{ℕ, zero, suc, _+_, _<_, _≤_}
 use native.Mathlib.Omega.{arith}
 use native.Mathlib.Decide.{decLt}
 use mathlib.Core.Path.{_≡_, refl, sym, ap, subst, _∙_}

@@ -17,7 +17,7 @@ use Rattle.literal.specs.Node.{Node}
 use Rattle.literal.specs.Got.{Got, got, fault, deep, pos}
 use Rattle.literal.specs.Forget.{forget, forgot}
 use Rattle.literal.specs.Literal.{literalOf, most-open}
-use Rattle.literal.specs.Answer.{Keeps}
+use Rattle.literal.specs.Answer.{answer, ends, Keeps, Reads}
 use Rattle.literal.specs.declared.Parsed.{Parsed}
 use Rattle.literal.specs.declared.Parsed.the-variants.{Value, Fault, Deep}
 
@@ -82,3 +82,17 @@ module _ (s : List ℕ) where
       let a = outcome-of r x in
       let b = outcome-of r′ y in
       a .1 ∙ ap pos (one-outcome-at most-open s (a .0) (b .0) (a .2) (b .2)) ∙ sym (b .1)
+
+-- the number of an answer that the definition gives
+number-of : {A : Type 0} (g : Got A) → answer (pos g) ≡ ends g
+number-of (got a e) = refl
+number-of (fault p) = refl
+number-of (deep p) = refl
+
+-- an answer that the definition gives owes nothing more
+pub reads : (s : List ℕ) (r : Parsed) → r ≡ pos (literalOf s) → Reads s r
+reads s r e = record { parsed = e; numbered = ap answer e ∙ number-of (literalOf s); keeps = literal-keeps s r e }
+
+-- no second outcome
+pub reads-one : (s : List ℕ) → OneOutcome (Reads s)
+reads-one s r r′ x y = x .parsed ∙ sym (y .parsed)

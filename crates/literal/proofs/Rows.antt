@@ -1,6 +1,6 @@
 -- The items of a bracket that was read stand as a row, and a row is what was read; a tuple's row is as a list's. Each law is by cases on what the
 -- reader found, over the whole outcome, so that no equation is taken apart. Assumes nothing.
-use Prim.Native.Nat.{ℕ, zero, suc, _+_, _-_, _<_, _≤_}
+use Prim.Native.Nat.{ℕ, zero, suc, _+_, _<_, _≤_}
 use native.Mathlib.Nat.{not-suc-le-zero}
 use native.Mathlib.Omega.{arith}
 use mathlib.Core.Path.{_≡_, refl, sym, ap, subst, _∙_}

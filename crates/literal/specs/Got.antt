@@ -3,7 +3,6 @@
 use Prim.Native.Nat.{ℕ}
 use Rattle.grammar.specs.Promise as promise
 pub use Rattle.grammar.specs.Promise.{got, fault, deep}
-use Rattle.counts.specs.Outcome.{Outcome, gives, refused}
 use Rattle.literal.specs.declared.Parsed.{Parsed}
 use Rattle.literal.specs.declared.Parsed.the-variants.{Value, Fault, Deep}
 
@@ -28,9 +27,3 @@ unfoldable pub giving : {A : Type 0} → (ℕ → A) → Parsed → Got A
 giving f (Value e) = got (f e) e
 giving f (Fault p) = fault p
 giving f (Deep p) = deep p
-
--- document 01's number for each case: the value, or 6 or 7
-abbrev pub outcome : {A : Type 0} → Got A → Outcome A
-outcome (got a e) = gives a
-outcome (fault p) = refused 6
-outcome (deep p) = refused 7

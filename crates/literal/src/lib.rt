@@ -7,9 +7,9 @@ pub mod walks;
 
 ghost use mathlib.Core.Path.{_≡_};
 ghost use Rattle.literal.specs.Got.{pos};
-ghost use Rattle.literal.specs.Answer.{Keeps};
+ghost use Rattle.literal.specs.Answer.{Reads};
 ghost use Rattle.literal.specs.Brackets.{listBy, tupleBy, keyBy, pairBy};
-ghost use Rattle.literal.specs.Literal.{literalOf, value as valueOf};
+ghost use Rattle.literal.specs.Literal.{value as valueOf};
 use bytes::blanks;
 use bytes::is_open;
 use bytes::peek;
@@ -129,8 +129,7 @@ pub fn key(text: &[u8], at: usize, room: usize) -> Parsed
 
 // The whole text: exactly one value, with blanks around it.
 pub fn literal(text: &[u8]) -> Parsed
-    ensures { λ r. ⌜ r ≡ pos (literalOf (now (text .entry))) ⌝ }
-    ensures { λ r. ⌜ Keeps (now (text .entry)) r ⌝ }
+    ensures { λ r. ⌜ Reads (now (text .entry)) r ⌝ }
 {
     let r = value(text, blanks(text, 0), OPEN);
     let Parsed::Value(q) = r else {

@@ -3,7 +3,7 @@ use mathlib.Core.Path.{sym, ap, subst, _∙_}
 use Rattle.literal.specs.Got.{pos}
 use Rattle.literal.specs.declared.Parsed.{Parsed}
 use Rattle.literal.proofs.Steps.{Stops, stops, literal-is, alone-done, alone-more, alone-stop}
-use Rattle.literal.proofs.Meaning.{literal-keeps}
+use Rattle.literal.proofs.Meaning.{reads}
 use borrow.Author.Needs.{needs}
 use Rattle.literal.proofs.literal.Statement.{statement}
 use Rattle.literal.proofs.literal.Tie as tie
@@ -23,7 +23,7 @@ returns c =
     let p = c .before .before .blanks .result in
     let st = subst (λ (x : Parsed). Stops x) (c .before .value .ensures) (stops (c .before .value .result) (c .match .keys2)) in
     let e = c .before .value .ensures ∙ alone-stop s _ st ∙ ap pos (literal-is s p (c .before .before .blanks .ensures)) in
-    (e, literal-keeps s _ e)
+    reads s _ e
 
 blanks-requires-2 : tie.Need-blanks-requires-2
 blanks-requires-2 c κs = search needs
@@ -34,7 +34,7 @@ returns-2 c =
     let p = c .before .before .before .before .before .before .blanks .result in
     let hv = sym (c .before .before .before .r .given .1) ∙ c .before .before .before .before .before .value .ensures in
     let e = alone-done s _ _ _ hv (c .before .blanks2 .ensures) (c .if1 .taken) ∙ ap pos (literal-is s p (c .before .before .before .before .before .before .blanks .ensures)) in
-    (e, literal-keeps s _ e)
+    reads s _ e
 
 returns-3 : tie.Need-returns-3
 returns-3 c =
@@ -42,7 +42,7 @@ returns-3 c =
     let p = c .before .before .before .before .before .before .blanks .result in
     let hv = sym (c .before .before .before .r .given .1) ∙ c .before .before .before .before .before .value .ensures in
     let e = alone-more s _ _ _ hv (c .before .blanks2 .ensures) (c .if1 .left) ∙ ap pos (literal-is s p (c .before .before .before .before .before .before .blanks .ensures)) in
-    (e, literal-keeps s _ e)
+    reads s _ e
 
 pub literal-spec : {M : Type 1} → statement M
 literal-spec =
