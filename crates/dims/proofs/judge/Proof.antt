@@ -1,7 +1,7 @@
 -- No value; a value that is no bracket; or a bracket, whose members are judged. Assumes nothing.
 use native.Mathlib.Omega.{arith}
 use mathlib.Core.Path.{sym, ap, subst, _∙_}
-use Rattle.literal.specs.Literal.{value as valueOf}
+use Rattle.literal.specs.Literal as read
 use borrow.Author.Needs.{needs}
 use Rattle.literal.specs.Text.{kindOf}
 use Rattle.literal.proofs.Steps.{Stops, stops}
@@ -18,7 +18,7 @@ enum-known-v c = search needs
 returns : tie.Need-returns
 returns c =
     let a = c .before .before .before .args in
-    judged-none (a .at) (valueOf (a .room) (a .text .now) (a .at)) (subst Stops (c .before .value .ensures) (stops (c .before .value .result) (c .match .keys2)))
+    judged-none (a .at) (read.value (a .room) (a .text .now) (a .at)) (subst Stops (c .before .value .ensures) (stops (c .before .value .result) (c .match .keys2)))
 
 peek-requires : tie.Need-peek-requires
 peek-requires c κs = search needs

@@ -2,7 +2,7 @@
 use native.Mathlib.Omega.{arith}
 use mathlib.Core.Path.{sym, subst}
 use lib.ListN.{length}
-use Rattle.literal.specs.Literal.{value as valueOf}
+use Rattle.literal.specs.Literal as read
 use borrow.Author.Needs.{needs}
 use Rattle.literal.proofs.Ends.{GapAhead, value-ahead, then-ahead}
 use Rattle.literal.proofs.Steps.{gapLeft, turn-less, read-ahead}
@@ -15,7 +15,7 @@ use Rattle.dims.proofs.members.Statement.{statement}
 use Rattle.dims.proofs.members.Tie as tie
 
 abbrev Inv-loop : tie.InvT-loop
-Inv-loop text from close room g₀ verdict₀ g verdict = Goes (valueOf room text) text close from (Met verdict) g × Counted (rankOf verdict) g
+Inv-loop text from close room g₀ verdict₀ g verdict = Goes (read.value room text) text close from (Met verdict) g × Counted (rankOf verdict) g
 
 abbrev μ-loop : tie.MeasureT-loop
 μ-loop text from close room g₀ verdict₀ g verdict = gapLeft (length text) g
@@ -27,7 +27,7 @@ loop-holds : tie.Need-loop-holds Inv-loop μ-loop
 loop-holds c =
     let a = c .before .before .args in
     let s = a .text .now in
-    (goes-start (valueOf (a .room) s) s (a .close) (a .from) (Met (Good none-met)) (c .gap-at .result) (c .gap-at .ensures) met-start, counted-none (c .gap-at .result))
+    (goes-start (read.value (a .room) s) s (a .close) (a .from) (Met (Good none-met)) (c .gap-at .result) (c .gap-at .ensures) met-start, counted-none (c .gap-at .result))
 
 enum-known-g : tie.Need-enum-known-g Inv-loop μ-loop
 enum-known-g c = search needs
@@ -36,7 +36,7 @@ returns : tie.Need-returns Inv-loop μ-loop
 returns c =
     let a = c .before .before .before .before .args in
     let s = a .text .now in
-    let rd = valueOf (a .room) s in
+    let rd = read.value (a .room) s in
     let l = c .before .loop in
     λ ns e r. met-end (l .verdict) ns (goes-end rd s (a .close) (a .from) (Met (l .verdict)) (l .g) (l .inv .0) (c .match .keys2) ns e r)
 
@@ -50,7 +50,7 @@ returns-2 : tie.Need-returns-2 Inv-loop μ-loop
 returns-2 c =
     let a = c .before .before .before .before .before .before .before .before .args in
     let s = a .text .now in
-    let rd = valueOf (a .room) s in
+    let rd = read.value (a .room) s in
     let l = c .before .before .before .before .before .loop in
     let p = c .before .before .before .g .given .0 .0 in
     λ ns e r. goes-stop rd s (a .close) (a .from) (Met (l .verdict)) (l .g) p (c .before .value .result) (l .inv .0) (c .before .before .before .g .given .1) (c .before .value .ensures) (c .match2 .keys2) ns e r
@@ -62,7 +62,7 @@ joined-requires : tie.Need-joined-requires Inv-loop μ-loop
 joined-requires c κs =
     let a = c .before .before .before .before .before .before .before .before .before .before .before .args in
     let s = a .text .now in
-    let rd = valueOf (a .room) s in
+    let rd = read.value (a .room) s in
     let l = c .before .before .before .before .before .before .before .before .loop in
     let p = c .before .before .before .before .before .before .g .given .0 .0 in
     let q = c .before .before .v .given .0 .0 in
@@ -77,7 +77,7 @@ loop-less : tie.Need-loop-less Inv-loop μ-loop
 loop-less c =
     let a = c .before .before .before .before .before .before .before .before .before .before .before .before .before .args in
     let s = a .text .now in
-    let rd = valueOf (a .room) s in
+    let rd = read.value (a .room) s in
     let l = c .before .before .before .before .before .before .before .before .before .before .loop in
     let p = c .before .before .before .before .before .before .before .before .g .given .0 .0 in
     let q = c .before .before .before .before .v .given .0 .0 in
@@ -87,7 +87,7 @@ loop-again : tie.Need-loop-again Inv-loop μ-loop
 loop-again c =
     let a = c .before .before .before .before .before .before .before .before .before .before .before .before .before .args in
     let s = a .text .now in
-    let rd = valueOf (a .room) s in
+    let rd = read.value (a .room) s in
     let l = c .before .before .before .before .before .before .before .before .before .before .loop in
     let p = c .before .before .before .before .before .before .before .before .g .given .0 .0 in
     let q = c .before .before .before .before .v .given .0 .0 in

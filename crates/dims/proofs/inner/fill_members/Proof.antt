@@ -1,7 +1,7 @@
 -- The loop over the members keeps `Filling`. Assumes nothing.
 use native.Mathlib.Omega.{arith}
 use lib.ListN.{length}
-use Rattle.literal.specs.Literal.{value as valueOf}
+use Rattle.literal.specs.Literal as read
 use borrow.Author.Needs.{needs}
 use Rattle.literal.proofs.Ends.{value-ahead}
 use Rattle.literal.proofs.Steps.{gapLeft, turn-less}
@@ -83,7 +83,7 @@ loop-less c =
     let a = c .before .before .before .before .before .before .before .before .before .before .before .before .before .before .before .before .before .before .before .before .args in
     let l = c .before .before .before .before .before .before .before .before .before .before .before .before .before .before .before .before .loop in
     let s = a .text .now in
-    turn-less (valueOf (a .room) s) s (a .close) (a .from) (value-ahead (a .room) s) (c .before .before .before .before .before .before .before .before .before .before .before .before .before .before .before .before .before .before .before .before .fits .close .fits) (l .g) (c .then-at .result) _ _ (c .before .before .before .before .before .before .before .before .before .before .before .before .value .result) (c .before .before .before .before .before .before .before .before .before .before .before .before .before .before .g .given .1) (c .before .before .before .before .before .before .before .before .before .before .v .given .1) (c .before .before .before .before .before .before .before .before .before .before .before .before .value .ensures) (c .then-at .ensures)
+    turn-less (read.value (a .room) s) s (a .close) (a .from) (value-ahead (a .room) s) (c .before .before .before .before .before .before .before .before .before .before .before .before .before .before .before .before .before .before .before .before .fits .close .fits) (l .g) (c .then-at .result) _ _ (c .before .before .before .before .before .before .before .before .before .before .before .before .value .result) (c .before .before .before .before .before .before .before .before .before .before .before .before .before .before .g .given .1) (c .before .before .before .before .before .before .before .before .before .before .v .given .1) (c .before .before .before .before .before .before .before .before .before .before .before .before .value .ensures) (c .then-at .ensures)
 
 loop-again : tie.Need-loop-again Inv-loop μ-loop
 loop-again c =
