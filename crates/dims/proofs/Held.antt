@@ -1,0 +1,150 @@
+-- Judging the members of a list or tuple. What is kept: the outline of all the members is the verdict on those met, extended by those that are left.
+-- Then the value around them: `bracket`, by the kind of its first byte. Assumes nothing.
+use Prim.Native.Nat.{ℕ, _+_, _-_, _<_, _≤_}
+use native.Mathlib.Omega.{arith}
+use mathlib.Core.Path.{_≡_, refl, sym, ap, subst, _∙_}
+use mathlib.Core.List.{List, [], _∷_}
+use mathlib.Core.Bool.{false}
+use lib.ListN.{length}
+use Rattle.counts.specs.Outcome.{Outcome, gives, refused, then, each}
+use Rattle.counts.specs.declared.Number.the-variants.{Is}
+use Rattle.counts.proofs.Fits.{number-is}
+use Rattle.record.specs.Parts.{membersOr}
+use Rattle.record.specs.Dimensions.{dimension, subShape}
+use Rattle.literal.specs.Node.{Node, nodes}
+use Rattle.literal.specs.Got.{Got, got, fault, deep, pos}
+use Rattle.literal.specs.Forget.{forget, forgetAll}
+use Rattle.literal.specs.Text.{byteAt, kindOf}
+use Rattle.literal.specs.Brackets.{gapAt}
+use Rattle.literal.specs.Literal.{value}
+use Rattle.literal.specs.Rows.{Row}
+use Rattle.literal.specs.declared.Parsed.the-variants.{Value}
+use Rattle.literal.specs.declared.bytes.Kind.{Kind}
+use Rattle.literal.specs.declared.bytes.Kind.the-variants.{Square, Round, Curly, Quote, Minus, Digit, TrueWord, FalseWord, NoneWord, Other}
+use Rattle.literal.proofs.Positions.{kind-in}
+use Rattle.literal.proofs.Steps.{Stops, thing}
+use Rattle.literal.proofs.View.{view}
+use Rattle.dims.specs.declared.Outline.{Outline}
+use Rattle.dims.specs.declared.Verdict.{Verdict}
+use Rattle.dims.specs.declared.Verdict.the-variants.{Good, Form, Large}
+use Rattle.dims.specs.declared.Member as member
+use Rattle.dims.specs.declared.Member.{Member}
+use Rattle.dims.specs.Outline.{outlineOf, extendedBy}
+use Rattle.dims.specs.Answer.{sized, outlined, endOr, dimensionsAt, Judges}
+use Rattle.dims.specs.Walk.{closingOf, dimensionsOf, rankOf}
+use Rattle.dims.proofs.Outlines.{extends, outline-whole}
+
+-- ---- the loop
+abbrev pub Met : Verdict → List Node → List Node → Type 0
+Met v ns us = each outlineOf (dimensionsOf ns) ≡ then (outlined v) (λ o. each (extends o) (dimensionsOf us))
+
+abbrev pub none-met : Outline
+none-met = record { rank = 0; empty = false; before = Is 1; behind = Is 1 }
+
+none-outline : outlineOf [] ≡ none-met
+unfolding outlineOf
+none-outline = rw (number-is 1 (omega arith))
+
+pub met-start : (ns : List Node) → Met (Good none-met) ns ns
+met-start ns = go (dimensionsOf ns)
+  where
+    go : (d : Outcome (List ℕ)) → each outlineOf d ≡ each (extends none-met) d
+    go (gives ms) = ap gives (outline-whole ms ∙ ap (λ (o : Outline). extends o ms) none-outline)
+    go (refused n) = refl
+
+joins : (a : Outcome Outline) (d : Outcome ℕ) (ds : Outcome (List ℕ))
+    → then a (λ o. each (extends o) (then d (λ n. each (λ ns. n ∷ ns) ds))) ≡ then (then a (λ o. each (extendedBy o) d)) (λ o. each (extends o) ds)
+joins (gives o) (gives n) (gives ns) = refl
+joins (gives o) (gives n) (refused m) = refl
+joins (gives o) (refused m) ds = refl
+joins (refused m) d ds = refl
+
+pub met-more : (v v′ : Verdict) (m : Member) (n : Node) (ns us : List Node) → outlined v′ ≡ then (outlined v) (λ o. each (extendedBy o) (sized m)) → sized m ≡ dimension (forget n)
+    → Met v ns (n ∷ us) → Met v′ ns us
+unfolding forget forgetAll
+met-more v v′ m n ns us hv hm h = h ∙ joins (outlined v) (dimension (forget n)) (dimensionsOf us) ∙ rw (hv, hm)
+
+pub met-end : (v : Verdict) (ns : List Node) → Met v ns [] → outlined v ≡ each outlineOf (dimensionsOf ns)
+unfolding forget forgetAll
+met-end (Good o) ns h = sym h
+met-end Form ns h = sym h
+met-end Large ns h = sym h
+
+pub joined-good : (v : Verdict) (m : Member) (o r : Outline) (n : ℕ) → v ≡ Good o → m ≡ member.Member.Is n → r ≡ extendedBy o n
+    → gives r ≡ then (outlined v) (λ o. each (extendedBy o) (sized m))
+joined-good v m o r n hv hm hr = rw (hv, hm) (ap gives hr)
+
+-- a verdict counts one more at most
+pub rank-more : (v v′ : Verdict) (m : Member) → outlined v′ ≡ then (outlined v) (λ o. each (extendedBy o) (sized m)) → rankOf v′ ≤ rankOf v + 1
+unfolding extendedBy
+rank-more v Form m h = omega arith
+rank-more v Large m h = omega arith
+rank-more Form (Good o) m h = absurd (let z : _≡_ {A = ℕ} 0 1 = cc in omega arith)
+rank-more Large (Good o) m h = absurd (let z : _≡_ {A = ℕ} 0 1 = cc in omega arith)
+rank-more (Good u) (Good o) (member.Member.Is n) h = let z : o ≡ extendedBy u n = cc in omega (arith, ap (λ (x : Outline). x .rank) z)
+rank-more (Good u) (Good o) member.Member.Form h = absurd (let z : _≡_ {A = ℕ} 0 1 = cc in omega arith)
+rank-more (Good u) (Good o) member.Member.Large h = absurd (let z : _≡_ {A = ℕ} 0 1 = cc in omega arith)
+
+-- ---- a list or a tuple, and what it holds
+pub record Bracket (k : ℕ) (s : List ℕ) (at : ℕ) (n : Node) (e close : ℕ) : Type 0 where
+  pub room : 0 < k
+  pub inside : at < length s
+  pub held : List Node
+  pub holds : (j : ℕ) → membersOr j (forget n) ≡ gives (forgetAll (nodes held))
+  pub row : Row (value (k - 1) s) s close held (gapAt s (at + 1) close) e
+
+module _ (k : ℕ) (s : List ℕ) (at e : ℕ) (n : Node) (h : value k s at ≡ got n e) where
+  pub bracket : (c : Kind) → kindOf (byteAt s at) ≡ c → (closingOf c ≡ 0 → ⊥) → Bracket k s at n e (closingOf c)
+  unfolding forget forgetAll
+  bracket Square hk z = let v = view k s at h hk in record { room = v .0; inside = kind-in s at hk refl; held = v .1; holds = λ j. ap (λ (x : Node). membersOr j (forget x)) (v .2); row = v .3 }
+  bracket Round hk z = let v = view k s at h hk in record { room = v .0; inside = kind-in s at hk refl; held = v .1; holds = λ j. ap (λ (x : Node). membersOr j (forget x)) (v .2); row = v .3 }
+  bracket Curly hk z = absurd (z refl)
+  bracket Quote hk z = absurd (z refl)
+  bracket Minus hk z = absurd (z refl)
+  bracket Digit hk z = absurd (z refl)
+  bracket TrueWord hk z = absurd (z refl)
+  bracket FalseWord hk z = absurd (z refl)
+  bracket NoneWord hk z = absurd (z refl)
+  bracket Other hk z = absurd (z refl)
+
+  held-by : (j : ℕ) {m : Node} → n ≡ m → membersOr j (forget n) ≡ membersOr j (forget m)
+  held-by j z = ap (λ (x : Node). membersOr j (forget x)) z
+
+  pub no-bracket : (j : ℕ) (c : Kind) → kindOf (byteAt s at) ≡ c → closingOf c ≡ 0 → membersOr j (forget n) ≡ refused j
+  unfolding forget
+  no-bracket j Square hk z = absurd (omega arith)
+  no-bracket j Round hk z = absurd (omega arith)
+  no-bracket j Curly hk z = let v = view k s at h hk in held-by j (v .2)
+  no-bracket j Quote hk z = let v = view k s at h hk in held-by j (v .0)
+  no-bracket j Minus hk z = let v = view k s at h hk in held-by j (v .0)
+  no-bracket j Digit hk z = let v = view k s at h hk in held-by j (v .0)
+  no-bracket j TrueWord hk z = let v = view k s at h hk in held-by j v
+  no-bracket j FalseWord hk z = let v = view k s at h hk in held-by j v
+  no-bracket j NoneWord hk z = let v = view k s at h hk in held-by j v
+  no-bracket j Other hk z = absurd (view k s at h hk)
+
+-- ---- what `judge` owes
+pub judged-none : (at : ℕ) (g : Got Node) → Stops (pos g) → Judges at g (record { end = at; verdict = Form })
+judged-none at (got n e) st = absurd st
+judged-none at (fault p) st = record { ends = refl; says = refl }
+judged-none at (deep p) st = record { ends = refl; says = refl }
+
+judged-by : (at e : ℕ) (g : Got Node) (n : Node) (v : Verdict) → g ≡ got n e → outlined v ≡ each outlineOf (subShape (forget n)) → Judges at g (record { end = e; verdict = v })
+judged-by at e g n v h hv = record { ends = sym (ap (endOr at) h); says = hv ∙ sym (ap (λ (x : Got Node). each outlineOf (dimensionsAt x)) h) }
+
+module _ (k : ℕ) (s : List ℕ) (at e : ℕ) (h : Value e ≡ pos (value k s at)) (c : Kind) (hk : c ≡ kindOf (byteAt s at)) where
+  pub judged-other : closingOf c ≡ 0 → Judges at (value k s at) (record { end = e; verdict = Form })
+  judged-other z =
+      let t = thing (value k s at) e h in
+      judged-by at e (value k s at) (t .0) Form (t .1) (rw (no-bracket k s at e (t .0) (t .1) 11 c (sym hk) z))
+
+  module _ (close : ℕ) (hc : close ≡ closingOf c) (some : close ≡ 0 → ⊥) where
+    pub judged-bracket : Bracket k s at (thing (value k s at) e h .0) e close
+    judged-bracket =
+        let t = thing (value k s at) e h in
+        subst (Bracket k s at (t .0) e) (sym hc) (bracket k s at e (t .0) (t .1) c (sym hk) (λ z. some (hc ∙ z)))
+
+    pub judged-members : (v : Verdict) → outlined v ≡ each outlineOf (dimensionsOf (judged-bracket .held)) → Judges at (value k s at) (record { end = e; verdict = v })
+    judged-members v hv =
+        let t = thing (value k s at) e h in
+        judged-by at e (value k s at) (t .0) v (t .1) (rw (judged-bracket .holds 11) hv)

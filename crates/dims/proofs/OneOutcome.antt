@@ -1,0 +1,55 @@
+-- No second outcome meets the contracts of this crate. Assumes nothing.
+use Prim.Native.Nat.{ℕ}
+use mathlib.Core.Path.{_≡_, refl, sym, _∙_}
+use mathlib.Core.List.{List}
+use mathlib.Core.Bool.{Bool, cond}
+use lib.Dec.{eqb}
+use Rattle.counts.specs.Outcome.{Outcome, gives, refused}
+use Rattle.counts.specs.OneOutcome.{OneOutcome}
+use Rattle.counts.proofs.OneOutcome.{by-equation, by-inverse}
+use Rattle.dtype.specs.declared.Order.{Order}
+use Rattle.literal.specs.Node.{Node}
+use Rattle.literal.specs.Got.{Got}
+use Rattle.literal.specs.declared.bytes.Kind.{Kind}
+use Rattle.dims.specs.declared.Outline.{Outline}
+use Rattle.dims.specs.declared.Judged.{Judged}
+use Rattle.dims.specs.declared.Verdict.{Verdict}
+use Rattle.dims.specs.declared.Verdict.the-variants.{Good, Form, Large}
+use Rattle.dims.specs.Outline.{overIn}
+use Rattle.dims.specs.Answer.{outlined, Judges}
+use Rattle.dims.specs.Walk.{closingOf}
+use Rattle.dims.specs.Fill.{Shape, Fills}
+
+verdictOf : Outcome Outline → Verdict
+verdictOf (gives o) = Good o
+verdictOf (refused n) = cond (eqb n 12) Large Form
+
+verdict-back : (v : Verdict) → verdictOf (outlined v) ≡ v
+unfolding verdictOf
+verdict-back (Good o) = refl
+verdict-back Form = refl
+verdict-back Large = refl
+
+judged-eq : {e e′ : ℕ} {v v′ : Verdict} → e ≡ e′ → v ≡ v′ → _≡_ {A = Judged} (record { end = e; verdict = v }) (record { end = e′; verdict = v′ })
+judged-eq he hv = cc
+
+pub judge-one : (at : ℕ) (g : Got Node) → OneOutcome (Judges at g)
+judge-one at g x y p q =
+    judged-eq {e = x .end} {e′ = y .end} {v = x .verdict} {v′ = y .verdict} (p .ends ∙ sym (q .ends))
+    (by-inverse outlined verdictOf verdict-back (outlined (y .verdict)) (x .verdict) (y .verdict) (p .says ∙ sym (q .says)) refl)
+
+pub over-one : (o : Order) (shape : Outline) → OneOutcome {A = Bool} (λ r. r ≡ overIn o shape)
+over-one o shape = by-equation (overIn o shape)
+
+pub closing-one : (k : Kind) → OneOutcome {A = ℕ} (λ r. r ≡ closingOf k)
+closing-one k = by-equation (closingOf k)
+
+pair-eq : {n m : ℕ} {a b : List ℕ} → n ≡ m → a ≡ b → _≡_ {A = ℕ × List ℕ} (n, a) (m, b)
+pair-eq hn ha = cc
+
+-- an outcome of `fill` is its answer and what `out` then holds
+pub fill-one : (g : Got Node) (out : List ℕ) → Shape g → OneOutcome {A = ℕ × List ℕ} (λ r. Fills g out (r .0) (r .1))
+fill-one g out w x y p q =
+    let a = p (w .0) (w .1) in
+    let b = q (w .0) (w .1) in
+    pair-eq (a .counted ∙ sym (b .counted)) (a .out-after ∙ sym (b .out-after))

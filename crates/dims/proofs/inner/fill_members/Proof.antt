@@ -1,0 +1,117 @@
+-- The loop over the members keeps `Filling`. Assumes nothing.
+use native.Mathlib.Omega.{arith}
+use lib.ListN.{length}
+use Rattle.literal.specs.Literal as read
+use borrow.Author.Needs.{needs}
+use Rattle.literal.proofs.Ends.{value-ahead}
+use Rattle.literal.proofs.Steps.{gapLeft, turn-less}
+use Rattle.dims.proofs.Stored.{Filling, filling-start, filling-end, filling-stop, filling-none, filling-count, filling-more}
+use Rattle.dims.proofs.inner.fill_members.Statement.{statement}
+use Rattle.dims.proofs.inner.fill_members.Tie as tie
+
+abbrev Inv-loop : tie.InvT-loop
+Inv-loop text from close room out₀ g₀ i₀ out g i = Filling room text close from out₀ out g i
+
+abbrev μ-loop : tie.MeasureT-loop
+μ-loop text from close room out₀ g₀ i₀ out g i = gapLeft (length text) g
+
+gap-at-requires : tie.Need-gap-at-requires Inv-loop μ-loop
+gap-at-requires c κs = search needs
+
+loop-holds : tie.Need-loop-holds Inv-loop μ-loop
+loop-holds c =
+    let a = c .before .before .before .args in
+    filling-start (a .room) (a .text .now) (a .close) (a .from) (a .out .now) (c .gap-at .result) (c .gap-at .ensures)
+
+enum-known-g : tie.Need-enum-known-g Inv-loop μ-loop
+enum-known-g c = search needs
+
+same-length : tie.Need-same-length Inv-loop μ-loop
+same-length c = c .before .loop .inv .same
+
+returns : tie.Need-returns Inv-loop μ-loop
+returns c =
+    let a = c .before .before .before .before .before .args in
+    let l = c .before .loop in
+    filling-end (a .room) (a .text .now) (a .close) (a .from) (a .out .now) (l .out) (l .g) (l .i) (l .inv) (c .match .keys2)
+
+value-requires : tie.Need-value-requires Inv-loop μ-loop
+value-requires c κs = search needs
+
+enum-known-v : tie.Need-enum-known-v Inv-loop μ-loop
+enum-known-v c = search needs
+
+same-length-2 : tie.Need-same-length-2 Inv-loop μ-loop
+same-length-2 c = c .before .before .before .before .before .loop .inv .same
+
+returns-2 : tie.Need-returns-2 Inv-loop μ-loop
+returns-2 c =
+    let a = c .before .before .before .before .before .before .before .before .before .args in
+    let l = c .before .before .before .before .before .loop in
+    filling-stop (a .room) (a .text .now) (a .close) (a .from) (a .out .now) (l .out) (l .g) (l .i) (l .inv) _ (c .before .value .result) (c .before .before .before .g .given .1) (c .before .value .ensures) (c .match2 .keys2)
+
+dimension-requires : tie.Need-dimension-requires Inv-loop μ-loop
+dimension-requires c κs = search needs
+
+enum-known-d : tie.Need-enum-known-d Inv-loop μ-loop
+enum-known-d c = search needs
+
+same-length-3 : tie.Need-same-length-3 Inv-loop μ-loop
+same-length-3 c = c .before .before .before .before .before .before .before .before .before .loop .inv .same
+
+returns-3 : tie.Need-returns-3 Inv-loop μ-loop
+returns-3 c =
+    let a = c .before .before .before .before .before .before .before .before .before .before .before .before .before .args in
+    let l = c .before .before .before .before .before .before .before .before .before .loop in
+    filling-none (a .room) (a .text .now) (a .close) (a .from) (a .out .now) (l .out) (l .g) (l .i) (l .inv) _ (c .before .before .before .before .before .value .result) (c .before .before .before .before .before .before .before .g .given .1) (c .before .before .before .before .before .value .ensures) (c .before .dimension .result) (c .before .dimension .ensures) (c .match3 .keys2)
+
+put-requires : tie.Need-put-requires Inv-loop μ-loop
+put-requires c κs = search needs
+
+add-i : tie.Need-add-i Inv-loop μ-loop
+add-i c =
+    let a = c .before .before .before .before .before .before .before .before .before .before .before .before .before .before .before .before .before .before .before .args in
+    let l = c .before .before .before .before .before .before .before .before .before .before .before .before .before .before .before .loop in
+    let n = filling-count (a .room) (a .text .now) (a .close) (a .from) (a .out .now) (l .out) (l .g) (l .i) (l .inv) _ (c .before .before .before .before .before .before .before .before .before .before .before .value .result) (c .before .before .before .before .before .before .before .before .before .before .before .before .before .g .given .1) (c .before .before .before .before .before .before .before .before .before .before .before .value .ensures) (c .before .before .before .before .before .before .before .dimension .result) (c .before .before .before .before .before .before .before .dimension .ensures) _ (c .before .before .before .before .before .before .before .before .before .v .given .1) (c .before .before .before .before .before .before .before .before .before .before .before .before .before .before .before .before .before .before .before .fits .close .fits) in
+    omega arith
+
+then-at-requires : tie.Need-then-at-requires Inv-loop μ-loop
+then-at-requires c κs = search needs
+
+loop-less : tie.Need-loop-less Inv-loop μ-loop
+loop-less c =
+    let a = c .before .before .before .before .before .before .before .before .before .before .before .before .before .before .before .before .before .before .before .before .args in
+    let l = c .before .before .before .before .before .before .before .before .before .before .before .before .before .before .before .before .loop in
+    let s = a .text .now in
+    turn-less (read.value (a .room) s) s (a .close) (a .from) (value-ahead (a .room) s) (c .before .before .before .before .before .before .before .before .before .before .before .before .before .before .before .before .before .before .before .before .fits .close .fits) (l .g) (c .then-at .result) _ _ (c .before .before .before .before .before .before .before .before .before .before .before .before .value .result) (c .before .before .before .before .before .before .before .before .before .before .before .before .before .before .g .given .1) (c .before .before .before .before .before .before .before .before .before .before .v .given .1) (c .before .before .before .before .before .before .before .before .before .before .before .before .value .ensures) (c .then-at .ensures)
+
+loop-again : tie.Need-loop-again Inv-loop μ-loop
+loop-again c =
+    let a = c .before .before .before .before .before .before .before .before .before .before .before .before .before .before .before .before .before .before .before .before .args in
+    let l = c .before .before .before .before .before .before .before .before .before .before .before .before .before .before .before .before .loop in
+    filling-more (a .room) (a .text .now) (a .close) (a .from) (a .out .now) (l .out) (l .g) (l .i) (l .inv) _ (c .before .before .before .before .before .before .before .before .before .before .before .before .value .result) (c .before .before .before .before .before .before .before .before .before .before .before .before .before .before .g .given .1) (c .before .before .before .before .before .before .before .before .before .before .before .before .value .ensures) (c .before .before .before .before .before .before .before .before .dimension .result) (c .before .before .before .before .before .before .before .before .dimension .ensures) _ (c .before .before .before .before .before .before .before .before .before .before .v .given .1) (c .before .before .before .before .before .before .before .before .before .before .before .before .before .before .before .before .before .before .before .before .fits .close .fits) _ (c .then-at .result) _ (c .before .before .before .before .before .before .d .given .1) (c .before .before .before .put .ensures) (c .then-at .ensures)
+
+pub fill-members-spec : {M : Type 1} → statement M
+fill-members-spec =
+    tie.close
+    (tie.spec
+    Inv-loop
+    μ-loop
+    gap-at-requires
+    loop-holds
+    enum-known-g
+    same-length
+    returns
+    value-requires
+    enum-known-v
+    same-length-2
+    returns-2
+    dimension-requires
+    enum-known-d
+    same-length-3
+    returns-3
+    put-requires
+    add-i
+    then-at-requires
+    loop-less
+    loop-again)

@@ -1,0 +1,52 @@
+-- What each answer of this crate stands for: document 01's number, or what was read. Refusal 11: "shape or sub-shape not a list or tuple; member not an
+-- integer, or negative". Refusal 12: "dimension over 2^64-1". The definitions of the record (crate record) say what a value gives; where no value
+-- stands, the answer is as for a value of another kind, and the end is the position itself. Definitions only. Assumes nothing.
+use Prim.Native.Nat.{ℕ}
+use mathlib.Core.Path.{_≡_}
+use mathlib.Core.List.{List}
+use Rattle.counts.specs.Outcome.{Outcome, gives, refused, then, each}
+use Rattle.grammar.specs.Value.{Value}
+use Rattle.record.specs.Dimensions.{subShape}
+use Rattle.literal.specs.Node.{Node}
+use Rattle.literal.specs.Got.{Got, got, fault, deep}
+use Rattle.literal.specs.Forget.{forget}
+use Rattle.dims.specs.declared.Outline.{Outline}
+use Rattle.dims.specs.declared.Verdict.{Verdict}
+use Rattle.dims.specs.declared.Verdict.the-variants.{Good, Form, Large}
+use Rattle.dims.specs.declared.Member as member
+use Rattle.dims.specs.declared.Member.{Member}
+use Rattle.dims.specs.declared.Judged.{Judged}
+use Rattle.dims.specs.Outline.{outlineOf}
+
+-- one dimension
+abbrev pub sized : Member → Outcome ℕ
+sized (member.Member.Is n) = gives n
+sized member.Member.Form = refused 11
+sized member.Member.Large = refused 12
+
+-- a shape or sub-shape
+abbrev pub outlined : Verdict → Outcome Outline
+outlined (Good o) = gives o
+outlined Form = refused 11
+outlined Large = refused 12
+
+-- the value that was read, or refused with n
+abbrev pub valueOr : ℕ → Got Node → Outcome Value
+valueOr n (got v e) = gives (forget v)
+valueOr n (fault p) = refused n
+valueOr n (deep p) = refused n
+
+-- the position behind the value, or `at`
+abbrev pub endOr : ℕ → Got Node → ℕ
+endOr at (got v e) = e
+endOr at (fault p) = at
+endOr at (deep p) = at
+
+-- the dimensions of what was read
+abbrev pub dimensionsAt : Got Node → Outcome (List ℕ)
+dimensionsAt g = then (valueOr 11 g) subShape
+
+-- what judging owes for what stands at the position
+pub record Judges (at : ℕ) (g : Got Node) (r : Judged) : Type 0 where
+  pub ends : r .end ≡ endOr at g
+  pub says : outlined (r .verdict) ≡ each outlineOf (dimensionsAt g)

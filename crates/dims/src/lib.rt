@@ -1,0 +1,248 @@
+// Shapes and sub-shapes in the text of a header (document 01, "The record"): refusals 11 and 12, and what 13, 21 and 22 need of the dimensions. No
+// public function here has a `requires`. What each answer stands for is in specs/Answer.antt.
+pub mod inner;
+
+use counts::Number;
+use dtype::Order;
+use literal::Parsed;
+use literal::bytes::Kind;
+use literal::bytes::kind_of;
+use literal::bytes::peek;
+use literal::gaps::Gap;
+use literal::gaps::gap_at;
+use literal::gaps::then_at;
+use literal::tokens::natural;
+use literal::value;
+ghost use mathlib.Core.Path.{_≡_};
+ghost use Prim.Native.Nat.{ℕ, _<_, _^_, _-_};
+ghost use Rattle.counts.specs.Number.{number};
+ghost use Rattle.counts.specs.Outcome.{then, each};
+ghost use Rattle.decimal.specs.Decimal.{decimal};
+ghost use Rattle.record.specs.Dimensions.{signed};
+ghost use mathlib.Core.Bool.{true, false};
+ghost use Rattle.literal.specs.Literal.{value as valueOf};
+ghost use Rattle.literal.specs.Text.{part};
+ghost use Rattle.literal.specs.Tokens.{naturalAt};
+ghost use Rattle.dims.specs.Outline.{scaledBy, extendedBy, isOver, overIn};
+ghost use Rattle.dims.specs.Answer.{sized, outlined, Judges};
+ghost use Rattle.dims.specs.Walk.{closingOf, rankOf, SizeAt, MembersFrom};
+
+// How many dimensions there are, whether one is 0, and the products of those before the first 0 and behind the last 0.
+pub struct Outline {
+    pub rank: usize,
+    pub empty: bool,
+    pub before: Number,
+    pub behind: Number,
+}
+
+// A shape or sub-shape; or 11; or 12.
+pub enum Verdict {
+    Good(Outline),
+    Form,
+    Large,
+}
+
+// Where a value ends, and what it is as a shape or sub-shape.
+pub struct Judged {
+    pub end: usize,
+    pub verdict: Verdict,
+}
+
+// A dimension; or 11; or 12.
+pub enum Member {
+    Is(u64),
+    Form,
+    Large,
+}
+
+// Judges the value at `at`, where `room` brackets more may open at once. Every member is looked at, and the first bad one decides.
+pub fn judge(text: &[u8], at: usize, room: usize) -> Judged
+    ensures { λ r. ⌜ Judges at (valueOf room (now (text .entry)) at) r ⌝ }
+{
+    let v = value(text, at, room);
+    let Parsed::Value(end) = v else {
+        return Judged {
+            end: at,
+            verdict: Verdict::Form,
+        };
+    };
+    let close = closing(kind_of(peek(text, at)));
+    if close == 0 {
+        return Judged {
+            end: end,
+            verdict: Verdict::Form,
+        };
+    }
+    Judged {
+        end: end,
+        verdict: members(text, at + 1, close, room - 1),
+    }
+}
+
+// Whether the item count or a stride of the order is over 2^64-1 (22).
+pub fn over(shape: Outline, order: Order) -> bool
+    ensures { λ r. ⌜ r ≡ overIn order shape ⌝ }
+{
+    let before = shape.before;
+    let behind = shape.behind;
+    match order {
+        Order::C => is_over(behind),
+        Order::Fortran => is_over(before),
+    }
+}
+
+fn is_over(n: Number) -> bool
+    ensures { λ r. ⌜ r ≡ isOver n ⌝ }
+{
+    match n {
+        Number::Is(_) => false,
+        Number::Over => true,
+    }
+}
+
+// The bracket that closes a list or a tuple, by the kind of the byte that opens it; 0 for any other kind.
+pub fn closing(k: Kind) -> u8
+    ensures { λ r. ⌜ r ≡ closingOf k ⌝ }
+{
+    match k {
+        Kind::Square => 93,
+        Kind::Round => 41,
+        Kind::Curly => 0,
+        Kind::Quote => 0,
+        Kind::Minus => 0,
+        Kind::Digit => 0,
+        Kind::TrueWord => 0,
+        Kind::FalseWord => 0,
+        Kind::NoneWord => 0,
+        Kind::Other => 0,
+    }
+}
+
+// The dimension that the value at `at` is.
+fn dimension(text: &[u8], at: usize) -> Member
+    ensures { λ r. ⌜ SizeAt (now (text .entry)) at r ⌝ }
+{
+    let k = kind_of(peek(text, at));
+    match k {
+        Kind::Digit => positive(digits_at(text, at)),
+        Kind::Minus => negative(digits_at(text, at + 1)),
+        Kind::Square
+        | Kind::Round
+        | Kind::Curly
+        | Kind::Quote
+        | Kind::TrueWord
+        | Kind::FalseWord
+        | Kind::NoneWord
+        | Kind::Other => Member::Form,
+    }
+}
+
+// The members from `from` up to the closing bracket.
+fn members(text: &[u8], from: usize, close: u8, room: usize) -> Verdict
+    ensures { λ r. ⌜ MembersFrom room (now (text .entry)) from close r ⌝ }
+{
+    let mut g = gap_at(text, from, close);
+    let mut verdict = Verdict::Good(Outline {
+        rank: 0,
+        empty: false,
+        before: Number::Is(1),
+        behind: Number::Is(1),
+    });
+    loop {
+        let Gap::Item(p) = g else {
+            return verdict;
+        };
+        let v = value(text, p, room);
+        let Parsed::Value(q) = v else {
+            return verdict;
+        };
+        verdict = joined(verdict, dimension(text, p));
+        g = then_at(text, q, close);
+    }
+}
+
+// A verdict and one member more: the first refusal stays.
+fn joined(verdict: Verdict, member: Member) -> Verdict
+    requires { ⌜ rankOf verdict < 2 ^ 64 - 1 ⌝ }
+    ensures { λ r. ⌜ outlined r ≡ then (outlined verdict) (λ o. each (extendedBy o) (sized member)) ⌝ }
+{
+    match verdict {
+        Verdict::Form => Verdict::Form,
+        Verdict::Large => Verdict::Large,
+        Verdict::Good(o) => match member {
+            Member::Form => Verdict::Form,
+            Member::Large => Verdict::Large,
+            Member::Is(n) => Verdict::Good(extended(o, n)),
+        },
+    }
+}
+
+fn extended(o: Outline, n: u64) -> Outline
+    requires { ⌜ o .rank < 2 ^ 64 - 1 ⌝ }
+    ensures { λ r. ⌜ r ≡ extendedBy o n ⌝ }
+{
+    let before = o.before;
+    let behind = o.behind;
+    if n == 0 {
+        return Outline {
+            rank: o.rank + 1,
+            empty: true,
+            before: before,
+            behind: Number::Is(1),
+        };
+    }
+    if o.empty {
+        return Outline {
+            rank: o.rank + 1,
+            empty: true,
+            before: before,
+            behind: scaled(behind, n),
+        };
+    }
+    Outline {
+        rank: o.rank + 1,
+        empty: false,
+        before: scaled(before, n),
+        behind: scaled(behind, n),
+    }
+}
+
+fn scaled(a: Number, n: u64) -> Number
+    ensures { λ r. ⌜ r ≡ scaledBy a n ⌝ }
+{
+    match a {
+        Number::Is(a) => counts::product(a, n),
+        Number::Over => Number::Over,
+    }
+}
+
+// The number that the digits at `at` write.
+fn digits_at(text: &[u8], at: usize) -> Number
+    ensures { λ r. ⌜ ((e : ℕ) → naturalAt (now (text .entry)) at ≡ Parsed.Value e → r ≡ number (decimal (part (now (text .entry)) at e))) ⌝ }
+{
+    let n = natural(text, at);
+    let Parsed::Value(e) = n else {
+        return Number::Over;
+    };
+    decimal::read(&text[at..e]).number
+}
+
+// A number without a `-`.
+fn positive(n: Number) -> Member
+    ensures { λ r. ⌜ ((m : ℕ) → n ≡ number m → sized r ≡ signed false m) ⌝ }
+{
+    match n {
+        Number::Is(n) => Member::Is(n),
+        Number::Over => Member::Large,
+    }
+}
+
+// A number behind a `-`.
+fn negative(n: Number) -> Member
+    ensures { λ r. ⌜ ((m : ℕ) → n ≡ number m → sized r ≡ signed true m) ⌝ }
+{
+    match n {
+        Number::Is(n) => { if n == 0 { Member::Is(0) } else { Member::Form } }
+        Number::Over => Member::Form,
+    }
+}

@@ -1,0 +1,152 @@
+-- What a value is, by the kind of its first byte: a dict and its pairs, a string and whether it is the key, an order. Assumes nothing.
+use Prim.Native.Nat.{ℕ, _+_, _-_, _<_}
+use mathlib.Core.Path.{_≡_, refl, sym, ap, _∙_}
+use mathlib.Core.List.{List, [], _∷_}
+use mathlib.Core.Bool.{Bool, true, false}
+use lib.ListN.{length}
+use denote.Enum.Declared.{tagOf}
+use types.Run.{OneOf, miss}
+use Rattle.counts.specs.Outcome.{Outcome, gives, refused, then}
+use Rattle.counts.proofs.Alike.{true-false}
+use Rattle.dtype.specs.declared.Order.{Order}
+use Rattle.dtype.specs.declared.Order.the-variants.{C, Fortran}
+use Rattle.record.specs.Parts.{stringOr}
+use Rattle.record.specs.Dict.{isString, isThe}
+use Rattle.record.specs.FromValue.{orderOf}
+use Rattle.literal.specs.Node.{Node, Pair, pairs}
+use Rattle.literal.specs.Got.{Got, got, fault, deep, pos}
+use Rattle.literal.specs.Forget.{forget}
+use Rattle.literal.specs.Text.{byteAt, kindOf}
+use Rattle.literal.specs.Strings.{spelled, same}
+use Rattle.literal.specs.Brackets.{gapAt, pairBy}
+use Rattle.literal.specs.Literal.{value}
+use Rattle.literal.specs.Rows.{Row, View}
+use Rattle.literal.specs.declared.bytes.Kind.{Kind}
+use Rattle.literal.specs.declared.bytes.Kind.the-variants.{Square, Round, Curly, Quote, Minus, Digit, TrueWord, FalseWord, NoneWord, Other}
+use Rattle.literal.proofs.bytes.Kind.{the-type}
+use Rattle.literal.proofs.Positions.{kind-in}
+use Rattle.literal.proofs.Steps.{Stops}
+use Rattle.literal.proofs.View.{view}
+use Rattle.dims.specs.Answer.{valueOr}
+use Rattle.keys.specs.Pairs.{pairsIn, isKey}
+use Rattle.keys.specs.Answer.{isCurly, isQuoted}
+use Rattle.keys.proofs.Nodes.{alike}
+
+pub quoted-is : (c : Kind) → isQuoted c ≡ true → c ≡ Quote
+quoted-is Square h = true-false (sym h)
+quoted-is Round h = true-false (sym h)
+quoted-is Curly h = true-false (sym h)
+quoted-is Quote h = refl
+quoted-is Minus h = true-false (sym h)
+quoted-is Digit h = true-false (sym h)
+quoted-is TrueWord h = true-false (sym h)
+quoted-is FalseWord h = true-false (sym h)
+quoted-is NoneWord h = true-false (sym h)
+quoted-is Other h = true-false (sym h)
+
+curly-is : (c : Kind) → isCurly c ≡ true → c ≡ Curly
+curly-is Square h = true-false (sym h)
+curly-is Round h = true-false (sym h)
+curly-is Curly h = refl
+curly-is Quote h = true-false (sym h)
+curly-is Minus h = true-false (sym h)
+curly-is Digit h = true-false (sym h)
+curly-is TrueWord h = true-false (sym h)
+curly-is FalseWord h = true-false (sym h)
+curly-is NoneWord h = true-false (sym h)
+curly-is Other h = true-false (sym h)
+
+-- a dict, and its pairs
+pub record Braces (k : ℕ) (s : List ℕ) (at : ℕ) (n : Node) (e : ℕ) : Type 0 where
+  pub inside : at < length s
+  pub held : List Pair
+  pub holds : (j : ℕ) → pairsIn j n ≡ gives (pairs held)
+  pub row : Row (pairBy (value (k - 1) s) s) s 125 held (gapAt s (at + 1) 125) e
+
+module _ (k : ℕ) (s : List ℕ) (at e : ℕ) (n : Node) (h : value k s at ≡ got n e) where
+  pub braces : (c : Kind) → c ≡ kindOf (byteAt s at) → isCurly c ≡ true → Braces k s at n e
+  braces c hk z =
+      let hc : kindOf (byteAt s at) ≡ Curly = sym hk ∙ curly-is c z in
+      let v = view k s at h hc in
+      record { inside = kind-in s at hc refl; held = v .1; holds = λ j. ap (pairsIn j) (v .2); row = v .3 }
+
+  no-braces-by : (j : ℕ) (c : Kind) → isCurly c ≡ false → View c k s at n e → pairsIn j n ≡ refused j
+  no-braces-by j Square z v = ap (pairsIn j) (v .2)
+  no-braces-by j Round z v = ap (pairsIn j) (v .2)
+  no-braces-by j Curly z v = true-false z
+  no-braces-by j Quote z v = ap (pairsIn j) (v .0)
+  no-braces-by j Minus z v = ap (pairsIn j) (v .0)
+  no-braces-by j Digit z v = ap (pairsIn j) (v .0)
+  no-braces-by j TrueWord z v = ap (pairsIn j) v
+  no-braces-by j FalseWord z v = ap (pairsIn j) v
+  no-braces-by j NoneWord z v = ap (pairsIn j) v
+  no-braces-by j Other z v = absurd v
+
+  pub no-braces : (j : ℕ) (c : Kind) → c ≡ kindOf (byteAt s at) → isCurly c ≡ false → pairsIn j n ≡ refused j
+  no-braces j c hk z = no-braces-by j c z (view k s at h (sym hk))
+
+  -- a string
+  text-of : {m : Node} → n ≡ m → stringOr 8 (forget n) ≡ stringOr 8 (forget m)
+  text-of z = ap (λ (x : Node). stringOr 8 (forget x)) z
+
+  a-string : kindOf (byteAt s at) ≡ Quote → stringOr 8 (forget n) ≡ gives (spelled (byteAt s at) s (at + 1) .bytes)
+  unfolding forget
+  a-string hk = let v = view k s at h hk in text-of (v .0)
+
+  pub is-string : (c : Kind) → c ≡ kindOf (byteAt s at) → isQuoted c ≡ true → isString (stringOr 8 (forget n)) ≡ true
+  is-string c hk z = ap isString (a-string (sym hk ∙ quoted-is c z))
+
+  pub key-is : (c : Kind) (w : List ℕ) (r : Bool) → c ≡ kindOf (byteAt s at) → isQuoted c ≡ true → r ≡ same (spelled (byteAt s at) s (at + 1) .bytes) w → r ≡ isKey w n
+  key-is c w r hk z hr = hr ∙ alike (spelled (byteAt s at) s (at + 1) .bytes) w ∙ sym (ap (isThe w) (a-string (sym hk ∙ quoted-is c z)))
+
+  no-string-by : (c : Kind) → isQuoted c ≡ false → View c k s at n e → stringOr 8 (forget n) ≡ refused 8
+  unfolding forget
+  no-string-by Square z v = text-of (v .2)
+  no-string-by Round z v = text-of (v .2)
+  no-string-by Curly z v = text-of (v .2)
+  no-string-by Quote z v = true-false z
+  no-string-by Minus z v = text-of (v .0)
+  no-string-by Digit z v = text-of (v .0)
+  no-string-by TrueWord z v = text-of v
+  no-string-by FalseWord z v = text-of v
+  no-string-by NoneWord z v = text-of v
+  no-string-by Other z v = absurd v
+
+  pub no-string : (c : Kind) → c ≡ kindOf (byteAt s at) → isQuoted c ≡ false → stringOr 8 (forget n) ≡ refused 8
+  no-string c hk z = no-string-by c z (view k s at h (sym hk))
+
+  -- an order
+  order-of : {m : Node} → n ≡ m → orderOf (forget n) ≡ orderOf (forget m)
+  order-of z = ap (λ (x : Node). orderOf (forget x)) z
+
+  order-by : (c : Kind) → OneOf (0 ∷ 1 ∷ 2 ∷ 3 ∷ 4 ∷ 5 ∷ 8 ∷ 9 ∷ []) (tagOf the-type c) → View c k s at n e → orderOf (forget n) ≡ refused 10
+  unfolding forget
+  order-by Square o v = order-of (v .2)
+  order-by Round o v = order-of (v .2)
+  order-by Curly o v = order-of (v .2)
+  order-by Quote o v = order-of (v .0)
+  order-by Minus o v = order-of (v .0)
+  order-by Digit o v = order-of (v .0)
+  order-by TrueWord o v = absurd (miss (0 ∷ 1 ∷ 2 ∷ 3 ∷ 4 ∷ 5 ∷ 8 ∷ 9 ∷ []) 6 tt o)
+  order-by FalseWord o v = absurd (miss (0 ∷ 1 ∷ 2 ∷ 3 ∷ 4 ∷ 5 ∷ 8 ∷ 9 ∷ []) 7 tt o)
+  order-by NoneWord o v = order-of v
+  order-by Other o v = absurd v
+
+  read-as : (x : Outcome Order) → orderOf (forget n) ≡ x → x ≡ then (valueOr 10 (value k s at)) orderOf
+  read-as x z = sym z ∙ sym (ap (λ (g : Got Node). then (valueOr 10 g) orderOf) h)
+
+  pub order-true : (c : Kind) → c ≡ kindOf (byteAt s at) → c ≡ TrueWord → gives Fortran ≡ then (valueOr 10 (value k s at)) orderOf
+  unfolding forget
+  order-true c hk z = read-as (gives Fortran) (order-of (view k s at h (sym hk ∙ z)))
+
+  pub order-false : (c : Kind) → c ≡ kindOf (byteAt s at) → c ≡ FalseWord → gives C ≡ then (valueOr 10 (value k s at)) orderOf
+  unfolding forget
+  order-false c hk z = read-as (gives C) (order-of (view k s at h (sym hk ∙ z)))
+
+  pub order-other : (c : Kind) → c ≡ kindOf (byteAt s at) → OneOf (0 ∷ 1 ∷ 2 ∷ 3 ∷ 4 ∷ 5 ∷ 8 ∷ 9 ∷ []) (tagOf the-type c) → refused 10 ≡ then (valueOr 10 (value k s at)) orderOf
+  order-other c hk o = read-as (refused 10) (order-by c o (view k s at h (sym hk)))
+
+pub order-none : (g : Got Node) → Stops (pos g) → refused 10 ≡ then (valueOr 10 g) orderOf
+order-none (got n e) st = absurd st
+order-none (fault p) st = refl
+order-none (deep p) st = refl

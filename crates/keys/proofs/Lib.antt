@@ -1,0 +1,4 @@
+pub mod Nodes
+pub mod Braces
+pub mod Seek
+pub mod OneOutcome

@@ -1,0 +1,81 @@
+-- No value; a value that is no dict; or a dict, whose pairs are looked at. Assumes nothing.
+use native.Mathlib.Omega.{arith}
+use mathlib.Core.Path.{sym, ap, subst, _∙_}
+use borrow.Author.Needs.{needs}
+use Rattle.literal.specs.Text.{kindOf}
+use Rattle.literal.specs.Literal.{most-open}
+use Rattle.literal.proofs.Steps.{Stops, stops}
+use Rattle.keys.proofs.Seek.{not-found, dict-at, found-dict, found-other}
+use Rattle.keys.proofs.find.Statement.{statement}
+use Rattle.keys.proofs.find.Tie as tie
+
+value-requires : tie.Need-value-requires
+value-requires c κs = search needs
+
+enum-told : tie.Need-enum-told
+enum-told c = search needs
+
+returns : tie.Need-returns
+returns c =
+    let a = c .before .before .before .before .args in
+    not-found most-open (a .text .now) (a .at) (a .key .now) (subst Stops (c .before .value .ensures) (stops (c .before .value .result) (c .match .keys2)))
+
+peek-requires : tie.Need-peek-requires
+peek-requires c κs = search needs
+
+kind-of-requires : tie.Need-kind-of-requires
+kind-of-requires c κs = search needs
+
+is-curly-requires : tie.Need-is-curly-requires
+is-curly-requires c κs = search needs
+
+add-find-from : tie.Need-add-find-from
+add-find-from c =
+    let a = c .before .before .before .before .before .before .before .before .before .args in
+    let s = a .text .now in
+    let h = sym (c .before .before .before .before .enum-told .given .1) ∙ c .before .before .before .before .before .before .value .ensures in
+    let hk = c .before .before .kind-of .ensures ∙ ap kindOf (c .before .before .before .peek .ensures) in
+    let z = sym (c .before .is-curly .ensures) ∙ c .if1 .taken in
+    let b = dict-at most-open s (a .at) _ h _ hk z in
+    omega (arith, b .inside)
+
+sub-find-from : tie.Need-sub-find-from
+sub-find-from c = search needs
+
+find-from-requires : tie.Need-find-from-requires
+find-from-requires c κs = search needs
+
+returns-2 : tie.Need-returns-2
+returns-2 c =
+    let a = c .before .before .before .before .before .before .before .before .before .before .args in
+    let s = a .text .now in
+    let h = sym (c .before .before .before .before .before .enum-told .given .1) ∙ c .before .before .before .before .before .before .before .value .ensures in
+    let hk = c .before .before .before .kind-of .ensures ∙ ap kindOf (c .before .before .before .before .peek .ensures) in
+    let z = sym (c .before .before .is-curly .ensures) ∙ c .before .if1 .taken in
+    let b = dict-at most-open s (a .at) _ h _ hk z in
+    found-dict most-open s (a .at) _ h _ hk z (a .key .now) (c .find-from .result) (c .find-from .ensures (b .held) _ (b .row))
+
+returns-3 : tie.Need-returns-3
+returns-3 c =
+    let a = c .before .before .before .before .before .before .before .before .before .args in
+    let s = a .text .now in
+    let h = sym (c .before .before .before .before .enum-told .given .1) ∙ c .before .before .before .before .before .before .value .ensures in
+    let hk = c .before .before .kind-of .ensures ∙ ap kindOf (c .before .before .before .peek .ensures) in
+    let z = sym (c .before .is-curly .ensures) ∙ c .if1 .left in
+    found-other most-open s (a .at) _ h _ hk (a .key .now) z
+
+pub find-spec : {M : Type 1} → statement M
+find-spec =
+    tie.close
+    (tie.spec
+    value-requires
+    enum-told
+    returns
+    peek-requires
+    kind-of-requires
+    is-curly-requires
+    add-find-from
+    sub-find-from
+    find-from-requires
+    returns-2
+    returns-3)
