@@ -27,10 +27,9 @@ use Rattle.literal.specs.declared.Parsed.{Parsed}
 use Rattle.literal.specs.declared.Parsed.the-variants.{Value, Fault, Deep}
 use Rattle.literal.specs.declared.bytes.Kind.{Kind}
 use Rattle.literal.specs.declared.bytes.Kind.the-variants.{Square, Round, Curly, Quote, Minus, Digit, TrueWord, FalseWord, NoneWord, Other}
-use Rattle.literal.specs.declared.bytes.Class.the-variants.{Digits}
 use Rattle.literal.proofs.bytes.Kind.{the-type}
 use Rattle.literal.proofs.Parsed as parsed
-use Rattle.literal.proofs.Positions.{byte-in, class-in, past-more, past-from}
+use Rattle.literal.proofs.Positions.{byte-in, digit-in, past-more, past-from}
 use Rattle.literal.proofs.Ends.{past-within}
 use Rattle.literal.proofs.Steps.{Stops, stops}
 use Rattle.literal.proofs.Left.{drop-left, digits-part}
@@ -57,7 +56,7 @@ module _ (s : List ℕ) (at : ℕ) where
 
   run-digits : isDigit (byteAt s at) ≡ true → digitsOf (part s at (past isDigit s (at + 1))) ≡ part s at (past isDigit s (at + 1))
   run-digits h =
-      let e = past-more isDigit s at (class-in Digits s at h) h in
+      let e = past-more isDigit s at (digit-in s at h) h in
       let p : digitsOf (drop at s) ≡ part s at (past isDigit s (at + 1)) = digits-part s at ∙ ap (part s at) e in
       ap digitsOf (sym p) ∙ digits-twice (drop at s) ∙ p
 
@@ -73,7 +72,7 @@ module _ (s : List ℕ) (at : ℕ) where
     where
       more : (t : Bool) → isDigit (byteAt s at) ≡ t → Natural (elim t [ true ↦ Value (past isDigit s (at + 1)) | false ↦ Fault at ])
       more true h =
-          let lt = class-in Digits s at h in
+          let lt = digit-in s at h in
           (omega (arith, past-from isDigit s (at + 1)), past-within isDigit s (at + 1) (omega arith), run-digits h)
       more false h = tt
 

@@ -16,7 +16,7 @@ use Rattle.counts.specs.Outcome.{Outcome, gives, refused, then, each}
 use Rattle.grammar.specs.Value.{Values}
 use Rattle.record.specs.Parts.{membersOr}
 use Rattle.record.specs.Dimensions.{dimension, dimensions}
-use Rattle.record.specs.Rooms.{over}
+use Rattle.record.specs.Rooms.{atFront}
 use Rattle.literal.specs.Node.{Node}
 use Rattle.literal.specs.Got.{Got, got, fault, deep, pos}
 use Rattle.literal.specs.Forget.{forget, forgetAll}
@@ -152,7 +152,7 @@ module _ (k : ℕ) (s : List ℕ) (at : ℕ) (ns : List ℕ) (c : Kind) (hk : c 
   shape-at close hc h = subst (λ (x : ℕ). ShapeAt k s at x ns) (sym hc) (read-or (value k s at) refl h)
 
 -- ---- where there is room for all
-pub stored-over : (ns old : List ℕ) → length ns ≤ length old → sets old 0 ns ≡ over ns old
+pub stored-over : (ns old : List ℕ) → length ns ≤ length old → sets old 0 ns ≡ atFront ns old
 stored-over ns old l =
     let z : 0 + length ns ≡ length ns = omega arith in
     rw z at (sets-eq ns old 0 (omega arith))

@@ -17,7 +17,8 @@ use Rattle.literal.specs.Node.{Node, Pair, pairs}
 use Rattle.literal.specs.Got.{Got, got, fault, deep, pos}
 use Rattle.literal.specs.Forget.{forget}
 use Rattle.literal.specs.Text.{byteAt, kindOf}
-use Rattle.literal.specs.Strings.{spelled, same}
+use Rattle.literal.specs.Strings.{spelled}
+use Rattle.counts.specs.Same.{same}
 use Rattle.literal.specs.Brackets.{gapAt, pairBy}
 use Rattle.literal.specs.Literal.{value}
 use Rattle.literal.specs.Rows.{Row, View}
@@ -30,7 +31,6 @@ use Rattle.literal.proofs.View.{view}
 use Rattle.dims.specs.Answer.{valueOr}
 use Rattle.keys.specs.Pairs.{pairsIn, isKey}
 use Rattle.keys.specs.Answer.{isCurly, isQuoted}
-use Rattle.keys.proofs.Nodes.{alike}
 
 pub quoted-is : (c : Kind) → isQuoted c ≡ true → c ≡ Quote
 quoted-is Square h = true-false (sym h)
@@ -97,7 +97,7 @@ module _ (k : ℕ) (s : List ℕ) (at e : ℕ) (n : Node) (h : value k s at ≡ 
   is-string c hk z = ap isString (a-string (sym hk ∙ quoted-is c z))
 
   pub key-is : (c : Kind) (w : List ℕ) (r : Bool) → c ≡ kindOf (byteAt s at) → isQuoted c ≡ true → r ≡ same (spelled (byteAt s at) s (at + 1) .bytes) w → r ≡ isKey w n
-  key-is c w r hk z hr = hr ∙ alike (spelled (byteAt s at) s (at + 1) .bytes) w ∙ sym (ap (isThe w) (a-string (sym hk ∙ quoted-is c z)))
+  key-is c w r hk z hr = hr ∙ sym (ap (isThe w) (a-string (sym hk ∙ quoted-is c z)))
 
   no-string-by : (c : Kind) → isQuoted c ≡ false → View c k s at n e → stringOr 8 (forget n) ≡ refused 8
   unfolding forget

@@ -1,34 +1,17 @@
--- The definitions on the values as they stand in the text give the values that crate record's definitions give, and two tests of two texts agree.
--- Assumes nothing.
+-- The definitions on the values as they stand in the text give the values that crate record's definitions give. Assumes nothing.
 use Prim.Native.Nat.{ℕ}
 use mathlib.Core.Path.{_≡_, refl, sym, ap, _∙_}
-use mathlib.Core.List.{List, [], _∷_}
-use mathlib.Core.Bool.{Bool, true, false, cond, _&&_}
-use lib.Dec.{eqb}
+use mathlib.Core.List.{List}
+use mathlib.Core.Bool.{Bool, true, false, cond}
 use Rattle.counts.specs.Outcome.{Outcome, gives, refused, then, each}
-use Rattle.counts.specs.Same as bytes
 use Rattle.grammar.specs.Value.{Value, Items}
 use Rattle.record.specs.Parts.{itemsOr}
 use Rattle.record.specs.Dict.{lastOf, needed}
 use Rattle.literal.specs.Node.{Node, Pairs, string, integer, True, False, None, list, tuple, dict, end-of-pairs, pair-then}
 use Rattle.literal.specs.Got.{Got, got, fault, deep}
 use Rattle.literal.specs.Forget.{forget, forgetPairs}
-use Rattle.literal.specs.Strings.{same}
 use Rattle.dims.specs.Answer.{valueOr}
 use Rattle.keys.specs.Pairs.{pairsIn, isKey, lastIn, nodeFor}
-
-pub alike : (xs ys : List ℕ) → same xs ys ≡ bytes.same xs ys
-unfolding same
-alike [] [] = refl
-alike [] (y ∷ ys) = refl
-alike (x ∷ xs) [] = refl
-alike (x ∷ xs) (y ∷ ys) = ap (λ (b : Bool). cond (eqb x y) b false) (alike xs ys) ∙ both (eqb x y) (bytes.same xs ys)
-  where
-    both : (a b : Bool) → cond a b false ≡ (b && a)
-    both true true = refl
-    both true false = refl
-    both false true = refl
-    both false false = refl
 
 pub items-in : (j : ℕ) (n : Node) → itemsOr j (forget n) ≡ each forgetPairs (pairsIn j n)
 unfolding forget

@@ -47,6 +47,9 @@ class-ends Digits = refl
 pub class-in : (k : Class) (s : List ℕ) (i : ℕ) → isIn k (byteAt s i) ≡ true → i < length s
 class-in k s i h = pass-in (isIn k) s i (class-ends k) h
 
+pub digit-in : (s : List ℕ) (i : ℕ) → isDigit (byteAt s i) ≡ true → i < length s
+digit-in s i h = class-in Digits s i h
+
 pub open-in : (s : List ℕ) (i : ℕ) → isOpen (byteAt s i) ≡ true → i < length s
 unfolding isOpen
 open-in s i h = pass-in isOpen s i refl h

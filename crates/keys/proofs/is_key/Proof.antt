@@ -5,7 +5,8 @@ use mathlib.Core.Path.{refl, sym, ap, _∙_}
 use borrow.Author.Needs.{needs}
 use Rattle.literal.specs.Text.{kindOf}
 use Rattle.record.specs.Dict.{isThe}
-use Rattle.literal.specs.Strings.{spelled, same}
+use Rattle.literal.specs.Strings.{spelled}
+use Rattle.counts.specs.Same.{same}
 use Rattle.literal.proofs.Positions.{getD-any, kind-in}
 use Rattle.keys.proofs.Braces.{quoted-is, key-is, no-string}
 use Rattle.keys.proofs.is_key.Statement.{statement}
