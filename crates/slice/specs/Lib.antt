@@ -1,0 +1,4 @@
+pub mod Elements
+pub mod Runs
+pub mod Rooms
+pub mod Answer
