@@ -10,6 +10,10 @@ use mathlib.Core.Bool.{Bool, true, false, _||_, cond}
 use lib.ListN.{length}
 use lib.Dec.{eqb, ltb}
 use borrow.Author.Tests.{eqb-true, eqb-false, le-leb, lt-leb, lt-ltb, le-ltb}
+use Rattle.counts.specs.Number.{number}
+use Rattle.counts.specs.declared.Number.{Number}
+use Rattle.counts.specs.declared.Number.the-variants.{Is}
+use Rattle.counts.proofs.Fits.{number-is}
 use Rattle.dtype.specs.Dtype.{Dtype, plain, array, record-of, sizeOf}
 use Rattle.dtype.specs.Entries.{someEntry, entriesOf, levels, hasObject}
 use Rattle.dtype.specs.Names.{nameBytes, namesOf}
@@ -17,8 +21,8 @@ use Rattle.dtype.specs.Shape.{product}
 use Rattle.dtype.specs.Limits.{over, someOver, overLevels}
 use Rattle.dtype.proofs.Digits.{lt-or-ge}
 use Rattle.record.specs.Descr.{arrays}
-use Rattle.dims.specs.Outline.{hasZero, behindZero}
-use Rattle.dims.proofs.Outlines.{or-assoc}
+use Rattle.dims.specs.Outline.{hasZero, behindZero, outlineOf, scaledBy, isOver, largestIn}
+use Rattle.dims.proofs.Outlines.{number-scaled, number-over-is, or-assoc}
 
 -- ---- products
 pub zero-product : (ns : List ℕ) → hasZero ns ≡ true → product ns ≡ 0
@@ -101,6 +105,30 @@ arrays-over [] d =
 arrays-over (n ∷ ns) d =
     rw (arrays-over ns d, arrays-size ns d)
     (sym (or-assoc (over (n * (product ns * sizeOf d))) (over (behindZero ns * sizeOf d)) (someOver d)) ∙ ap (λ (b : Bool). b || someOver d) (over-front (sizeOf d) n ns))
+
+-- both by the outline and the inner size alone
+pub largest-is : (ns : List ℕ) (s : ℕ) → largestIn (outlineOf ns) s ≡ number (behindZero ns * s)
+unfolding largestIn outlineOf
+largest-is ns s = go (eqb s 0) refl
+  where
+    go : (t : Bool) → eqb s 0 ≡ t → cond t (Is 0) (scaledBy (number (behindZero ns)) s) ≡ number (behindZero ns * s)
+    go true h =
+        let z : behindZero ns * s ≡ 0 = ap (λ (x : ℕ). behindZero ns * x) (eqb-true s 0 h) ∙ omega arith in
+        sym (ap number z ∙ number-is 0 (omega arith))
+    go false h = sym (number-scaled (behindZero ns) s h)
+
+pub levels-over : (ns : List ℕ) (d : Dtype) → (isOver (largestIn (outlineOf ns) (sizeOf d)) || someOver d) ≡ someOver (arrays ns d)
+levels-over ns d =
+    ap (λ (n : Number). isOver n || someOver d) (largest-is ns (sizeOf d))
+    ∙ ap (λ (b : Bool). b || someOver d) (number-over-is (behindZero ns * sizeOf d))
+    ∙ sym (arrays-over ns d)
+
+pub levels-size : (ns : List ℕ) (d : Dtype) → cond (hasZero ns) (Is 0) (largestIn (outlineOf ns) (sizeOf d)) ≡ number (sizeOf (arrays ns d))
+levels-size ns d = ap (cond (hasZero ns) (Is 0)) (largest-is ns (sizeOf d)) ∙ go (hasZero ns) ∙ ap number (sym (arrays-outline ns d))
+  where
+    go : (t : Bool) → cond t (Is 0) (number (behindZero ns * sizeOf d)) ≡ number (cond t 0 (behindZero ns * sizeOf d))
+    go true = sym (number-is 0 (omega arith))
+    go false = refl
 
 -- 20 and 13: one entry for each level, and the outermost one has the most levels below it
 pub arrays-entries : (ns : List ℕ) (d : Dtype) → entriesOf (arrays ns d) ≡ length ns + entriesOf d

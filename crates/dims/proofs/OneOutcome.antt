@@ -7,6 +7,7 @@ use lib.Dec.{eqb}
 use Rattle.counts.specs.Outcome.{Outcome, gives, refused}
 use Rattle.counts.specs.OneOutcome.{OneOutcome}
 use Rattle.counts.proofs.OneOutcome.{by-equation, by-inverse}
+use Rattle.counts.specs.declared.Number.{Number}
 use Rattle.dtype.specs.declared.Order.{Order}
 use Rattle.literal.specs.Node.{Node}
 use Rattle.literal.specs.Got.{Got}
@@ -15,7 +16,7 @@ use Rattle.dims.specs.declared.Outline.{Outline}
 use Rattle.dims.specs.declared.Judged.{Judged}
 use Rattle.dims.specs.declared.Verdict.{Verdict}
 use Rattle.dims.specs.declared.Verdict.the-variants.{Good, Form, Large}
-use Rattle.dims.specs.Outline.{overIn}
+use Rattle.dims.specs.Outline.{largestIn, overIn}
 use Rattle.dims.specs.Answer.{outlined, Judges}
 use Rattle.dims.specs.Walk.{closingOf}
 use Rattle.dims.specs.Fill.{Shape, Fills}
@@ -40,6 +41,9 @@ judge-one at g x y p q =
 
 pub over-one : (o : Order) (shape : Outline) → OneOutcome {A = Bool} (λ r. r ≡ overIn o shape)
 over-one o shape = by-equation (overIn o shape)
+
+pub largest-one : (levels : Outline) (size : ℕ) → OneOutcome {A = Number} (λ r. r ≡ largestIn levels size)
+largest-one levels size = by-equation (largestIn levels size)
 
 pub closing-one : (k : Kind) → OneOutcome {A = ℕ} (λ r. r ≡ closingOf k)
 closing-one k = by-equation (closingOf k)

@@ -1,23 +1,18 @@
 -- 22 by the outline. In C order the count and the strides are the products of the dimensions from some place on, so the largest one without a 0 is that
 -- behind the last 0; Fortran order is C order of the reversed shape. Assumes nothing.
-use Prim.Native.Nat.{ℕ, _*_, _<_, _≤_, _^_}
+use Prim.Native.Nat.{ℕ, _*_}
 use native.Mathlib.Omega.{arith}
 use mathlib.Core.Path.{_≡_, refl, sym, ap, _∙_}
-use mathlib.Core.Logic.{⊎-elim}
 use mathlib.Core.List.{List, [], _∷_, _++_, reverse, reverse-cons}
 use mathlib.Core.Bool.{Bool, true, false, _||_, cond}
 use lib.Dec.{eqb}
-use borrow.Author.Tests.{le-leb, lt-leb}
-use Rattle.counts.specs.Number.{number}
-use Rattle.counts.proofs.Fits.{number-is, number-over}
 use Rattle.dtype.specs.declared.Order.{Order}
 use Rattle.dtype.specs.declared.Order.the-variants.{C, Fortran}
 use Rattle.dtype.specs.Shape.{product, strides}
 use Rattle.dtype.specs.Limits.{over, anyOver, overShape}
-use Rattle.dtype.proofs.Digits.{lt-or-ge}
 use Rattle.dtype.proofs.Strides.{strides-c, strides-reverse, product-reverse}
-use Rattle.dims.specs.Outline.{beforeZero, behindZero, outlineOf, isOver, overIn}
-use Rattle.dims.proofs.Outlines.{or-false, behind-last}
+use Rattle.dims.specs.Outline.{beforeZero, behindZero, outlineOf, overIn}
+use Rattle.dims.proofs.Outlines.{number-over-is, or-false, behind-last}
 use Rattle.dims.proofs.Levels.{over-front}
 
 times-one : (x : ℕ) → x * 1 ≡ x
@@ -66,13 +61,6 @@ pub fortran-over : (ns : List ℕ) → overShape Fortran ns ≡ over (beforeZero
 fortran-over ns = mirrored ns ∙ c-over (reverse ns) ∙ ap over (behind-reverse ns)
 
 -- both, by the outline
-number-over-is : (n : ℕ) → isOver (number n) ≡ over n
-number-over-is n =
-    ⊎-elim
-    (λ (h : n < 2 ^ 64). rw (number-is n h, lt-leb (2 ^ 64) n h))
-    (λ (h : 2 ^ 64 ≤ n). rw (number-over n h, le-leb (2 ^ 64) n h))
-    (lt-or-ge n (2 ^ 64))
-
 pub outline-over : (o : Order) (ns : List ℕ) → overIn o (outlineOf ns) ≡ overShape o ns
 unfolding outlineOf
 outline-over C ns = number-over-is (behindZero ns) ∙ sym (c-over ns)

@@ -9,14 +9,15 @@ use mathlib.Core.List.{List, [], _∷_, _++_, append-nil, append-assoc}
 use mathlib.Core.Bool.{Bool, true, false, _||_, cond, or-true}
 use lib.ListN.{length-append}
 use lib.Dec.{eqb}
-use borrow.Author.Tests.{eqb-false, eq-eqb, ne-eqb}
+use borrow.Author.Tests.{eqb-false, eq-eqb, ne-eqb, le-leb, lt-leb}
 use Rattle.counts.specs.Number.{number}
 use Rattle.counts.specs.declared.Number.{Number}
 use Rattle.counts.specs.declared.Number.the-variants.{Is}
 use Rattle.counts.proofs.Fits.{number-is, number-over}
+use Rattle.dtype.specs.Limits.{over}
 use Rattle.dtype.proofs.Digits.{lt-or-ge}
 use Rattle.dims.specs.declared.Outline.{Outline}
-use Rattle.dims.specs.Outline.{hasZero, beforeZero, behindZero, outlineOf, scaledBy, extendedBy}
+use Rattle.dims.specs.Outline.{hasZero, beforeZero, behindZero, outlineOf, scaledBy, extendedBy, isOver}
 
 -- a product of numbers that fit or are over, where the new factor is not 0
 pub number-scaled : (a n : ℕ) → eqb n 0 ≡ false → number (a * n) ≡ scaledBy (number a) n
@@ -30,6 +31,13 @@ number-scaled a n h =
     large : 2 ^ 64 ≤ a → (m : ℕ) → (m ≡ 0 → ⊥) → 2 ^ 64 ≤ a * m
     large l zero z = absurd (z refl)
     large l (suc m) z = omega (arith, mul-suc a m)
+
+pub number-over-is : (n : ℕ) → isOver (number n) ≡ over n
+number-over-is n =
+    ⊎-elim
+    (λ (h : n < 2 ^ 64). rw (number-is n h, lt-leb (2 ^ 64) n h))
+    (λ (h : 2 ^ 64 ≤ n). rw (number-over n h, le-leb (2 ^ 64) n h))
+    (lt-or-ge n (2 ^ 64))
 
 pub or-assoc : (a b c : Bool) → ((a || b) || c) ≡ (a || (b || c))
 or-assoc true b c = refl

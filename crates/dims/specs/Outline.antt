@@ -49,6 +49,10 @@ extendedBy o n =
       behind = cond (eqb n 0) (Is 1) (scaledBy (o .behind) n);
     }
 
+-- 21, by the outline: the largest size that an array level has, over items of s bytes
+unfoldable pub largestIn : Outline → ℕ → Number
+largestIn o s = cond (eqb s 0) (Is 0) (scaledBy (o .behind) s)
+
 -- 22, by the outline
 abbrev pub isOver : Number → Bool
 isOver (Is n) = false

@@ -23,7 +23,7 @@ ghost use mathlib.Core.Bool.{true, false};
 ghost use Rattle.literal.specs.Literal.{value as valueOf};
 ghost use Rattle.literal.specs.Text.{part};
 ghost use Rattle.literal.specs.Tokens.{naturalAt};
-ghost use Rattle.dims.specs.Outline.{scaledBy, extendedBy, isOver, overIn};
+ghost use Rattle.dims.specs.Outline.{scaledBy, extendedBy, isOver, largestIn, overIn};
 ghost use Rattle.dims.specs.Answer.{sized, outlined, Judges};
 ghost use Rattle.dims.specs.Walk.{closingOf, rankOf, SizeAt, MembersFrom};
 
@@ -89,6 +89,17 @@ pub fn over(shape: Outline, order: Order) -> bool
         Order::C => is_over(behind),
         Order::Fortran => is_over(before),
     }
+}
+
+// The largest size that an array level of a sub-shape has, over items of `size` bytes (21).
+pub fn largest(levels: Outline, size: u64) -> Number
+    ensures { λ r. ⌜ r ≡ largestIn levels size ⌝ }
+{
+    let behind = levels.behind;
+    if size == 0 {
+        return Number::Is(0);
+    }
+    scaled(behind, size)
 }
 
 fn is_over(n: Number) -> bool

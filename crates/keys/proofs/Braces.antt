@@ -2,12 +2,11 @@
 use Prim.Native.Nat.{ℕ, _+_, _-_, _<_}
 use mathlib.Core.Path.{_≡_, refl, sym, ap, _∙_}
 use mathlib.Core.List.{List, [], _∷_}
-use mathlib.Core.Bool.{Bool, true, false}
+use mathlib.Core.Bool.{Bool, true}
 use lib.ListN.{length}
 use denote.Enum.Declared.{tagOf}
 use types.Run.{OneOf, miss}
 use Rattle.counts.specs.Outcome.{Outcome, gives, refused, then}
-use Rattle.counts.proofs.Alike.{true-false}
 use Rattle.dtype.specs.declared.Order.{Order}
 use Rattle.dtype.specs.declared.Order.the-variants.{C, Fortran}
 use Rattle.record.specs.Parts.{stringOr}
@@ -30,31 +29,13 @@ use Rattle.literal.proofs.Steps.{Stops}
 use Rattle.literal.proofs.View.{view}
 use Rattle.dims.specs.Answer.{valueOr}
 use Rattle.keys.specs.Pairs.{pairsIn, isKey}
-use Rattle.keys.specs.Answer.{isCurly, isQuoted}
 
-pub quoted-is : (c : Kind) → isQuoted c ≡ true → c ≡ Quote
-quoted-is Square h = true-false (sym h)
-quoted-is Round h = true-false (sym h)
-quoted-is Curly h = true-false (sym h)
-quoted-is Quote h = refl
-quoted-is Minus h = true-false (sym h)
-quoted-is Digit h = true-false (sym h)
-quoted-is TrueWord h = true-false (sym h)
-quoted-is FalseWord h = true-false (sym h)
-quoted-is NoneWord h = true-false (sym h)
-quoted-is Other h = true-false (sym h)
+-- what the `else` of `let Kind::Curly = k else { .. }` knows of k, and that of `Kind::Quote`
+abbrev pub NoCurly : Kind → Type 0
+NoCurly c = OneOf (0 ∷ 1 ∷ 3 ∷ 4 ∷ 5 ∷ 6 ∷ 7 ∷ 8 ∷ 9 ∷ []) (tagOf the-type c)
 
-curly-is : (c : Kind) → isCurly c ≡ true → c ≡ Curly
-curly-is Square h = true-false (sym h)
-curly-is Round h = true-false (sym h)
-curly-is Curly h = refl
-curly-is Quote h = true-false (sym h)
-curly-is Minus h = true-false (sym h)
-curly-is Digit h = true-false (sym h)
-curly-is TrueWord h = true-false (sym h)
-curly-is FalseWord h = true-false (sym h)
-curly-is NoneWord h = true-false (sym h)
-curly-is Other h = true-false (sym h)
+abbrev pub NoQuote : Kind → Type 0
+NoQuote c = OneOf (0 ∷ 1 ∷ 2 ∷ 4 ∷ 5 ∷ 6 ∷ 7 ∷ 8 ∷ 9 ∷ []) (tagOf the-type c)
 
 -- a dict, and its pairs
 pub record Braces (k : ℕ) (s : List ℕ) (at : ℕ) (n : Node) (e : ℕ) : Type 0 where
@@ -64,16 +45,16 @@ pub record Braces (k : ℕ) (s : List ℕ) (at : ℕ) (n : Node) (e : ℕ) : Typ
   pub row : Row (pairBy (value (k - 1) s) s) s 125 held (gapAt s (at + 1) 125) e
 
 module _ (k : ℕ) (s : List ℕ) (at e : ℕ) (n : Node) (h : value k s at ≡ got n e) where
-  pub braces : (c : Kind) → c ≡ kindOf (byteAt s at) → isCurly c ≡ true → Braces k s at n e
+  pub braces : (c : Kind) → c ≡ kindOf (byteAt s at) → c ≡ Curly → Braces k s at n e
   braces c hk z =
-      let hc : kindOf (byteAt s at) ≡ Curly = sym hk ∙ curly-is c z in
+      let hc : kindOf (byteAt s at) ≡ Curly = sym hk ∙ z in
       let v = view k s at h hc in
       record { inside = kind-in s at hc refl; held = v .1; holds = λ j. ap (pairsIn j) (v .2); row = v .3 }
 
-  no-braces-by : (j : ℕ) (c : Kind) → isCurly c ≡ false → View c k s at n e → pairsIn j n ≡ refused j
+  no-braces-by : (j : ℕ) (c : Kind) → NoCurly c → View c k s at n e → pairsIn j n ≡ refused j
   no-braces-by j Square z v = ap (pairsIn j) (v .2)
   no-braces-by j Round z v = ap (pairsIn j) (v .2)
-  no-braces-by j Curly z v = true-false z
+  no-braces-by j Curly z v = absurd (miss (0 ∷ 1 ∷ 3 ∷ 4 ∷ 5 ∷ 6 ∷ 7 ∷ 8 ∷ 9 ∷ []) 2 tt z)
   no-braces-by j Quote z v = ap (pairsIn j) (v .0)
   no-braces-by j Minus z v = ap (pairsIn j) (v .0)
   no-braces-by j Digit z v = ap (pairsIn j) (v .0)
@@ -82,7 +63,7 @@ module _ (k : ℕ) (s : List ℕ) (at e : ℕ) (n : Node) (h : value k s at ≡ 
   no-braces-by j NoneWord z v = ap (pairsIn j) v
   no-braces-by j Other z v = absurd v
 
-  pub no-braces : (j : ℕ) (c : Kind) → c ≡ kindOf (byteAt s at) → isCurly c ≡ false → pairsIn j n ≡ refused j
+  pub no-braces : (j : ℕ) (c : Kind) → c ≡ kindOf (byteAt s at) → NoCurly c → pairsIn j n ≡ refused j
   no-braces j c hk z = no-braces-by j c z (view k s at h (sym hk))
 
   -- a string
@@ -93,18 +74,18 @@ module _ (k : ℕ) (s : List ℕ) (at e : ℕ) (n : Node) (h : value k s at ≡ 
   unfolding forget
   a-string hk = let v = view k s at h hk in text-of (v .0)
 
-  pub is-string : (c : Kind) → c ≡ kindOf (byteAt s at) → isQuoted c ≡ true → isString (stringOr 8 (forget n)) ≡ true
-  is-string c hk z = ap isString (a-string (sym hk ∙ quoted-is c z))
+  pub is-string : (c : Kind) → c ≡ kindOf (byteAt s at) → c ≡ Quote → isString (stringOr 8 (forget n)) ≡ true
+  is-string c hk z = ap isString (a-string (sym hk ∙ z))
 
-  pub key-is : (c : Kind) (w : List ℕ) (r : Bool) → c ≡ kindOf (byteAt s at) → isQuoted c ≡ true → r ≡ same (spelled (byteAt s at) s (at + 1) .bytes) w → r ≡ isKey w n
-  key-is c w r hk z hr = hr ∙ sym (ap (isThe w) (a-string (sym hk ∙ quoted-is c z)))
+  pub key-is : (c : Kind) (w : List ℕ) (r : Bool) → c ≡ kindOf (byteAt s at) → c ≡ Quote → r ≡ same (spelled (byteAt s at) s (at + 1) .bytes) w → r ≡ isKey w n
+  key-is c w r hk z hr = hr ∙ sym (ap (isThe w) (a-string (sym hk ∙ z)))
 
-  no-string-by : (c : Kind) → isQuoted c ≡ false → View c k s at n e → stringOr 8 (forget n) ≡ refused 8
+  no-string-by : (c : Kind) → NoQuote c → View c k s at n e → stringOr 8 (forget n) ≡ refused 8
   unfolding forget
   no-string-by Square z v = text-of (v .2)
   no-string-by Round z v = text-of (v .2)
   no-string-by Curly z v = text-of (v .2)
-  no-string-by Quote z v = true-false z
+  no-string-by Quote z v = absurd (miss (0 ∷ 1 ∷ 2 ∷ 4 ∷ 5 ∷ 6 ∷ 7 ∷ 8 ∷ 9 ∷ []) 3 tt z)
   no-string-by Minus z v = text-of (v .0)
   no-string-by Digit z v = text-of (v .0)
   no-string-by TrueWord z v = text-of v
@@ -112,7 +93,7 @@ module _ (k : ℕ) (s : List ℕ) (at e : ℕ) (n : Node) (h : value k s at ≡ 
   no-string-by NoneWord z v = text-of v
   no-string-by Other z v = absurd v
 
-  pub no-string : (c : Kind) → c ≡ kindOf (byteAt s at) → isQuoted c ≡ false → stringOr 8 (forget n) ≡ refused 8
+  pub no-string : (c : Kind) → c ≡ kindOf (byteAt s at) → NoQuote c → stringOr 8 (forget n) ≡ refused 8
   no-string c hk z = no-string-by c z (view k s at h (sym hk))
 
   -- an order

@@ -16,13 +16,14 @@ use Rattle.literal.specs.Literal.{value}
 use Rattle.literal.specs.declared.Parsed.{Parsed}
 use Rattle.literal.specs.declared.Parsed.the-variants.{Value as Ends, Fault, Deep}
 use Rattle.literal.specs.declared.bytes.Kind.{Kind}
+use Rattle.literal.specs.declared.bytes.Kind.the-variants.{Curly, Quote}
 use Rattle.literal.proofs.Steps.{Stops, thing}
 use Rattle.keys.specs.declared.Found as found
 use Rattle.keys.specs.declared.Found.{Found}
 use Rattle.keys.specs.Pairs.{pairsIn, isKey, lastIn, nodeFor, keyed, keyedAt}
-use Rattle.keys.specs.Answer.{isCurly, isQuoted, FoundIs}
+use Rattle.keys.specs.Answer.{FoundIs}
 use Rattle.keys.proofs.Nodes.{items-in}
-use Rattle.keys.proofs.Braces.{Braces, braces, no-braces, is-string, no-string}
+use Rattle.keys.proofs.Braces.{NoCurly, NoQuote, Braces, braces, no-braces, is-string, no-string}
 
 -- ---- a pair that was read, and its parts
 module _ (rd : ℕ → Got Node) (s : List ℕ) (p : ℕ) where
@@ -84,13 +85,13 @@ unfolding forgetPairs
 strings-end ps h = sym h
 
 module _ (k : ℕ) (s : List ℕ) (p q : ℕ) (u : Pair) (ps us : List Pair) (hu : pairBy (value k s) s p ≡ got u q) (c : Kind) (hk : c ≡ kindOf (byteAt s p)) (h : Strings ps (u ∷ us)) where
-  pub strings-more : isQuoted c ≡ true → Strings ps us
+  pub strings-more : c ≡ Quote → Strings ps us
   unfolding forgetPairs
   strings-more z =
       let x = key-of (value k s) s p u q hu in
       h ∙ ap (λ (b : Bool). b && stringsIn us) (is-string k s p (x .0) (u .key) (x .1) c hk z)
 
-  pub strings-not : isQuoted c ≡ false → false ≡ allStrings (forgetPairs (pairs ps))
+  pub strings-not : NoQuote c → false ≡ allStrings (forgetPairs (pairs ps))
   unfolding forgetPairs
   strings-not z =
       let x = key-of (value k s) s p u q hu in
@@ -146,20 +147,20 @@ module _ (k : ℕ) (s : List ℕ) (at : ℕ) where
         let t = thing (value k s at) e h in
         ap (λ (x : Outcome Pairs). then x (lastIn w (refused 9))) (sym z) ∙ ap (nodeFor w) (sym (t .1))
 
-    pub dict-at : isCurly c ≡ true → Braces k s at (thing (value k s at) e h .0) e
+    pub dict-at : c ≡ Curly → Braces k s at (thing (value k s at) e h .0) e
     dict-at z = braces k s at e (thing (value k s at) e h .0) (thing (value k s at) e h .1) c hk z
 
-    pub keyed-dict : (z : isCurly c ≡ true) (r : Bool) → r ≡ allStrings (forgetPairs (pairs (dict-at z .held))) → r ≡ keyedAt (value k s at)
+    pub keyed-dict : (z : c ≡ Curly) (r : Bool) → r ≡ allStrings (forgetPairs (pairs (dict-at z .held))) → r ≡ keyedAt (value k s at)
     keyed-dict z r hr = hr ∙ keyed-as (gives (pairs (dict-at z .held))) (dict-at z .holds 8)
 
-    pub found-dict : (z : isCurly c ≡ true) (w : List ℕ) (f : Found) → FoundIs (k - 1) s f (lastIn w (refused 9) (pairs (dict-at z .held))) → FoundIs (k - 1) s f (nodeFor w (value k s at))
+    pub found-dict : (z : c ≡ Curly) (w : List ℕ) (f : Found) → FoundIs (k - 1) s f (lastIn w (refused 9) (pairs (dict-at z .held))) → FoundIs (k - 1) s f (nodeFor w (value k s at))
     found-dict z w f hf = subst (FoundIs (k - 1) s f) (found-as w (gives (pairs (dict-at z .held))) (dict-at z .holds 9)) hf
 
-    none-at : (j : ℕ) → isCurly c ≡ false → pairsIn j (thing (value k s at) e h .0) ≡ refused j
+    none-at : (j : ℕ) → NoCurly c → pairsIn j (thing (value k s at) e h .0) ≡ refused j
     none-at j z = no-braces k s at e (thing (value k s at) e h .0) (thing (value k s at) e h .1) j c hk z
 
-    pub keyed-other : isCurly c ≡ false → false ≡ keyedAt (value k s at)
+    pub keyed-other : NoCurly c → false ≡ keyedAt (value k s at)
     keyed-other z = keyed-as (refused 8) (none-at 8 z)
 
-    pub found-other : (w : List ℕ) → isCurly c ≡ false → FoundIs (k - 1) s found.Found.Missing (nodeFor w (value k s at))
+    pub found-other : (w : List ℕ) → NoCurly c → FoundIs (k - 1) s found.Found.Missing (nodeFor w (value k s at))
     found-other w z = subst (FoundIs (k - 1) s found.Found.Missing) (found-as w (refused 9) (none-at 9 z)) refl

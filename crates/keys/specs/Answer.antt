@@ -2,7 +2,7 @@
 use Prim.Native.Nat.{ℕ}
 use mathlib.Core.Path.{_≡_}
 use mathlib.Core.List.{List}
-use mathlib.Core.Bool.{Bool, true, false}
+use mathlib.Core.Bool.{Bool}
 use Rattle.counts.specs.Outcome.{Outcome, gives, refused}
 use Rattle.dtype.specs.declared.Order.{Order}
 use Rattle.record.specs.Dict.{allStrings}
@@ -12,8 +12,6 @@ use Rattle.literal.specs.Forget.{forgetPairs}
 use Rattle.literal.specs.Literal.{value}
 use Rattle.literal.specs.Brackets.{gapAt, pairBy}
 use Rattle.literal.specs.Rows.{Row}
-use Rattle.literal.specs.declared.bytes.Kind.{Kind}
-use Rattle.literal.specs.declared.bytes.Kind.the-variants.{Square, Round, Curly, Quote, Minus, Digit, TrueWord, FalseWord, NoneWord, Other}
 use Rattle.keys.specs.declared.Found as found
 use Rattle.keys.specs.declared.Found.{Found}
 use Rattle.keys.specs.declared.Declared as declared
@@ -31,31 +29,6 @@ FoundIs k s found.Found.Missing (refused m) = m ≡ 9
 abbrev pub ordered : Declared → Outcome Order
 ordered (declared.Declared.Is o) = gives o
 ordered declared.Declared.Form = refused 10
-
--- whether a dict, or a string, begins by a byte of the kind
-abbrev pub isCurly : Kind → Bool
-isCurly Square = false
-isCurly Round = false
-isCurly Curly = true
-isCurly Quote = false
-isCurly Minus = false
-isCurly Digit = false
-isCurly TrueWord = false
-isCurly FalseWord = false
-isCurly NoneWord = false
-isCurly Other = false
-
-abbrev pub isQuoted : Kind → Bool
-isQuoted Square = false
-isQuoted Round = false
-isQuoted Curly = false
-isQuoted Quote = true
-isQuoted Minus = false
-isQuoted Digit = false
-isQuoted TrueWord = false
-isQuoted FalseWord = false
-isQuoted NoneWord = false
-isQuoted Other = false
 
 -- what is owed of the pairs from a position up to the brace
 abbrev pub StringsFrom : ℕ → List ℕ → ℕ → Bool → Type 0

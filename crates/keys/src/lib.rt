@@ -19,7 +19,7 @@ ghost use Rattle.record.specs.FromValue.{orderOf};
 ghost use Rattle.literal.specs.Literal.{value as valueOf, most-open};
 ghost use Rattle.dims.specs.Answer.{valueOr};
 ghost use Rattle.keys.specs.Pairs.{keyedAt, nodeFor};
-ghost use Rattle.keys.specs.Answer.{ordered, isCurly, isQuoted, FoundIs, KeyAt, StringsFrom, FindsFrom};
+ghost use Rattle.keys.specs.Answer.{ordered, FoundIs, KeyAt, StringsFrom, FindsFrom};
 
 // The position of the value that counts; or 9.
 pub enum Found {
@@ -41,11 +41,11 @@ pub fn all_strings(text: &[u8], at: usize) -> bool
     let Parsed::Value(_) = v else {
         return false;
     };
-    if is_curly(kind_of(peek(text, at))) {
-        strings_from(text, at + 1, OPEN - 1)
-    } else {
-        false
-    }
+    let k = kind_of(peek(text, at));
+    let Kind::Curly = k else {
+        return false;
+    };
+    strings_from(text, at + 1, OPEN - 1)
 }
 
 // The value of the key in the dict at `at`.
@@ -56,11 +56,11 @@ pub fn find(text: &[u8], at: usize, key: &[u8]) -> Found
     let Parsed::Value(_) = v else {
         return Found::Missing;
     };
-    if is_curly(kind_of(peek(text, at))) {
-        find_from(text, at + 1, OPEN - 1, key)
-    } else {
-        Found::Missing
-    }
+    let k = kind_of(peek(text, at));
+    let Kind::Curly = k else {
+        return Found::Missing;
+    };
+    find_from(text, at + 1, OPEN - 1, key)
 }
 
 // The order that the value at `at` declares, where `room` brackets more may open at once.
@@ -86,40 +86,6 @@ pub fn order_at(text: &[u8], at: usize, room: usize) -> Declared
     }
 }
 
-fn is_curly(k: Kind) -> bool
-    ensures { λ r. ⌜ r ≡ isCurly k ⌝ }
-{
-    match k {
-        Kind::Square => false,
-        Kind::Round => false,
-        Kind::Curly => true,
-        Kind::Quote => false,
-        Kind::Minus => false,
-        Kind::Digit => false,
-        Kind::TrueWord => false,
-        Kind::FalseWord => false,
-        Kind::NoneWord => false,
-        Kind::Other => false,
-    }
-}
-
-fn is_quoted(k: Kind) -> bool
-    ensures { λ r. ⌜ r ≡ isQuoted k ⌝ }
-{
-    match k {
-        Kind::Square => false,
-        Kind::Round => false,
-        Kind::Curly => false,
-        Kind::Quote => true,
-        Kind::Minus => false,
-        Kind::Digit => false,
-        Kind::TrueWord => false,
-        Kind::FalseWord => false,
-        Kind::NoneWord => false,
-        Kind::Other => false,
-    }
-}
-
 // Whether the keys from `from` up to the brace are all strings.
 fn strings_from(text: &[u8], from: usize, room: usize) -> bool
     ensures { λ r. ⌜ StringsFrom room (now (text .entry)) from r ⌝ }
@@ -129,9 +95,10 @@ fn strings_from(text: &[u8], from: usize, room: usize) -> bool
         let Gap::Item(p) = g else {
             return true;
         };
-        if !is_quoted(kind_of(peek(text, p))) {
+        let first = kind_of(peek(text, p));
+        let Kind::Quote = first else {
             return false;
-        }
+        };
         let k = literal::key(text, p, room);
         let Parsed::Value(at) = k else {
             return false;
@@ -177,9 +144,9 @@ fn chosen(yes: bool, at: usize, was: Found) -> Found
 fn is_key(text: &[u8], at: usize, key: &[u8]) -> bool
     ensures { λ r. ⌜ KeyAt (now (text .entry)) at (now (key .entry)) r ⌝ }
 {
-    if is_quoted(kind_of(peek(text, at))) {
-        is_text(text, at + 1, text[at], key)
-    } else {
-        false
-    }
+    let k = kind_of(peek(text, at));
+    let Kind::Quote = k else {
+        return false;
+    };
+    is_text(text, at + 1, text[at], key)
 }

@@ -26,8 +26,16 @@ peek-requires c κs = search needs
 kind-of-requires : tie.Need-kind-of-requires
 kind-of-requires c κs = search needs
 
-is-curly-requires : tie.Need-is-curly-requires
-is-curly-requires c κs = search needs
+enum-told-2 : tie.Need-enum-told-2
+enum-told-2 c = search needs
+
+returns-2 : tie.Need-returns-2
+returns-2 c =
+    let a = c .before .before .before .before .before .before .before .before .args in
+    let s = a .text .now in
+    let h = sym (c .before .before .before .enum-told .given .1) ∙ c .before .before .before .before .before .value .ensures in
+    let hk = c .before .kind-of .ensures ∙ ap kindOf (c .before .before .peek .ensures) in
+    found-other most-open s (a .at) _ h _ hk (a .key .now) (c .match2 .keys2)
 
 add-find-from : tie.Need-add-find-from
 add-find-from c =
@@ -35,8 +43,7 @@ add-find-from c =
     let s = a .text .now in
     let h = sym (c .before .before .before .before .enum-told .given .1) ∙ c .before .before .before .before .before .before .value .ensures in
     let hk = c .before .before .kind-of .ensures ∙ ap kindOf (c .before .before .before .peek .ensures) in
-    let z = sym (c .before .is-curly .ensures) ∙ c .if1 .taken in
-    let b = dict-at most-open s (a .at) _ h _ hk z in
+    let b = dict-at most-open s (a .at) _ h _ hk (c .enum-told2 .given .1) in
     omega (arith, b .inside)
 
 sub-find-from : tie.Need-sub-find-from
@@ -45,24 +52,15 @@ sub-find-from c = search needs
 find-from-requires : tie.Need-find-from-requires
 find-from-requires c κs = search needs
 
-returns-2 : tie.Need-returns-2
-returns-2 c =
+returns-3 : tie.Need-returns-3
+returns-3 c =
     let a = c .before .before .before .before .before .before .before .before .before .before .args in
     let s = a .text .now in
     let h = sym (c .before .before .before .before .before .enum-told .given .1) ∙ c .before .before .before .before .before .before .before .value .ensures in
     let hk = c .before .before .before .kind-of .ensures ∙ ap kindOf (c .before .before .before .before .peek .ensures) in
-    let z = sym (c .before .before .is-curly .ensures) ∙ c .before .if1 .taken in
+    let z = c .before .enum-told2 .given .1 in
     let b = dict-at most-open s (a .at) _ h _ hk z in
     found-dict most-open s (a .at) _ h _ hk z (a .key .now) (c .find-from .result) (c .find-from .ensures (b .held) _ (b .row))
-
-returns-3 : tie.Need-returns-3
-returns-3 c =
-    let a = c .before .before .before .before .before .before .before .before .before .args in
-    let s = a .text .now in
-    let h = sym (c .before .before .before .before .enum-told .given .1) ∙ c .before .before .before .before .before .before .value .ensures in
-    let hk = c .before .before .kind-of .ensures ∙ ap kindOf (c .before .before .before .peek .ensures) in
-    let z = sym (c .before .is-curly .ensures) ∙ c .if1 .left in
-    found-other most-open s (a .at) _ h _ hk (a .key .now) z
 
 pub find-spec : {M : Type 1} → statement M
 find-spec =
@@ -73,9 +71,9 @@ find-spec =
     returns
     peek-requires
     kind-of-requires
-    is-curly-requires
+    enum-told-2
+    returns-2
     add-find-from
     sub-find-from
     find-from-requires
-    returns-2
     returns-3)

@@ -8,7 +8,7 @@ use Rattle.record.specs.Dict.{isThe}
 use Rattle.literal.specs.Strings.{spelled}
 use Rattle.counts.specs.Same.{same}
 use Rattle.literal.proofs.Positions.{getD-any, kind-in}
-use Rattle.keys.proofs.Braces.{quoted-is, key-is, no-string}
+use Rattle.keys.proofs.Braces.{key-is, no-string}
 use Rattle.keys.proofs.is_key.Statement.{statement}
 use Rattle.keys.proofs.is_key.Tie as tie
 
@@ -18,16 +18,22 @@ peek-requires c κs = search needs
 kind-of-requires : tie.Need-kind-of-requires
 kind-of-requires c κs = search needs
 
-is-quoted-requires : tie.Need-is-quoted-requires
-is-quoted-requires c κs = search needs
+enum-told : tie.Need-enum-told
+enum-told c = search needs
+
+returns : tie.Need-returns
+returns c =
+    let a = c .before .before .before .before .before .args in
+    let s = a .text .now in
+    let hk = c .before .kind-of .ensures ∙ ap kindOf (c .before .before .peek .ensures) in
+    λ k n e h. sym (ap (isThe (a .key .now)) (no-string k s (a .at) e n h _ hk (c .match .keys2)))
 
 add-is-text : tie.Need-add-is-text
 add-is-text c =
     let a = c .before .before .before .before .before .before .args in
     let s = a .text .now in
     let hk = c .before .before .kind-of .ensures ∙ ap kindOf (c .before .before .before .peek .ensures) in
-    let z = sym (c .before .is-quoted .ensures) ∙ c .if1 .taken in
-    let lt = kind-in s (a .at) (sym hk ∙ quoted-is _ z) refl in
+    let lt = kind-in s (a .at) (sym hk ∙ c .enum-told .given .1) refl in
     omega arith
 
 shared-slice-read-is-text : tie.Need-shared-slice-read-is-text
@@ -35,28 +41,18 @@ shared-slice-read-is-text c =
     let a = c .before .before .before .before .before .before .before .args in
     let s = a .text .now in
     let hk = c .before .before .before .kind-of .ensures ∙ ap kindOf (c .before .before .before .before .peek .ensures) in
-    let z = sym (c .before .before .is-quoted .ensures) ∙ c .before .if1 .taken in
-    kind-in s (a .at) (sym hk ∙ quoted-is _ z) refl
+    kind-in s (a .at) (sym hk ∙ c .before .enum-told .given .1) refl
 
 is-text-requires : tie.Need-is-text-requires
 is-text-requires c κs = search needs
 
-returns : tie.Need-returns
-returns c =
+returns-2 : tie.Need-returns-2
+returns-2 c =
     let a = c .before .before .before .before .before .before .before .before .args in
     let s = a .text .now in
     let hk = c .before .before .before .before .kind-of .ensures ∙ ap kindOf (c .before .before .before .before .before .peek .ensures) in
-    let z = sym (c .before .before .before .is-quoted .ensures) ∙ c .before .before .if1 .taken in
-    let lt = kind-in s (a .at) (sym hk ∙ quoted-is _ z) refl in
-    λ k n e h. key-is k s (a .at) e n h _ (a .key .now) (c .is-text .result) hk z (c .is-text .ensures ∙ ap (λ (b : ℕ). same (spelled b s (a .at + 1) .bytes) (a .key .now)) (getD-any s (a .at) 0 256 lt))
-
-returns-2 : tie.Need-returns-2
-returns-2 c =
-    let a = c .before .before .before .before .before .before .args in
-    let s = a .text .now in
-    let hk = c .before .before .kind-of .ensures ∙ ap kindOf (c .before .before .before .peek .ensures) in
-    let z = sym (c .before .is-quoted .ensures) ∙ c .if1 .left in
-    λ k n e h. sym (ap (isThe (a .key .now)) (no-string k s (a .at) e n h _ hk z))
+    let lt = kind-in s (a .at) (sym hk ∙ c .before .before .enum-told .given .1) refl in
+    λ k n e h. key-is k s (a .at) e n h _ (a .key .now) (c .is-text .result) hk (c .before .before .enum-told .given .1) (c .is-text .ensures ∙ ap (λ (b : ℕ). same (spelled b s (a .at + 1) .bytes) (a .key .now)) (getD-any s (a .at) 0 256 lt))
 
 pub is-key-spec : {M : Type 1} → statement M
 is-key-spec =
@@ -64,9 +60,9 @@ is-key-spec =
     (tie.spec
     peek-requires
     kind-of-requires
-    is-quoted-requires
+    enum-told
+    returns
     add-is-text
     shared-slice-read-is-text
     is-text-requires
-    returns
     returns-2)

@@ -1,12 +1,11 @@
 -- The loop over the pairs keeps `Strings`. Assumes nothing.
 use lib.ListN.{length}
 use lib.Dec.{lit<}
-use borrow.Author.Tests.{not-true, not-false}
 use mathlib.Core.Path.{refl, sym, ap, _∙_}
-use Rattle.literal.specs.Literal as read
 use borrow.Author.Needs.{needs}
 use Rattle.literal.specs.Text.{kindOf}
 use Rattle.literal.specs.Brackets.{pairBy}
+use Rattle.literal.specs.Literal as read
 use Rattle.literal.proofs.Ends.{value-ahead, pair-ahead}
 use Rattle.literal.proofs.Steps.{gapLeft, turn-less, stops, pair-stop, pair-more}
 use Rattle.dims.proofs.Goes.{Goes, goes-start, goes-end, goes-item, goes-more, goes-stop}
@@ -46,20 +45,19 @@ peek-requires c κs = search needs
 kind-of-requires : tie.Need-kind-of-requires Inv-loop μ-loop
 kind-of-requires c κs = search needs
 
-is-quoted-requires : tie.Need-is-quoted-requires Inv-loop μ-loop
-is-quoted-requires c κs = search needs
+enum-told : tie.Need-enum-told Inv-loop μ-loop
+enum-told c = search needs
 
 returns-2 : tie.Need-returns-2 Inv-loop μ-loop
 returns-2 c =
-    let a = c .before .before .before .before .before .before .before .before .before .before .args in
+    let a = c .before .before .before .before .before .before .before .before .before .args in
     let s = a .text .now in
     let rd = read.value (a .room) s in
-    let l = c .before .before .before .before .before .before .before .loop in
-    let hk = c .before .before .kind-of .ensures ∙ ap kindOf (c .before .before .before .peek .ensures) in
-    let z = sym (c .before .is-quoted .ensures) ∙ not-true _ (c .if1 .taken) in
+    let l = c .before .before .before .before .before .before .loop in
+    let hk = c .before .kind-of .ensures ∙ ap kindOf (c .before .before .peek .ensures) in
     λ ps e r.
-    let x = goes-item (pairBy rd s) s 125 (a .from) Strings (l .g) _ (l .inv) (c .before .before .before .before .before .g .given .1) ps e r in
-    strings-not (a .room) s _ (x .2) (x .0) ps (x .1) (x .3) _ hk (x .4) z
+    let x = goes-item (pairBy rd s) s 125 (a .from) Strings (l .g) _ (l .inv) (c .before .before .before .before .g .given .1) ps e r in
+    strings-not (a .room) s _ (x .2) (x .0) ps (x .1) (x .3) _ hk (x .4) (c .match2 .keys2)
 
 key-requires : tie.Need-key-requires Inv-loop μ-loop
 key-requires c κs = search needs
@@ -73,7 +71,7 @@ returns-3 c =
     let s = a .text .now in
     let rd = read.value (a .room) s in
     let l = c .before .before .before .before .before .before .before .before .before .loop in
-    λ ps e r. goes-stop (pairBy rd s) s 125 (a .from) Strings (l .g) _ (c .before .key .result) (l .inv) (c .before .before .before .before .before .before .before .g .given .1) (pair-stop rd s _ (c .before .key .result) (c .before .key .ensures) (stops (c .before .key .result) (c .match2 .keys2))) (c .match2 .keys2) ps e r
+    λ ps e r. goes-stop (pairBy rd s) s 125 (a .from) Strings (l .g) _ (c .before .key .result) (l .inv) (c .before .before .before .before .before .before .before .g .given .1) (pair-stop rd s _ (c .before .key .result) (c .before .key .ensures) (stops (c .before .key .result) (c .match3 .keys2))) (c .match3 .keys2) ps e r
 
 value-requires : tie.Need-value-requires Inv-loop μ-loop
 value-requires c κs = search needs
@@ -88,7 +86,7 @@ returns-4 c =
     let rd = read.value (a .room) s in
     let l = c .before .before .before .before .before .before .before .before .before .before .before .before .before .loop in
     let hr = c .before .value .ensures ∙ pair-more rd s _ _ (sym (c .before .before .before .k .given .1) ∙ c .before .before .before .before .before .key .ensures) in
-    λ ps e r. goes-stop (pairBy rd s) s 125 (a .from) Strings (l .g) _ (c .before .value .result) (l .inv) (c .before .before .before .before .before .before .before .before .before .before .before .g .given .1) hr (c .match3 .keys2) ps e r
+    λ ps e r. goes-stop (pairBy rd s) s 125 (a .from) Strings (l .g) _ (c .before .value .result) (l .inv) (c .before .before .before .before .before .before .before .before .before .before .before .g .given .1) hr (c .match4 .keys2) ps e r
 
 then-at-requires : tie.Need-then-at-requires Inv-loop μ-loop
 then-at-requires c κs = search needs
@@ -110,9 +108,8 @@ loop-again c =
     let l = c .before .before .before .before .before .before .before .before .before .before .before .before .before .before .before .before .loop in
     let hk = c .before .before .before .before .before .before .before .before .before .before .before .kind-of .ensures ∙ ap kindOf (c .before .before .before .before .before .before .before .before .before .before .before .before .peek .ensures) in
     let hr = c .before .before .before .before .value .ensures ∙ pair-more rd s _ _ (sym (c .before .before .before .before .before .before .k .given .1) ∙ c .before .before .before .before .before .before .before .before .key .ensures) in
-    let z = sym (c .before .before .before .before .before .before .before .before .before .before .is-quoted .ensures) ∙ not-false _ (c .before .before .before .before .before .before .before .before .before .if1 .left) in
     goes-more (pairBy rd s) s 125 (a .from) Strings Strings (l .g) (c .then-at .result) _ _ (c .before .before .before .before .value .result) (l .inv) (c .before .before .before .before .before .before .before .before .before .before .before .before .before .before .g .given .1) (c .before .before .v .given .1) hr (c .then-at .ensures)
-    (λ u ps us hu h. strings-more (a .room) s _ _ u ps us hu _ hk h z)
+    (λ u ps us hu h. strings-more (a .room) s _ _ u ps us hu _ hk h (c .before .before .before .before .before .before .before .before .before .enum-told .given .1))
 
 pub strings-from-spec : {M : Type 1} → statement M
 strings-from-spec =
@@ -126,7 +123,7 @@ strings-from-spec =
     returns
     peek-requires
     kind-of-requires
-    is-quoted-requires
+    enum-told
     returns-2
     key-requires
     enum-known-k
