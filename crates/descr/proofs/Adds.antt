@@ -1,0 +1,313 @@
+-- The totals of a dtype are made of those of its parts: of fields one behind the other, of a record's own entry and its fields, of a sub-shape and its
+-- type, of a name and a type. So are the verdicts, where a refusal of the first part comes first. By recursion on nothing: each law is one step of the
+-- definitions. Assumes nothing.
+use Prim.Native.Nat.{ℕ, zero, suc, _+_, _*_, _^_, _≤_}
+use native.Mathlib.Omega.{arith}
+use mathlib.Core.Path.{_≡_, refl, sym, ap, _∙_}
+use mathlib.Core.List.{List}
+use mathlib.Core.Bool.{Bool, true, false, _||_, cond}
+use lib.Dec.{ltb}
+use lib.ListN.{length}
+use native.Mathlib.Nat.{mul-suc}
+use borrow.Author.Tests.{leb-true}
+use Rattle.counts.specs.Outcome.{Outcome, gives, refused, then, each}
+use Rattle.counts.specs.Number.{number}
+use Rattle.counts.specs.declared.Number.{Number}
+use Rattle.counts.specs.declared.Number.the-variants.{Is, Over}
+use Rattle.counts.proofs.Fits.{number-is, number-over}
+use Rattle.grammar.specs.Value.{Value, Values, string, integer, True, False, None, list, tuple, dict, end-of-values, value-then}
+use Rattle.counts.specs.Counts.{bytes}
+use Rattle.type_str.specs.declared.TypeStr.{TypeStr}
+use Rattle.type_str.specs.declared.TypeChar.{TypeChar}
+use Rattle.type_str.specs.declared.TypeChar.the-variants.{Bool as Boolean, Int, Uint, Float as Floating, Complex, TimeDelta, DateTime, ByteStr, UnicodeStr, Object, RawData}
+use Rattle.type_str.specs.declared.TypeBytes.{TypeBytes}
+use Rattle.type_str.specs.declared.TypeBytes.the-variants.{Sized, Unsized, TooLarge}
+use Rattle.type_str.specs.Bytes.{typeBytes, countedBytes, numBytes}
+use Rattle.type_str.specs.Spelling.{letterByte}
+use Rattle.dtype.specs.PlainBytes as byte
+use Rattle.dtype.specs.PlainBytes.{plainBytes}
+use Rattle.dtype.proofs.Types.{plain-bytes-type}
+use Rattle.type_str.specs.TypeString.{isObject, typeString}
+use Rattle.dtype.specs.Dtype.{Dtype, Fields, plain, array, record-of, field-then, sizeOf, sizesOf}
+use Rattle.dtype.specs.Entries.{someEntryIn, levels}
+use Rattle.dtype.specs.Limits.{over, someOver, overLevels}
+use Rattle.record.specs.Parts.{stringOr}
+use Rattle.record.specs.Dimensions.{subShape}
+use Rattle.record.specs.Descr.{Field, arrays, descrOf, fieldsOf, fieldOf}
+use Rattle.dims.specs.Outline.{hasZero, behindZero, outlineOf}
+use Rattle.dims.proofs.Levels.{arrays-outline, arrays-over, arrays-entries, arrays-wide, arrays-object, arrays-name-bytes}
+use Rattle.descr.specs.declared.Totals.{Totals}
+use Rattle.descr.specs.Totals.{capped, largest, saturated, isOver, timesBy, nothing, oneEntry, nameTotals, totalsOf, totalsIn, fieldTotals, together, arrayed}
+use Rattle.descr.specs.Verdict.{both}
+use Rattle.descr.specs.Judges.{itemsBy}
+use Rattle.descr.proofs.Sums.{totals-eq, or-true, or-false, over-never, over-not, over-more, over-number, saturated-number, cap-front}
+
+false-true : {A : Type 0} → false ≡ true → A
+false-true h = absurd (let z : _≡_ {A = ℕ} 0 1 = cc in omega arith)
+
+over-front : (n : ℕ) → over (0 + capped largest n) ≡ false
+over-front n = over-never (0 + capped largest n) (omega arith)
+
+-- an entry counts itself
+pub own-over : (d : Dtype) → over (sizeOf d) ≡ true → someOver d ≡ true
+own-over (plain t) h = h
+own-over (array n d) h = rw h
+own-over (record-of fs) h = rw h
+
+-- ---- fields
+cap-two : (m a b : ℕ) → capped m (a + b) ≡ capped m (capped m (0 + capped m a) + capped m b)
+cap-two m a b = omega arith
+
+cap-three : (m a b c : ℕ) → capped m (a + (b + c)) ≡ capped m (capped m (capped m a + capped m b) + capped m c)
+cap-three m a b c = omega arith
+
+over-fields : (own inner : Bool) (a b : ℕ) → (over a ≡ true → own ≡ true)
+    → ((own || inner) || over (a + b)) ≡ (((own || over (0 + capped largest a)) || (inner || over b)) || over (capped largest (0 + capped largest a) + capped largest b))
+over-fields true inner a b h = refl
+over-fields false inner a b h = rw (over-front a) (rest inner (over a) refl)
+  where
+    last : over a ≡ false → (t : Bool) → over b ≡ t → over (a + b) ≡ (t || over (capped largest (0 + capped largest a) + capped largest b))
+    last ha true hb = over-more b (a + b) (omega arith) hb
+    last ha false hb =
+        let la = over-not a ha in
+        let lb = over-not b hb in
+        let e : a + b ≡ capped largest (0 + capped largest a) + capped largest b = omega arith in
+        ap over e
+
+    rest : (i t : Bool) → over a ≡ t → (i || over (a + b)) ≡ ((i || over b) || over (capped largest (0 + capped largest a) + capped largest b))
+    rest true t ha = refl
+    rest false true ha = false-true (h ha)
+    rest false false ha = last ha (over b) refl
+
+fields-totals : (f : Field) (fs : Fields) → totalsIn (field-then (f .name) (f .type) fs) ≡ together (fieldTotals f) (totalsIn fs)
+unfolding together
+fields-totals f fs =
+    totals-eq (cap-two 513 _ _) (cap-three 65537 (length (f .name)) _ _) refl refl
+    (over-fields (someOver (f .type)) (someEntryIn (λ e. over (sizeOf e)) fs) (sizeOf (f .type)) (sizesOf fs) (own-over (f .type)))
+    (cap-two largest (sizeOf (f .type)) (sizesOf fs))
+
+fields-both : (a : Outcome Field) (b : Outcome Fields) → each totalsIn (then a (λ f. each (field-then (f .name) (f .type)) b)) ≡ both (each fieldTotals a) (each totalsIn b)
+fields-both (gives f) (gives fs) = ap gives (fields-totals f fs)
+fields-both (gives f) (refused m) = refl
+fields-both (refused n) b = refl
+
+-- the fields of a record, left to right
+abbrev pub fieldsBy : Values → Outcome Totals
+fieldsBy vs = each totalsIn (fieldsOf vs)
+
+abbrev pub fieldBy : Value → Outcome Totals
+fieldBy v = each fieldTotals (fieldOf v)
+
+pub fields-step : (v : Value) (vs : Values) → fieldsBy (value-then v vs) ≡ both (fieldBy v) (fieldsBy vs)
+fields-step v vs = fields-both (fieldOf v) (fieldsOf vs)
+
+or-nothing : (a x : Bool) → x ≡ false → a ≡ (a || x)
+or-nothing a x h = rw h (sym (or-false a))
+
+fields-none : (o : Outcome Fields) → both (gives nothing) (each totalsIn o) ≡ each totalsIn o
+unfolding together
+fields-none (gives fs) =
+    ap gives (sym (totals-eq (sym (cap-front 513 _)) (sym (cap-front 65537 _)) refl refl (or-nothing _ _ (over-front (sizesOf fs))) (sym (cap-front largest _))))
+fields-none (refused n) = refl
+
+pub fields-start : (vs : Values) → both (gives nothing) (fieldsBy vs) ≡ fieldsBy vs
+fields-start vs = fields-none (fieldsOf vs)
+
+-- ---- a record and its own entry
+over-record : (inner x : Bool) (n : ℕ) → x ≡ false → (over n || inner) ≡ ((inner || over n) || x)
+over-record inner x n h = rw h (go inner (over n))
+  where
+    go : (i o : Bool) → (o || i) ≡ ((i || o) || false)
+    go true true = refl
+    go true false = refl
+    go false true = refl
+    go false false = refl
+
+cap-one : (m n : ℕ) → capped m (suc n) ≡ capped m (1 + capped m n)
+cap-one m n = omega arith
+
+record-both : (o : Outcome Fields) → each totalsOf (each record-of o) ≡ both (gives oneEntry) (each totalsIn o)
+unfolding together
+record-both (gives fs) = ap gives (totals-eq (cap-one 513 _) (sym (cap-front 65537 _)) refl refl (over-record _ _ (sizesOf fs) (over-front (sizesOf fs))) (sym (cap-front largest _)))
+record-both (refused n) = refl
+
+pub record-step : (vs : Values) → each totalsOf (descrOf (list vs)) ≡ both (gives oneEntry) (fieldsBy vs)
+record-step vs = record-both (fieldsOf vs)
+
+-- ---- a sub-shape and its type
+abbrev Flat : Outcome Dtype → Type 0
+Flat (gives d) = levels d ≡ 0
+Flat (refused n) = Unit {0}
+
+-- a descr is no array
+flat : (v : Value) → Flat (descrOf v)
+flat (string w) = go (typeString w)
+  where
+    go : (o : Outcome TypeStr) → Flat (each plain o)
+    go (gives t) = refl
+    go (refused n) = tt
+flat (integer minus n) = tt
+flat True = tt
+flat False = tt
+flat None = tt
+flat (list vs) = go (fieldsOf vs)
+  where
+    go : (o : Outcome Fields) → Flat (each record-of o)
+    go (gives t) = refl
+    go (refused n) = tt
+flat (tuple vs) = tt
+flat (dict es) = tt
+
+times-over : (b s : ℕ) → isOver (timesBy (number b) s) ≡ over (b * s)
+times-over b zero = let e : b * 0 ≡ 0 = omega arith in sym (ap over e)
+times-over b (suc s) = go (over b) refl
+  where
+    go : (t : Bool) → over b ≡ t → isOver (timesBy (number b) (suc s)) ≡ over (b * suc s)
+    go true h = ap (λ (x : Number). isOver (timesBy x (suc s))) (number-over b (leb-true (2 ^ 64) b h)) ∙ sym (over-more b (b * suc s) (omega (arith, mul-suc b s)) h)
+    go false h = ap (λ (x : Number). isOver (timesBy x (suc s))) (number-is b (over-not b h)) ∙ over-number (b * suc s)
+
+times-held : (b s : ℕ) → saturated (timesBy (number b) s) ≡ capped largest (b * s)
+times-held b zero = let e : b * 0 ≡ 0 = omega arith in sym (ap (λ (x : ℕ). capped largest x) e)
+times-held b (suc s) = go (over b) refl
+  where
+    go : (t : Bool) → over b ≡ t → saturated (timesBy (number b) (suc s)) ≡ capped largest (b * suc s)
+    go true h =
+        let le = leb-true (2 ^ 64) b h in
+        ap (λ (x : Number). saturated (timesBy x (suc s))) (number-over b le) ∙ omega (arith, mul-suc b s)
+    go false h = ap (λ (x : Number). saturated (timesBy x (suc s))) (number-is b (over-not b h)) ∙ saturated-number (b * suc s)
+
+-- a size that is capped, so many times
+cap-times : (b s : ℕ) → capped largest (b * capped largest s) ≡ capped largest (b * s)
+cap-times b s = go (over s) refl
+  where
+    many : (b : ℕ) → largest ≤ s → capped largest (b * largest) ≡ capped largest (b * s)
+    many zero le = omega arith
+    many (suc b) le = omega (arith, mul-suc s b)
+
+    go : (t : Bool) → over s ≡ t → capped largest (b * capped largest s) ≡ capped largest (b * s)
+    go true h =
+        let le = leb-true (2 ^ 64) s h in
+        let e : capped largest s ≡ largest = omega arith in
+        rw e (many b (omega arith))
+    go false h =
+        let lt = over-not s h in
+        let e : capped largest s ≡ s = omega arith in
+        rw e
+
+over-levels : (b s : ℕ) (own : Bool) → (over s ≡ true → own ≡ true) → (over (b * s) || own) ≡ (isOver (timesBy (number b) (capped largest s)) || own)
+over-levels b s true h = or-true (over (b * s)) ∙ sym (or-true (isOver (timesBy (number b) (capped largest s))))
+over-levels b s false h = ap (λ (t : Bool). t || false) (go (over s) refl)
+  where
+    go : (t : Bool) → over s ≡ t → over (b * s) ≡ isOver (timesBy (number b) (capped largest s))
+    go true k = false-true (h k)
+    go false k =
+        let lt = over-not s k in
+        let e : capped largest s ≡ s = omega arith in
+        sym (ap (λ (x : ℕ). isOver (timesBy (number b) x)) e ∙ times-over b s)
+
+cap-right : (m a b : ℕ) → capped m (a + b) ≡ capped m (a + capped m b)
+cap-right m a b = omega arith
+
+held-levels : (ns : List ℕ) (s : ℕ) → capped largest (cond (hasZero ns) 0 (behindZero ns * s)) ≡ cond (hasZero ns) 0 (saturated (timesBy (number (behindZero ns)) (capped largest s)))
+held-levels ns s = go (hasZero ns)
+  where
+    go : (t : Bool) → capped largest (cond t 0 (behindZero ns * s)) ≡ cond t 0 (saturated (timesBy (number (behindZero ns)) (capped largest s)))
+    go true = refl
+    go false = sym (times-held (behindZero ns) (capped largest s) ∙ cap-times (behindZero ns) s)
+
+arrays-totals : (ns : List ℕ) (d : Dtype) → levels d ≡ 0 → totalsOf (arrays ns d) ≡ arrayed (outlineOf ns) (totalsOf d)
+unfolding arrayed outlineOf
+arrays-totals ns d h =
+    let e : length ns + levels d ≡ length ns = omega arith in
+    totals-eq (ap (λ (x : ℕ). capped 513 x) (arrays-entries ns d) ∙ cap-right 513 (length ns) _) (ap (λ (x : ℕ). capped 65537 x) (arrays-name-bytes ns d)) (arrays-object ns d)
+    (arrays-wide ns d ∙ ap (λ (x : ℕ). ltb 32 x || overLevels d) e)
+    (arrays-over ns d ∙ over-levels (behindZero ns) (sizeOf d) (someOver d) (own-over d))
+    (ap (λ (x : ℕ). capped largest x) (arrays-outline ns d) ∙ held-levels ns (sizeOf d))
+
+-- ---- a field's items: its name, its inner descr, perhaps its sub-shape
+abbrev pub nameBy : Value → Outcome Totals
+nameBy v = each (λ w. nameTotals (length w)) (stringOr 14 v)
+
+abbrev pub descrBy : Value → Outcome Totals
+descrBy v = each totalsOf (descrOf v)
+
+two-by : (x : Outcome (List ℕ)) (o : Outcome Dtype)
+    → both (each (λ w. nameTotals (length w)) x) (each totalsOf o) ≡ each fieldTotals (then x (λ w. each (λ d. record { name = w; type = d }) (then o (λ d. gives d))))
+two-by (gives w) (gives d) = refl
+two-by (gives w) (refused m) = refl
+two-by (refused n) o = refl
+
+three-by : (x : Outcome (List ℕ)) (o : Outcome Dtype) (sh : Outcome (List ℕ)) → Flat o
+    → both (each (λ w. nameTotals (length w)) x) (then (each totalsOf o) (λ t. each (λ u. arrayed u t) (each outlineOf sh)))
+    ≡ each fieldTotals (then x (λ w. each (λ d. record { name = w; type = d }) (then o (λ d. each (λ ns. arrays ns d) sh))))
+three-by (gives w) (gives d) (gives ns) h = ap (λ (t : Totals). gives (together (nameTotals (length w)) t)) (sym (arrays-totals ns d h))
+three-by (gives w) (gives d) (refused m) h = refl
+three-by (gives w) (refused m) sh h = refl
+three-by (refused n) o sh h = refl
+
+pub two-items : (a b : Value) → both (nameBy a) (descrBy b) ≡ itemsBy (value-then a (value-then b end-of-values))
+two-items a b = two-by (stringOr 14 a) (descrOf b)
+
+pub three-items : (a b c : Value)
+    → both (nameBy a) (then (descrBy b) (λ t. each (λ u. arrayed u t) (each outlineOf (subShape c)))) ≡ itemsBy (value-then a (value-then b (value-then c end-of-values)))
+three-items a b c = three-by (stringOr 14 a) (descrOf b) (subShape c) (flat b)
+
+-- ---- a plain type
+abbrev pub plainTotals : TypeBytes → Totals
+plainTotals (Sized n) = record { entries = 1; names = 0; object = false; wide = false; over = false; size = n .0 }
+plainTotals Unsized = record { entries = 1; names = 0; object = true; wide = false; over = false; size = 0 }
+plainTotals TooLarge = record { entries = 1; names = 0; object = false; wide = false; over = true; size = largest }
+
+-- a letter and its byte tell the same of an object
+object-byte : (l : TypeChar) → byte.isObject (letterByte l) ≡ isObject l
+object-byte Boolean = refl
+object-byte Int = refl
+object-byte Uint = refl
+object-byte Floating = refl
+object-byte Complex = refl
+object-byte TimeDelta = refl
+object-byte DateTime = refl
+object-byte ByteStr = refl
+object-byte UnicodeStr = refl
+object-byte Object = refl
+object-byte RawData = refl
+
+plain-sized : (n : ℕ) → plainTotals (countedBytes (bytes (number n))) ≡ record { entries = 1; names = 0; object = false; wide = false; over = over n; size = capped largest n }
+plain-sized n = go (over n) refl
+  where
+    go : (t : Bool) → over n ≡ t → plainTotals (countedBytes (bytes (number n))) ≡ record { entries = 1; names = 0; object = false; wide = false; over = over n; size = capped largest n }
+    go true h =
+        let le = leb-true (2 ^ 64) n h in
+        ap (λ (x : Number). plainTotals (countedBytes (bytes x))) (number-over n le) ∙ totals-eq refl refl refl refl (sym h) (omega arith)
+    go false h =
+        let lt = over-not n h in
+        ap (λ (x : Number). plainTotals (countedBytes (bytes x))) (number-is n lt) ∙ totals-eq refl refl refl refl (sym h) (omega arith)
+
+module _ (t : TypeStr) where
+  object-bytes : isObject (t .letter) ≡ true → (numBytes t ≡ Unsized) × (typeBytes t ≡ 0)
+  unfolding numBytes typeBytes
+  object-bytes h = (rw (numBytes, h), rw (typeBytes, h))
+
+  counted-bytes : isObject (t .letter) ≡ false → numBytes t ≡ countedBytes (bytes (number (typeBytes t)))
+  unfolding numBytes
+  counted-bytes h = rw (numBytes, h)
+
+pub plain-totals : (t : TypeStr) → plainTotals (numBytes t) ≡ totalsOf (plain t)
+plain-totals t = go (isObject (t .letter)) refl
+  where
+    of-bytes : (o : Bool) → byte.isObject (letterByte (t .letter)) ≡ o → (n : ℕ) → plainBytes t ≡ n
+        → record { entries = 1; names = 0; object = o; wide = false; over = over n; size = capped largest n } ≡ totalsOf (plain t)
+    of-bytes o ho n hn = totals-eq refl refl (sym ho) refl (ap over (sym hn)) (ap (λ (x : ℕ). capped largest x) (sym hn))
+
+    go : (o : Bool) → isObject (t .letter) ≡ o → plainTotals (numBytes t) ≡ totalsOf (plain t)
+    go true h = ap plainTotals (object-bytes t h .0) ∙ of-bytes true (object-byte (t .letter) ∙ h) 0 (plain-bytes-type t ∙ object-bytes t h .1)
+    go false h = ap plainTotals (counted-bytes t h) ∙ (plain-sized (typeBytes t) ∙ of-bytes false (object-byte (t .letter) ∙ h) (typeBytes t) (plain-bytes-type t))
+
+-- ---- so many times a size that is not 0
+pub times-is : (n size : ℕ) → (size ≡ 0 → ⊥) → timesBy (Is n) size ≡ number (n * size)
+times-is n zero h = absurd (h refl)
+times-is n (suc size) h = refl
+
+pub times-more : (size : ℕ) → (size ≡ 0 → ⊥) → timesBy Over size ≡ Over
+times-more zero h = absurd (h refl)
+times-more (suc size) h = refl

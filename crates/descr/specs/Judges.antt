@@ -1,0 +1,70 @@
+-- What a walk over a value, or over the items of a bracket, owes, whichever value or items stand there: where they end, and the verdict on them, by the
+-- definitions of crate record. Definitions only. Assumes nothing.
+use Prim.Native.Nat.{ℕ, _+_}
+use mathlib.Core.Path.{_≡_}
+use mathlib.Core.List.{List}
+use mathlib.Core.Bool.{Bool, true, false, not, cond}
+use lib.ListN.{length}
+use Rattle.counts.specs.Outcome.{Outcome, gives, refused, each, unless}
+use Rattle.grammar.specs.Value.{Value, Values}
+use Rattle.type_str.specs.TypeString.{typeString}
+use Rattle.dtype.specs.Dtype.{plain}
+use Rattle.record.specs.Descr.{twoOrThree, namedOf}
+use Rattle.literal.specs.Node.{Node, nodes}
+use Rattle.literal.specs.Got.{got}
+use Rattle.literal.specs.Text.{byteAt, kindOf}
+use Rattle.literal.specs.Strings.{spelled}
+use Rattle.literal.specs.Literal.{value}
+use Rattle.literal.specs.Brackets.{gapAt}
+use Rattle.literal.specs.Rows.{Row}
+use Rattle.literal.specs.Forget.{forget, forgetAll}
+use Rattle.literal.specs.declared.bytes.Kind.{Kind}
+use Rattle.literal.specs.declared.bytes.Kind.the-variants.{Square, Round, Curly, Quote, Minus, Digit, TrueWord, FalseWord, NoneWord, Other}
+use Rattle.literal.specs.declared.gaps.Gap.{Gap}
+use Rattle.literal.specs.declared.gaps.Gap.the-variants.{Shut, Item, Stray}
+use Rattle.descr.specs.declared.Totals.{Totals}
+use Rattle.descr.specs.declared.Judged.{Judged}
+use Rattle.descr.specs.Totals.{totalsOf, fieldTotals, nameTotals}
+use Rattle.descr.specs.Verdict.{verdict}
+
+-- of the value at `at`, where k brackets more may open
+pub record Judges (k : ℕ) (s : List ℕ) (at : ℕ) (f : Value → Outcome Totals) (r : Judged) : Type 0 where
+  pub of-value : (n : Node) (e : ℕ) → value k s at ≡ got n e → (r .end ≡ e) × (verdict (r .verdict) ≡ f (forget n))
+
+-- of the items from `from` up to the bracket
+pub record JudgesRow (k : ℕ) (s : List ℕ) (from close : ℕ) (f : Values → Outcome Totals) (r : Judged) : Type 0 where
+  pub of-row : (ns : List Node) (e : ℕ) → Row (value k s) s close ns (gapAt s from close) e → (r .end ≡ e) × (verdict (r .verdict) ≡ f (forgetAll (nodes ns)))
+
+-- items stand from the gap on
+abbrev pub StandsRow : ℕ → List ℕ → ℕ → Gap → Type 0
+StandsRow k s close g = (ns : List Node) × (e : ℕ) × Row (value k s) s close ns g e
+
+abbrev pub gapPlace : Gap → ℕ
+gapPlace (Shut e) = e
+gapPlace (Item p) = p
+gapPlace (Stray p) = p
+
+-- what a string begins with
+abbrev pub isString : Kind → Bool
+isString Square = false
+isString Round = false
+isString Curly = false
+isString Quote = true
+isString Minus = false
+isString Digit = false
+isString TrueWord = false
+isString FalseWord = false
+isString NoneWord = false
+isString Other = false
+
+-- the string at `at`, as a type string
+abbrev pub typedAt : List ℕ → ℕ → Outcome Totals
+typedAt s at = each (λ t. totalsOf (plain t)) (typeString (spelled (byteAt s at) s (at + 1) .bytes))
+
+-- what stands at `at`, as a name
+abbrev pub namedAt : List ℕ → ℕ → Outcome Totals
+namedAt s at = cond (isString (kindOf (byteAt s at))) (gives (nameTotals (length (spelled (byteAt s at) s (at + 1) .bytes)))) (refused 14)
+
+-- items as a field's: their count first
+abbrev pub itemsBy : Values → Outcome Totals
+itemsBy vs = each fieldTotals (unless (not (twoOrThree vs)) 14 (namedOf vs))
