@@ -22,15 +22,13 @@ use Rattle.dtype.proofs.Whole.{lists-whole}
 use Rattle.shape.specs.Count.{itemCount}
 use Rattle.shape.proofs.Turns.{counted-fits, counted-over}
 use Rattle.table.specs.Checked.{readDtype, checkedRecord}
+use Rattle.table.specs.Valid.{made}
 use Rattle.table.specs.Answer.{itemSize, summary}
 use Rattle.table.specs.declared.ItemSize.{ItemSize}
 use Rattle.table.specs.declared.ItemSize.the-variants.{Sized, Unsized}
 use Rattle.table.specs.declared.Summary.{Summary}
 use Rattle.table.proofs.Walks.{deepAt}
 use Rattle.table.proofs.Passes.{read-view}
-
-abbrev made : Dtype → List ℕ → Order → Record
-made d s o = record { dtype = d; shape = s; order = o }
 
 pub check-27 : (t ns s : List ℕ) (o : Order) → readDtype t ns ≡ refused 27 → refused 27 ≡ each summary (checkedRecord t ns s o)
 unfolding checkedRecord

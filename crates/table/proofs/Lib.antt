@@ -6,3 +6,4 @@ pub mod Passes
 pub mod Limits
 pub mod Checks
 pub mod Outcomes
+pub mod Accepts

@@ -22,7 +22,7 @@ use Rattle.dtype.proofs.Stands.{stands-entry}
 use Rattle.dtype.proofs.Seen.{or-left, or-right, names-seen, table-length}
 use Rattle.dtype.proofs.Whole.{whole-lists, lists-whole}
 use Rattle.table.specs.EntryType.{typeOf}
-use Rattle.table.specs.Checked.{refuses, untyped, illNamed, isArray, readDtype}
+use Rattle.table.specs.Checked.{refuses, untyped, illNamed, isArray, unread, readDtype}
 use Rattle.table.specs.Decides.{Decides, Typed-agrees, untypedAt, Sound, Named, Outermost, Reads}
 use Rattle.table.proofs.Tests.{none-passes, none-back}
 use Rattle.table.proofs.Types.{untyped-seen}
@@ -114,7 +114,7 @@ module _ (d : Dtype) where
         named = record { long = w .named; all-well = names-seen (λ name. refuses (utf8 name)) empty-well d ∙ i };
       }
 
-  passes-listed : Passes (table d) (names d) (entriesOf d) → (isArray d || (untyped d || illNamed d)) ≡ false
+  passes-listed : Passes (table d) (names d) (entriesOf d) → unread d ≡ false
   passes-listed p =
       let a = kind-array d (λ h. p .first .no-array (first-entry ∙ h)) in
       let u = sym (untyped-seen d) ∙ sym (none-passes (untypedAt (table d)) (entriesOf d) (λ e l. p .sound e l .typed)) in
@@ -153,23 +153,19 @@ table-of-27 t ns k h = go (same t (table u) && same ns (names u)) h
     go true e = let z : _≡_ {A = ℕ} 0 1 = cc in absurd (omega arith)
     go false e = cc
 
-module _ (d : Dtype) where
-  abbrev wrong : Bool
-  wrong = isArray d || (untyped d || illNamed d)
-
 pub fails-read : (t ns : List ℕ) → ((n : ℕ) → Passes t ns n → ⊥) → readDtype t ns ≡ refused 27
 unfolding readDtype
 fails-read t ns h = go (tableOf t ns) refl
   where
-    by-test : (d : Dtype) → t ≡ table d → ns ≡ names d → (b : Bool) → wrong d ≡ b → unless b 27 (gives d) ≡ refused 27
+    by-test : (d : Dtype) → t ≡ table d → ns ≡ names d → (b : Bool) → unread d ≡ b → unless b 27 (gives d) ≡ refused 27
     by-test d p q true e = refl
     by-test d p q false e =
         let rest = or-right (isArray d) (untyped d || illNamed d) e in
         let g = listed-passes d (or-left (isArray d) (untyped d || illNamed d) e) (or-left (untyped d) (illNamed d) rest) (or-right (untyped d) (illNamed d) rest) in
         absurd (h (entriesOf d) (rw (p, q) g))
 
-    go : (r : Outcome Dtype) → tableOf t ns ≡ r → then r (λ d. unless (wrong d) 27 (gives d)) ≡ refused 27
-    go (gives d) e = let v = tableOf-right t ns d e in by-test d (v .0) (v .1) (wrong d) refl
+    go : (r : Outcome Dtype) → tableOf t ns ≡ r → then r (λ d. unless (unread d) 27 (gives d)) ≡ refused 27
+    go (gives d) e = let v = tableOf-right t ns d e in by-test d (v .0) (v .1) (unread d) refl
     go (refused k) e = ap refused (table-of-27 t ns k e)
 
 -- what is read has this table and these names
@@ -181,8 +177,8 @@ read-view t ns d h = go (tableOf t ns) refl h
     by-test u p q true e = let z : _≡_ {A = ℕ} 0 1 = cc in absurd (omega arith)
     by-test u p q false e = let z : u ≡ d = cc in rw (← z) (p, q)
 
-    go : (r : Outcome Dtype) → tableOf t ns ≡ r → then r (λ u. unless (wrong u) 27 (gives u)) ≡ gives d → (t ≡ table d) × (ns ≡ names d)
-    go (gives u) e k = let v = tableOf-right t ns u e in by-test u (v .0) (v .1) (wrong u) k
+    go : (r : Outcome Dtype) → tableOf t ns ≡ r → then r (λ u. unless (unread u) 27 (gives u)) ≡ gives d → (t ≡ table d) × (ns ≡ names d)
+    go (gives u) e k = let v = tableOf-right t ns u e in by-test u (v .0) (v .1) (unread u) k
     go (refused m) e k = let z : _≡_ {A = ℕ} 0 1 = cc in absurd (omega arith)
 
 -- ---- the answers of `is_dtype`

@@ -106,13 +106,13 @@ unfolding unitsFor
 units-back n u h = eqb-true n (unitsNumber u) (first-back (λ x. eqb n (unitsNumber x)) units u h)
 
 -- the numbers of e are those of t
-record Written (e : Entry) (t : TypeStr) : Type 0 where
-  order : e .order ≡ orderByte (t .order)
-  letter : e .letter ≡ letterByte (t .letter)
-  number : e .number ≡ t .size
-  units : e .units ≡ unitsNumber (t .units)
+pub record Written (e : Entry) (t : TypeStr) : Type 0 where
+  pub order : e .order ≡ orderByte (t .order)
+  pub letter : e .letter ≡ letterByte (t .letter)
+  pub number : e .number ≡ t .size
+  pub units : e .units ≡ unitsNumber (t .units)
 
-type-of-written : (e : Entry) (t : TypeStr) → Written e t → typeOf e ≡ in-record (typed t)
+pub type-of-written : (e : Entry) (t : TypeStr) → Written e t → typeOf e ≡ in-record (typed t)
 unfolding typeOf
 type-of-written e t w =
     rw (w .order, order-spelled (t .order), w .letter, letter-spelled (t .letter), w .units, units-numbered (t .units), w .number)

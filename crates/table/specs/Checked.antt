@@ -32,9 +32,13 @@ isArray (plain t) = false
 isArray (array n d) = true
 isArray (record-of fs) = false
 
+-- no reading gives it, or it is an array
+abbrev pub unread : Dtype → Bool
+unread d = isArray d || (untyped d || illNamed d)
+
 -- the dtype of a table and its names, or 27
 unfoldable pub readDtype : (table names : List ℕ) → Outcome Dtype
-readDtype t ns = then (tableOf t ns) (λ d. unless (isArray d || (untyped d || illNamed d)) 27 (gives d))
+readDtype t ns = then (tableOf t ns) (λ d. unless (unread d) 27 (gives d))
 
 -- a caller's record, or the first of 27, 13, 20, 21, 22 that applies
 unfoldable pub checkedRecord : (table names shape : List ℕ) → Order → Outcome Record
