@@ -102,25 +102,26 @@ module _ (t ns s : List ℕ) (o : Order) (d : Dtype) (size : ItemSize) (count : 
   unsized-by true e = refl
   unsized-by false e = let z : _≡_ {A = ℕ} 0 1 = cc in absurd (omega arith)
 
+  module _ (n : Bytes) (q : size ≡ Sized n) where
+    sized : (hasObject d ≡ false) × (n .0 ≡ sizeOf d)
+    sized = sized-by n (hasObject d) (sym q ∙ a .size-is)
+
+    -- what `follow` asks
+    pub follow-asks : (t ≡ table d) × (someOver d ≡ false)
+    follow-asks = (a .valid .table-is, none-over (sized .0))
+
   module _ (file start : ℕ) (x p : List ℕ) where
     pub answer-24 : size ≡ Unsized → refused 24 ≡ placed file start (made d s o) x p
     unfolding placed
     answer-24 e = simp (unsized-by (hasObject d) (sym e ∙ a .size-is))
 
     module _ (n : Bytes) (q : size ≡ Sized n) where
-      pub sized : (hasObject d ≡ false) × (n .0 ≡ sizeOf d)
-      sized = sized-by n (hasObject d) (sym q ∙ a .size-is)
-
       area-is : start + count .0 * n .0 ≡ start + dataBytes (made d s o)
-      area-is = rw (a .count-is, sized .1)
+      area-is = rw (a .count-is, sized n q .1)
 
       pub answer-25 : true ≡ ltb file (start + count .0 * n .0) → refused 25 ≡ placed file start (made d s o) x p
       unfolding placed
-      answer-25 e = simp (sized .0, ap (λ (y : ℕ). ltb file y) (sym area-is) ∙ sym e)
-
-      -- what `follow` asks
-      pub follow-asks : (t ≡ table d) × (someOver d ≡ false)
-      follow-asks = (a .valid .table-is, none-over (sized .0))
+      answer-25 e = simp (sized n q .0, ap (λ (y : ℕ). ltb file y) (sym area-is) ∙ sym e)
 
       module _ (e : ltb file (start + count .0 * n .0) ≡ false) where
         not-short : ltb file (start + dataBytes (made d s o)) ≡ false
@@ -131,7 +132,7 @@ module _ (t ns s : List ℕ) (o : Order) (d : Dtype) (size : ItemSize) (count : 
 
         pub answer-26-range : inRange s x ≡ false → refused 26 ≡ placed file start (made d s o) x p
         unfolding placed
-        answer-26-range g = simp (sized .0, not-short, g)
+        answer-26-range g = simp (sized n q .0, not-short, g)
 
         by-range : (inRange s x ≡ true → refused 26 ≡ placed file start (made d s o) x p) → refused 26 ≡ placed file start (made d s o) x p
         by-range f = go (inRange s x) refl
@@ -145,7 +146,7 @@ module _ (t ns s : List ℕ) (o : Order) (d : Dtype) (size : ItemSize) (count : 
         answer-26-path h = by-range inside
           where
             inside : inRange s x ≡ true → refused 26 ≡ placed file start (made d s o) x p
-            inside g = simp (sized .0, not-short, g, h)
+            inside g = simp (sized n q .0, not-short, g, h)
 
         module _ (r : ItemCount) (w : length s ≤ 32 → overShape o s ≡ false → inRange s x ≡ true → r ≡ items (number (item o s x))) where
           pub answer-26-item : r ≡ ItemCount.Over → refused 26 ≡ placed file start (made d s o) x p
@@ -155,7 +156,7 @@ module _ (t ns s : List ℕ) (o : Order) (d : Dtype) (size : ItemSize) (count : 
             first-at : inRange s x ≡ true → start + m .0 * n .0 + u .first .0 ≡ place start (made d s o) x p
             first-at g =
                 let i = items-back (item o s x) m (sym v ∙ w shape-short shape-fits g) .0 in
-                rw (← i, sized .1, f .1) (omega arith)
+                rw (← i, sized n q .1, f .1) (omega arith)
 
             below : inRange s x ≡ true → place start (made d s o) x p ≤ file
             below g = omega (arith, long, run-inside start (made d s o) x p (range-of s x g) (plain-path d p (u .kind) (f .0)))
@@ -169,7 +170,7 @@ module _ (t ns s : List ℕ) (o : Order) (d : Dtype) (size : ItemSize) (count : 
             unfolding placed
             answer-at c k g =
                 let z : c .0 ≡ place start (made d s o) x p = sym (bytes-back (start + m .0 * n .0 + u .first .0) c k .0) ∙ first-at g in
-                simp (sized .0, not-short, g, f .0) (run-is (c .0) (u .len .0) (u .kind) z (f .2))
+                simp (sized n q .0, not-short, g, f .0) (run-is (c .0) (u .len .0) (u .kind) z (f .2))
               where
                 run-is : (c l : ℕ) (k : TypeStr) → c ≡ place start (made d s o) x p → l ≡ plainBytes k
                     → _≡_ {A = Outcome Run} (gives (record { first = record { 0 = c }; len = record { 0 = l }; kind = k })) (gives (runFrom (place start (made d s o) x p) k))

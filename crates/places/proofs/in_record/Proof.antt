@@ -28,7 +28,9 @@ returns-2 : tie.Need-returns-2
 returns-2 c = λ ns d a. answer-25 _ ns _ _ d _ _ a _ _ _ _ _ (c .before .before .before .size .given .1) (sym (c .if1 .taken) ∙ c .before .is-short .ensures)
 
 follow-requires : tie.Need-follow-requires
-follow-requires c κs = let p = c .before .before .before .before .before .before .before .before .before .pre in let q = follow-asks _ (p .0) _ _ (p .1) _ _ (p .2) (c .before .before .before .before .before .before .before .before .before .args .file .0) (c .before .before .before .before .before .before .before .before .before .args .start .0) (c .before .before .before .before .before .before .before .before .before .args .index .now) (c .before .before .before .before .before .before .before .before .before .args .path .now) _ (c .before .before .before .size .given .1) in (p .1, q .0, q .1)
+follow-requires c κs = let p = c .before .before .before .before .before .before .before .before .before .pre in
+    let asks = follow-asks _ (p .0) _ _ (p .1) _ _ (p .2) _ (c .before .before .before .size .given .1) in
+    (p .1, asks .0, asks .1)
 
 enum-known-run : tie.Need-enum-known-run
 enum-known-run c = search needs
@@ -37,7 +39,11 @@ enum-told-2 : tie.Need-enum-told-2
 enum-told-2 c = search needs
 
 returns-3 : tie.Need-returns-3
-returns-3 c = λ ns d a. let q = follow-asks _ ns _ _ d _ _ a (c .before .before .before .before .before .before .before .before .before .before .before .before .args .file .0) (c .before .before .before .before .before .before .before .before .before .before .before .before .args .start .0) (c .before .before .before .before .before .before .before .before .before .before .before .before .args .index .now) (c .before .before .before .before .before .before .before .before .before .before .before .before .args .path .now) _ (c .before .before .before .before .before .before .size .given .1) in answer-26-path _ ns _ _ d _ _ a _ _ _ _ _ (c .before .before .before .before .before .before .size .given .1) (sym (c .before .before .before .before .is-short .ensures) ∙ c .before .before .before .if1 .left) (rw (c .enum-told2 .given .1) at (c .before .before .follow .ensures d (q .0) (q .1) (a .valid .typed)))
+returns-3 c = λ ns d a.
+    let sized = c .before .before .before .before .before .before .size .given .1 in
+    let asks = follow-asks _ ns _ _ d _ _ a _ sized in
+    answer-26-path _ ns _ _ d _ _ a _ _ _ _ _ sized (sym (c .before .before .before .before .is-short .ensures) ∙ c .before .before .before .if1 .left)
+    (rw (c .enum-told2 .given .1) at (c .before .before .follow .ensures d (asks .0) (asks .1) (a .valid .typed)))
 
 item-of-requires : tie.Need-item-of-requires
 item-of-requires c κs = search needs
@@ -49,7 +55,10 @@ enum-told-3 : tie.Need-enum-told-3
 enum-told-3 c = search needs
 
 returns-4 : tie.Need-returns-4
-returns-4 c = λ ns d a. answer-26-item _ ns _ _ d _ _ a _ _ _ _ _ (c .before .before .before .before .before .before .before .before .before .before .size .given .1) (sym (c .before .before .before .before .before .before .before .before .is-short .ensures) ∙ c .before .before .before .before .before .before .before .if1 .left) _ (c .before .before .item-of .ensures) (c .enum-told3 .given .1)
+returns-4 c = λ ns d a.
+    answer-26-item _ ns _ _ d _ _ a _ _ _ _ _ (c .before .before .before .before .before .before .before .before .before .before .size .given .1) (sym (c .before .before .before .before .before .before .before .before .is-short .ensures) ∙ c .before .before .before .before .before .before .before .if1 .left) _
+    (c .before .before .item-of .ensures)
+    (c .enum-told3 .given .1)
 
 first-byte-requires : tie.Need-first-byte-requires
 first-byte-requires c κs = search needs
@@ -61,16 +70,34 @@ enum-told-4 : tie.Need-enum-told-4
 enum-told-4 c = search needs
 
 returns-5 : tie.Need-returns-5
-returns-5 c = λ ns d a. let q = follow-asks _ ns _ _ d _ _ a (c .before .before .before .before .before .before .before .before .before .before .before .before .before .before .before .before .before .before .before .before .args .file .0) (c .before .before .before .before .before .before .before .before .before .before .before .before .before .before .before .before .before .before .before .before .args .start .0) (c .before .before .before .before .before .before .before .before .before .before .before .before .before .before .before .before .before .before .before .before .args .index .now) (c .before .before .before .before .before .before .before .before .before .before .before .before .before .before .before .before .before .before .before .before .args .path .now) _ (c .before .before .before .before .before .before .before .before .before .before .before .before .before .before .size .given .1) in answer-26-first _ ns _ _ d _ _ a _ _ _ _ _ (c .before .before .before .before .before .before .before .before .before .before .before .before .before .before .size .given .1) (sym (c .before .before .before .before .before .before .before .before .before .before .before .before .is-short .ensures) ∙ c .before .before .before .before .before .before .before .before .before .before .before .if1 .left) _ (c .before .before .before .before .before .before .item-of .ensures) _ (c .before .before .before .before .which .given .1) _ (rw (c .before .before .before .before .before .before .before .before .run .given .1) at (c .before .before .before .before .before .before .before .before .before .before .follow .ensures d (q .0) (q .1) (a .valid .typed))) (file-fits (c .before .before .before .before .before .before .before .before .before .before .before .before .before .before .before .before .before .before .before .before)) (sym (c .enum-told4 .given .1) ∙ c .before .before .first-byte .ensures)
+returns-5 c = λ ns d a.
+    let sized = c .before .before .before .before .before .before .before .before .before .before .before .before .before .before .size .given .1 in
+    let asks = follow-asks _ ns _ _ d _ _ a _ sized in
+    answer-26-first _ ns _ _ d _ _ a _ _ _ _ _ sized (sym (c .before .before .before .before .before .before .before .before .before .before .before .before .is-short .ensures) ∙ c .before .before .before .before .before .before .before .before .before .before .before .if1 .left) _
+    (c .before .before .before .before .before .before .item-of .ensures) _
+    (c .before .before .before .before .which .given .1) _
+    (rw (c .before .before .before .before .before .before .before .before .run .given .1) at (c .before .before .before .before .before .before .before .before .before .before .follow .ensures d (asks .0) (asks .1) (a .valid .typed)))
+    (file-fits (c .before .before .before .before .before .before .before .before .before .before .before .before .before .before .before .before .before .before .before .before))
+    (sym (c .enum-told4 .given .1) ∙ c .before .before .first-byte .ensures)
 
 in-range-requires : tie.Need-in-range-requires
 in-range-requires c κs = search needs
 
 returns-6 : tie.Need-returns-6
-returns-6 c = λ ns d a. answer-26-range _ ns _ _ d _ _ a _ _ _ _ _ (c .before .before .before .before .before .before .before .before .before .before .before .before .before .before .before .before .before .size .given .1) (sym (c .before .before .before .before .before .before .before .before .before .before .before .before .before .before .before .is-short .ensures) ∙ c .before .before .before .before .before .before .before .before .before .before .before .before .before .before .if1 .left) (sym (c .before .in-range .ensures) ∙ not-true _ (c .if2 .taken))
+returns-6 c = λ ns d a.
+    answer-26-range _ ns _ _ d _ _ a _ _ _ _ _ (c .before .before .before .before .before .before .before .before .before .before .before .before .before .before .before .before .before .size .given .1) (sym (c .before .before .before .before .before .before .before .before .before .before .before .before .before .before .before .is-short .ensures) ∙ c .before .before .before .before .before .before .before .before .before .before .before .before .before .before .if1 .left)
+    (sym (c .before .in-range .ensures) ∙ not-true _ (c .if2 .taken))
 
 returns-7 : tie.Need-returns-7
-returns-7 c = λ ns d a. let q = follow-asks _ ns _ _ d _ _ a (c .before .before .before .before .before .before .before .before .before .before .before .before .before .before .before .before .before .before .before .before .before .before .before .before .before .args .file .0) (c .before .before .before .before .before .before .before .before .before .before .before .before .before .before .before .before .before .before .before .before .before .before .before .before .before .args .start .0) (c .before .before .before .before .before .before .before .before .before .before .before .before .before .before .before .before .before .before .before .before .before .before .before .before .before .args .index .now) (c .before .before .before .before .before .before .before .before .before .before .before .before .before .before .before .before .before .before .before .before .before .before .before .before .before .args .path .now) _ (c .before .before .before .before .before .before .before .before .before .before .before .before .before .before .before .before .before .before .before .size .given .1) in answer-at _ ns _ _ d _ _ a _ _ _ _ _ (c .before .before .before .before .before .before .before .before .before .before .before .before .before .before .before .before .before .before .before .size .given .1) (sym (c .before .before .before .before .before .before .before .before .before .before .before .before .before .before .before .before .before .is-short .ensures) ∙ c .before .before .before .before .before .before .before .before .before .before .before .before .before .before .before .before .if1 .left) _ (c .before .before .before .before .before .before .before .before .before .before .before .item-of .ensures) _ (c .before .before .before .before .before .before .before .before .before .which .given .1) _ (rw (c .before .before .before .before .before .before .before .before .before .before .before .before .before .run .given .1) at (c .before .before .before .before .before .before .before .before .before .before .before .before .before .before .before .follow .ensures d (q .0) (q .1) (a .valid .typed))) _ (sym (c .before .before .before .before .before .first .given .1) ∙ c .before .before .before .before .before .before .before .first-byte .ensures) (sym (c .before .before .before .in-range .ensures) ∙ not-false _ (c .before .before .if2 .left))
+returns-7 c = λ ns d a.
+    let sized = c .before .before .before .before .before .before .before .before .before .before .before .before .before .before .before .before .before .before .before .size .given .1 in
+    let asks = follow-asks _ ns _ _ d _ _ a _ sized in
+    answer-at _ ns _ _ d _ _ a _ _ _ _ _ sized (sym (c .before .before .before .before .before .before .before .before .before .before .before .before .before .before .before .before .before .is-short .ensures) ∙ c .before .before .before .before .before .before .before .before .before .before .before .before .before .before .before .before .if1 .left) _
+    (c .before .before .before .before .before .before .before .before .before .before .before .item-of .ensures) _
+    (c .before .before .before .before .before .before .before .before .before .which .given .1) _
+    (rw (c .before .before .before .before .before .before .before .before .before .before .before .before .before .run .given .1) at (c .before .before .before .before .before .before .before .before .before .before .before .before .before .before .before .follow .ensures d (asks .0) (asks .1) (a .valid .typed))) _
+    (sym (c .before .before .before .before .before .first .given .1) ∙ c .before .before .before .before .before .before .before .first-byte .ensures)
+    (sym (c .before .before .before .in-range .ensures) ∙ not-false _ (c .before .before .if2 .left))
 
 pub in-record-spec : {M : Type 1} → statement M
 in-record-spec =
