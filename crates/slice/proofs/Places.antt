@@ -11,9 +11,10 @@ use Rattle.counts.specs.Outcome.{Outcome, gives, refused}
 use Rattle.emit.specs.Emits.{Emits}
 use Rattle.numbers.proofs.Runs.{length-out}
 use Rattle.type_str.specs.declared.Endianness.{Endianness}
-use Rattle.slice.specs.Elements.{point, points, found}
+use Rattle.slice.specs.Elements.{trimmed, point, points, found}
 use Rattle.slice.specs.Runs.{filled, pointBytes}
 use Rattle.slice.specs.Rooms.{roomed, Owes}
+use Rattle.slice.proofs.Trims.{trim-zeros}
 use Rattle.slice.proofs.Scalars.{found-at}
 
 -- ---- filled up
@@ -34,6 +35,10 @@ then-zeros (b ∷ value) n (suc i) = then-zeros value n i
 pub at-filled : (size : ℕ) (value : List ℕ) (i : ℕ) → getD (filled size value) i 0 ≡ getD value i 0
 unfolding filled
 at-filled size value i = then-zeros value (size - length value) i
+
+pub trim-filled : (size : ℕ) (value : List ℕ) → trimmed (filled size value) ≡ trimmed value
+unfolding filled
+trim-filled size value = trim-zeros value (size - length value)
 
 pub filled-exact : (size : ℕ) (value : List ℕ) → size ≡ length value → filled size value ≡ value
 unfolding filled

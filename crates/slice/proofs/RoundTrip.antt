@@ -24,9 +24,8 @@ use Rattle.slice.specs.Elements.{kindOf, trimmed, scalar, point, points,
 use Rattle.slice.specs.Runs.{filled, bytesOut, allScalars, pointBytes, pointsOut}
 use Rattle.slice.specs.Rooms.{roomed, readBytes, readPoints, writeBytes, writePoints}
 use Rattle.slice.specs.declared.Kind.{Kind}
-use Rattle.slice.proofs.Trims.{trim-filled}
 use Rattle.slice.proofs.Scalars.{apart, scalar-is, point-four, point-step}
-use Rattle.slice.proofs.Places.{gives-same}
+use Rattle.slice.proofs.Places.{trim-filled, gives-same}
 use Rattle.slice.proofs.Ways.{read-bytes-by}
 
 -- ---- what was given passed every check

@@ -10,7 +10,6 @@ use lib.ListN.{length, getD, take, replicate}
 use lib.Seq.{take-suc, take-length, length-take-le}
 use borrow.Author.Tests.{ne-eqb}
 use Rattle.slice.specs.Elements.{before, trimmed}
-use Rattle.slice.specs.Runs.{filled}
 
 pub trim-zero : (l : List ℕ) → trimmed (l ++ 0 ∷ []) ≡ trimmed l
 trim-zero [] = refl
@@ -28,13 +27,9 @@ trim-none : (n : ℕ) → trimmed (replicate n 0) ≡ []
 trim-none zero = refl
 trim-none (suc n) = ap (λ (m : List ℕ). before 0 m) (trim-none n)
 
-trim-zeros : (l : List ℕ) (n : ℕ) → trimmed (l ++ replicate n 0) ≡ trimmed l
+pub trim-zeros : (l : List ℕ) (n : ℕ) → trimmed (l ++ replicate n 0) ≡ trimmed l
 trim-zeros [] n = trim-none n
 trim-zeros (b ∷ l) n = ap (λ (m : List ℕ). before b m) (trim-zeros l n)
-
-pub trim-filled : (size : ℕ) (value : List ℕ) → trimmed (filled size value) ≡ trimmed value
-unfolding filled
-trim-filled size value = trim-zeros value (size - length value)
 
 -- what is left is the front of the list
 pub trim-take : (l : List ℕ) → take (length (trimmed l)) l ≡ trimmed l
