@@ -1,17 +1,17 @@
 -- The filling walk on plain values. A descr is a type string or a list of fields. What is kept along the fields: what is left to put on the table and on
 -- the names as they are gives the due table and the due names. A record's entry comes behind its fields, a field's levels behind its type. Assumes nothing.
-use Prim.Native.Nat.{ℕ, zero, suc, _+_, _-_, _*_, _<_, _≤_}
+use Prim.Native.Nat.{ℕ, suc, _+_, _-_, _*_, _<_, _≤_}
 use native.Mathlib.Omega.{arith}
 use mathlib.Core.Path.{_≡_, refl, sym, ap, subst, _∙_}
 use mathlib.Core.List.{List, [], _∷_, _++_, append-assoc}
-use mathlib.Core.Bool.{Bool, true, false}
+use mathlib.Core.Bool.{true, false}
 use lib.ListN.{length, drop, length-append}
 use lib.Seq.{sets, length-sets, drop-length}
 use denote.Enum.Declared.{tagOf}
-use types.Run.{OneOf, miss}
+use types.Run.{OneOf}
 use Rattle.counts.specs.Outcome.{Outcome, gives, refused, then, each}
 use Rattle.dtype.specs.declared.Entry.{Entry}
-use Rattle.dtype.specs.Dtype.{Dtype, Fields, plain, array, record-of, end-of-fields, field-then, sizeOf, sizesOf}
+use Rattle.dtype.specs.Dtype.{Dtype, Fields, plain, record-of, end-of-fields, field-then, sizeOf, sizesOf}
 use Rattle.dtype.specs.Entries.{entriesOf, entriesIn, fieldCount}
 use Rattle.dtype.specs.Names.{nameBytes, nameBytesIn, namesOf, namesIn}
 use Rattle.dtype.specs.Flat.{entry-width, saturated, entryOf, numbers, flat, flats}
@@ -26,11 +26,9 @@ use Rattle.literal.specs.Text.{byteAt, kindOf}
 use Rattle.literal.specs.Strings.{spelled}
 use Rattle.literal.specs.Literal.{value}
 use Rattle.literal.specs.Brackets.{gapAt, thenAt}
-use Rattle.literal.specs.Rows.{Row, kindOfNode}
-use Rattle.literal.specs.declared.bytes.Kind.{Kind}
-use Rattle.literal.specs.declared.bytes.Kind.the-variants.{Square, Round, Curly, Quote, Minus, Digit, TrueWord, FalseWord, NoneWord, Other}
+use Rattle.literal.specs.Rows.{Row}
 use Rattle.literal.specs.declared.gaps.Gap.{Gap}
-use Rattle.literal.specs.declared.gaps.Gap.the-variants.{Shut, Item, Stray}
+use Rattle.literal.specs.declared.gaps.Gap.the-variants.{Item}
 use Rattle.literal.proofs.gaps.Gap.{the-type}
 use Rattle.literal.proofs.Positions.{kind-in}
 use Rattle.literal.proofs.View.{view, value-kind}
@@ -40,8 +38,8 @@ use Rattle.literal.proofs.Steps.{gapLeft, gap-falls}
 use Rattle.fill.specs.declared.Spot.{Spot}
 use Rattle.fill.specs.declared.Many.{Many}
 use Rattle.fill.specs.declared.Parts.{Parts}
-use Rattle.fill.specs.Filled.{gapPlace, isString, upOf, nameOf, Narrow, NarrowIn, OneField, PartsOf, Levelled, LevelsOver, Due, Filled, DueFields, FilledFields, DueField, FilledField, LevelsDue}
-use Rattle.fill.proofs.Stores.{sets-append, flat-front, flats-front, names-front, names-in-front}
+use Rattle.fill.specs.Filled.{gapPlace, isString, upOf, nameOf, Narrow, NarrowIn, PartsOf, Levelled, Due, Filled, DueFields, FilledFields, DueField, FilledField, LevelsDue}
+use Rattle.fill.proofs.Stores.{sets-append, flat-front, names-front}
 use Rattle.fill.proofs.Parted.{refused-gives, row-none}
 use Rattle.fill.proofs.Levels.{entry-before, narrow-levels}
 

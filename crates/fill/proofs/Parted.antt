@@ -1,6 +1,6 @@
 -- The parts of a field, as the code finds them. A field that is one is a bracket of two or three items; each item stands where the gap before it says, and
 -- the definition, taken apart by its outcomes, says what each is. Assumes nothing.
-use Prim.Native.Nat.{ℕ, zero, suc, _+_, _-_, _<_, _≤_}
+use Prim.Native.Nat.{ℕ, _+_, _-_, _<_, _≤_}
 use native.Mathlib.Omega.{arith}
 use mathlib.Core.Path.{_≡_, refl, sym, ap, subst, _∙_}
 use mathlib.Core.List.{List, [], _∷_}
@@ -29,7 +29,6 @@ use Rattle.literal.specs.Strings.{spelled}
 use Rattle.literal.specs.Literal as read
 use Rattle.literal.specs.Brackets.{gapAt, thenAt}
 use Rattle.literal.specs.Rows.{Row}
-use Rattle.literal.specs.declared.bytes.Kind.{Kind}
 use Rattle.literal.specs.declared.gaps.Gap.{Gap}
 use Rattle.literal.specs.declared.gaps.Gap.the-variants.{Shut, Item, Stray}
 use Rattle.literal.proofs.gaps.Gap.{the-type}
@@ -43,7 +42,6 @@ use Rattle.dims.specs.Outline.{outlineOf}
 use Rattle.dims.specs.Answer.{outlined, endOr, dimensionsAt, Judges}
 use Rattle.dims.specs.Walk.{closingOf}
 use Rattle.dims.proofs.Held.{Bracket, bracket, no-bracket}
-use Rattle.fill.specs.declared.Parts.{Parts}
 use Rattle.fill.specs.Filled.{gapPlace, rankOf, OneField, PartsOf}
 
 pub refused-gives : {A B : Type 0} {a : A} {n : ℕ} → refused n ≡ gives a → B

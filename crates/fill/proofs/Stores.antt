@@ -1,16 +1,15 @@
 -- Runs of stores: one behind the other, and one before the other, which does not matter as they do not meet. The tables and names of crate dtype, written
 -- in front of a rest, are themselves and then the rest. Assumes nothing.
-use Prim.Native.Nat.{ℕ, zero, suc, _+_, _-_, _*_, _<_, _≤_}
+use Prim.Native.Nat.{ℕ, zero, suc, _+_, _-_, _<_, _≤_}
 use native.Mathlib.Omega.{arith}
 use mathlib.Core.Path.{_≡_, refl, sym, ap, _∙_}
 use mathlib.Core.List.{List, [], _∷_, _++_, append-assoc, append-nil}
 use lib.ListN.{length, set, take, drop, length-drop}
 use lib.Seq.{sets, set-comm, take-all, drop-length}
 use borrow.Rule.Slice.PartMut.{putMid, midOf}
-use Rattle.dtype.specs.declared.Entry.{Entry}
 use Rattle.dtype.specs.Dtype.{Dtype, Fields, plain, array, record-of, end-of-fields, field-then}
-use Rattle.dtype.specs.Entries.{entriesOf, entriesIn}
-use Rattle.dtype.specs.Names.{namesOf, namesIn, nameBytes}
+use Rattle.dtype.specs.Entries.{entriesOf}
+use Rattle.dtype.specs.Names.{namesOf, namesIn}
 use Rattle.dtype.specs.Flat.{entryOf, numbers, flat, flats}
 
 plus-zero : (k : ℕ) → k + 0 ≡ k

@@ -14,7 +14,7 @@ use Rattle.dtype.specs.Names.{nameBytes, nameBytesIn, namesOf, namesIn}
 use Rattle.dtype.specs.Flat.{entry-width, saturated, flat, flats}
 use Rattle.record.specs.Descr.{Field, arrays, descrOf, fieldOf, fieldsOf}
 use Rattle.literal.specs.Node.{Node, nodes}
-use Rattle.literal.specs.Got.{Got, got}
+use Rattle.literal.specs.Got.{got}
 use Rattle.literal.specs.Text.{byteAt}
 use Rattle.literal.specs.Strings.{spelled}
 use Rattle.literal.specs.Literal.{value}

@@ -283,7 +283,8 @@ fn put_levels(
         put_entry(
             table,
             entry + k,
-            level_entry(
+            bare_entry(
+                1,
                 parent(k, entry, up),
                 shape[k],
                 (stop - (entry + k)) as u64,
@@ -295,12 +296,13 @@ fn put_levels(
     held
 }
 
-fn level_entry(up: u64, number: u64, extent: u64, bytes: u64, name: u64) -> Entry
-    ensures { λ r. ⌜ r ≡ record { parent = up; kind = 1; order = 0; letter = 0; number = number; units = 0; extent = extent; bytes = bytes; name = name } ⌝ }
+// An entry that is not of a plain type.
+fn bare_entry(kind: u64, up: u64, number: u64, extent: u64, bytes: u64, name: u64) -> Entry
+    ensures { λ r. ⌜ r ≡ record { parent = up; kind = kind; order = 0; letter = 0; number = number; units = 0; extent = extent; bytes = bytes; name = name } ⌝ }
 {
     Entry {
         parent: up,
-        kind: 1,
+        kind: kind,
         order: 0,
         letter: 0,
         number: number,
@@ -385,7 +387,7 @@ pub fn fill(
     put_entry(
         table,
         entry,
-        record_entry(up, r.count, (r.entry - entry) as u64, r.size, name),
+        bare_entry(2, up, r.count, (r.entry - entry) as u64, r.size, name),
     );
     Spot {
         end: r.end,
@@ -477,21 +479,5 @@ fn field(
         entry: r.entry,
         byte: r.byte,
         size: size,
-    }
-}
-
-fn record_entry(up: u64, number: u64, extent: u64, bytes: u64, name: u64) -> Entry
-    ensures { λ r. ⌜ r ≡ record { parent = up; kind = 2; order = 0; letter = 0; number = number; units = 0; extent = extent; bytes = bytes; name = name } ⌝ }
-{
-    Entry {
-        parent: up,
-        kind: 2,
-        order: 0,
-        letter: 0,
-        number: number,
-        units: 0,
-        extent: extent,
-        bytes: bytes,
-        name: name,
     }
 }

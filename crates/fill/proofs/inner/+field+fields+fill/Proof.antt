@@ -41,7 +41,7 @@ use Rattle.fill.proofs.inner.place_of.Reads as place-of-reads
 use Rattle.fill.proofs.inner.plain_entry.Reads as plain-entry-reads
 use Rattle.fill.proofs.inner.put_entry.Reads as put-entry-reads
 use Rattle.fill.proofs.inner.put_shape.Reads as put-shape-reads
-use Rattle.fill.proofs.inner.record_entry.Reads as record-entry-reads
+use Rattle.fill.proofs.inner.bare_entry.Reads as bare-entry-reads
 use Rattle.literal.proofs.gaps.then_at.Reads as then-at-reads
 use Rattle.fill.proofs.inner.type_at.Reads as type-at-reads
 use Rattle.fill.proofs.inner.+field+fields+fill.{statement}
@@ -81,7 +81,7 @@ abbrev fields-told : ℕ → fields-lts.Claims
 fields-told t = (gap-at-reads.Asked, gap-at-reads.Learnt, place-of-reads.Asked, place-of-reads.Learnt, field-below t, field.Post, held-sum-reads.Asked, held-sum-reads.Learnt, then-at-reads.Asked, then-at-reads.Learnt)
 
 abbrev fill-told : ℕ → fill-lts.Claims
-fill-told t = (peek-reads.Asked, peek-reads.Learnt, kind-of-reads.Asked, kind-of-reads.Learnt, is-string-reads.Asked, is-string-reads.Learnt, type-at-reads.Asked, type-at-reads.Learnt, plain-entry-reads.Asked, plain-entry-reads.Learnt, put-entry-reads.Asked, put-entry-reads.Learnt, end-of-reads.Asked, end-of-reads.Learnt, fields-below t, fields.Post, record-entry-reads.Asked, record-entry-reads.Learnt)
+fill-told t = (peek-reads.Asked, peek-reads.Learnt, kind-of-reads.Asked, kind-of-reads.Learnt, is-string-reads.Asked, is-string-reads.Learnt, type-at-reads.Asked, type-at-reads.Learnt, plain-entry-reads.Asked, plain-entry-reads.Learnt, put-entry-reads.Asked, put-entry-reads.Learnt, end-of-reads.Asked, end-of-reads.Learnt, fields-below t, fields.Post, bare-entry-reads.Asked, bare-entry-reads.Learnt)
 
 abbrev fields-Inv-loop : fields-lts.InvT-loop
 fields-Inv-loop text from room table₀ entry up names₀ byte g₀ at₀ b₀ size₀ count₀ table names g at b size count = Filling room text from entry up byte table₀ names₀ g at b count size table names
@@ -322,16 +322,16 @@ fill-fields-requires t c κs =
     let l = list-due (a .room) (a .text .now) (a .at) (x .1) (x .2) (x .0) (x .3 .stands) (x .3 .is) (sym (c .before .before .before .is-string .ensures ∙ ap isString (c .before .before .before .before .kind-of .ensures ∙ ap kindOf (c .before .before .before .before .before .peek .ensures))) ∙ c .before .before .if1 .left) in
     (omega (arith, l .deep), (l .ns, x .1, l .fs, (fields-due (a .room) (a .text .now) (a .at) (a .entry) (a .byte) (a .table .now) (a .names .now) (x .0) (x .1) (x .2) (x .3) l)))
 
-fill-sub-record-entry : (t : ℕ) → fill-lts.Need-sub-record-entry (fill-told t) (fill-at t) fill.Post
-fill-sub-record-entry t c =
+fill-sub-bare-entry : (t : ℕ) → fill-lts.Need-sub-bare-entry (fill-told t) (fill-at t) fill.Post
+fill-sub-bare-entry t c =
     let a = c .before .before .before .before .before .before .before .before .before .before .before .before .before .before .before .before .args in
     let x = c .before .before .before .before .before .before .before .before .before .before .before .before .before .before .before .before .pre .1 in
     let l = list-due (a .room) (a .text .now) (a .at) (x .1) (x .2) (x .0) (x .3 .stands) (x .3 .is) (sym (c .before .before .before .before .before .before .before .before .before .before .is-string .ensures ∙ ap isString (c .before .before .before .before .before .before .before .before .before .before .before .kind-of .ensures ∙ ap kindOf (c .before .before .before .before .before .before .before .before .before .before .before .before .peek .ensures))) ∙ c .before .before .before .before .before .before .before .before .before .if1 .left) in
     let w = c .before .before .before .before .before .before .fields .ensures (l .ns) (x .1) (l .fs) (fields-due (a .room) (a .text .now) (a .at) (a .entry) (a .byte) (a .table .now) (a .names .now) (x .0) (x .1) (x .2) (x .3) l) in
     omega (arith, w .next)
 
-fill-record-entry-requires : (t : ℕ) → fill-lts.Need-record-entry-requires (fill-told t) (fill-at t) fill.Post
-fill-record-entry-requires t c κs = search needs
+fill-bare-entry-requires : (t : ℕ) → fill-lts.Need-bare-entry-requires (fill-told t) (fill-at t) fill.Post
+fill-bare-entry-requires t c κs = search needs
 
 fill-put-entry-requires-2 : (t : ℕ) → fill-lts.Need-put-entry-requires-2 (fill-told t) (fill-at t) fill.Post
 fill-put-entry-requires-2 t c κs =
@@ -346,28 +346,28 @@ fill-same-length-2 t c =
     let a = c .before .before .before .before .before .before .before .before .before .before .before .before .before .before .before .before .before .before .before .before .args in
     let x = c .before .before .before .before .before .before .before .before .before .before .before .before .before .before .before .before .before .before .before .before .pre .1 in
     filled-long (let l = list-due (a .room) (a .text .now) (a .at) (x .1) (x .2) (x .0) (x .3 .stands) (x .3 .is) (sym (c .before .before .before .before .before .before .before .before .before .before .before .before .before .before .is-string .ensures ∙ ap isString (c .before .before .before .before .before .before .before .before .before .before .before .before .before .before .before .kind-of .ensures ∙ ap kindOf (c .before .before .before .before .before .before .before .before .before .before .before .before .before .before .before .before .peek .ensures))) ∙ c .before .before .before .before .before .before .before .before .before .before .before .before .before .if1 .left) in
-    record-filled (x .1) (a .entry) (a .up) (a .name) (a .byte) (l .fs) (x .2) (a .table .now) (a .names .now) _ _ _ (c .before .before .before .before .before .before .before .before .before .before .fields .result) (c .before .before .before .record-entry .result) (l .recorded)
-    (c .before .before .before .before .before .before .before .before .before .before .fields .ensures (l .ns) (x .1) (l .fs) (fields-due (a .room) (a .text .now) (a .at) (a .entry) (a .byte) (a .table .now) (a .names .now) (x .0) (x .1) (x .2) (x .3) l)) (c .before .before .before .record-entry .ensures) (c .before .before .put-entry2 .ensures)) .0
+    record-filled (x .1) (a .entry) (a .up) (a .name) (a .byte) (l .fs) (x .2) (a .table .now) (a .names .now) _ _ _ (c .before .before .before .before .before .before .before .before .before .before .fields .result) (c .before .before .before .bare-entry .result) (l .recorded)
+    (c .before .before .before .before .before .before .before .before .before .before .fields .ensures (l .ns) (x .1) (l .fs) (fields-due (a .room) (a .text .now) (a .at) (a .entry) (a .byte) (a .table .now) (a .names .now) (x .0) (x .1) (x .2) (x .3) l)) (c .before .before .before .bare-entry .ensures) (c .before .before .put-entry2 .ensures)) .0
 
 fill-same-length-3 : (t : ℕ) → fill-lts.Need-same-length-3 (fill-told t) (fill-at t) fill.Post
 fill-same-length-3 t c =
     let a = c .before .before .before .before .before .before .before .before .before .before .before .before .before .before .before .before .before .before .before .before .args in
     let x = c .before .before .before .before .before .before .before .before .before .before .before .before .before .before .before .before .before .before .before .before .pre .1 in
     filled-long (let l = list-due (a .room) (a .text .now) (a .at) (x .1) (x .2) (x .0) (x .3 .stands) (x .3 .is) (sym (c .before .before .before .before .before .before .before .before .before .before .before .before .before .before .is-string .ensures ∙ ap isString (c .before .before .before .before .before .before .before .before .before .before .before .before .before .before .before .kind-of .ensures ∙ ap kindOf (c .before .before .before .before .before .before .before .before .before .before .before .before .before .before .before .before .peek .ensures))) ∙ c .before .before .before .before .before .before .before .before .before .before .before .before .before .if1 .left) in
-    record-filled (x .1) (a .entry) (a .up) (a .name) (a .byte) (l .fs) (x .2) (a .table .now) (a .names .now) _ _ _ (c .before .before .before .before .before .before .before .before .before .before .fields .result) (c .before .before .before .record-entry .result) (l .recorded)
-    (c .before .before .before .before .before .before .before .before .before .before .fields .ensures (l .ns) (x .1) (l .fs) (fields-due (a .room) (a .text .now) (a .at) (a .entry) (a .byte) (a .table .now) (a .names .now) (x .0) (x .1) (x .2) (x .3) l)) (c .before .before .before .record-entry .ensures) (c .before .before .put-entry2 .ensures)) .1
+    record-filled (x .1) (a .entry) (a .up) (a .name) (a .byte) (l .fs) (x .2) (a .table .now) (a .names .now) _ _ _ (c .before .before .before .before .before .before .before .before .before .before .fields .result) (c .before .before .before .bare-entry .result) (l .recorded)
+    (c .before .before .before .before .before .before .before .before .before .before .fields .ensures (l .ns) (x .1) (l .fs) (fields-due (a .room) (a .text .now) (a .at) (a .entry) (a .byte) (a .table .now) (a .names .now) (x .0) (x .1) (x .2) (x .3) l)) (c .before .before .before .bare-entry .ensures) (c .before .before .put-entry2 .ensures)) .1
 
 fill-returns-2 : (t : ℕ) → fill-lts.Need-returns-2 (fill-told t) (fill-at t) fill.Post
 fill-returns-2 t c =
     let a = c .before .before .before .before .before .before .before .before .before .before .before .before .before .before .before .before .before .before .before .before .args in
     λ n e d h.
     let l = list-due (a .room) (a .text .now) (a .at) e d n (h .stands) (h .is) (sym (c .before .before .before .before .before .before .before .before .before .before .before .before .before .before .is-string .ensures ∙ ap isString (c .before .before .before .before .before .before .before .before .before .before .before .before .before .before .before .kind-of .ensures ∙ ap kindOf (c .before .before .before .before .before .before .before .before .before .before .before .before .before .before .before .before .peek .ensures))) ∙ c .before .before .before .before .before .before .before .before .before .before .before .before .before .if1 .left) in
-    record-filled e (a .entry) (a .up) (a .name) (a .byte) (l .fs) d (a .table .now) (a .names .now) _ _ _ (c .before .before .before .before .before .before .before .before .before .before .fields .result) (c .before .before .before .record-entry .result) (l .recorded)
-    (c .before .before .before .before .before .before .before .before .before .before .fields .ensures (l .ns) e (l .fs) (fields-due (a .room) (a .text .now) (a .at) (a .entry) (a .byte) (a .table .now) (a .names .now) n e d (h) l)) (c .before .before .before .record-entry .ensures) (c .before .before .put-entry2 .ensures)
+    record-filled e (a .entry) (a .up) (a .name) (a .byte) (l .fs) d (a .table .now) (a .names .now) _ _ _ (c .before .before .before .before .before .before .before .before .before .before .fields .result) (c .before .before .before .bare-entry .result) (l .recorded)
+    (c .before .before .before .before .before .before .before .before .before .before .fields .ensures (l .ns) e (l .fs) (fields-due (a .room) (a .text .now) (a .at) (a .entry) (a .byte) (a .table .now) (a .names .now) n e d (h) l)) (c .before .before .before .bare-entry .ensures) (c .before .before .put-entry2 .ensures)
 
 pub +field+fields+fill-spec : {M : Type 1} → statement M
 +field+fields+fill-spec =
     close μ-field μ-fields μ-fill
     (λ t. field-lts.spec (field-told t) (field-at t) field.Post (field-parts-requires t) (field-name-at-requires t) (field-sub-fill t) (field-add-fill t) (field-parent-requires t) (field-name-of-requires t) (field-add-fill-2 t) (field-fill-requires t) (field-sub-put-shape t) (field-put-shape-requires t) (field-same-length t) (field-same-length-2 t) (field-returns t))
     (λ t. fields-lts.spec (fields-told t) (fields-at t) fields.Post fields-Inv-loop fields-μ-loop (fields-gap-at-requires t) (fields-loop-holds t) (fields-enum-known-g t) (fields-place-of-requires t) (fields-same-length t) (fields-same-length-2 t) (fields-returns t) (fields-field-requires t) (fields-held-sum-requires t) (fields-add-count t) (fields-then-at-requires t) (fields-loop-less t) (fields-loop-again t))
-    (λ t. fill-lts.spec (fill-told t) (fill-at t) fill.Post (fill-peek-requires t) (fill-kind-of-requires t) (fill-is-string-requires t) (fill-type-at-requires t) (fill-plain-entry-requires t) (fill-put-entry-requires t) (fill-end-of-requires t) (fill-add-t21 t) (fill-same-length t) (fill-returns t) (fill-add-fields t) (fill-sub-fields t) (fill-add-fields-2 t) (fill-fields-requires t) (fill-sub-record-entry t) (fill-record-entry-requires t) (fill-put-entry-requires-2 t) (fill-same-length-2 t) (fill-same-length-3 t) (fill-returns-2 t))
+    (λ t. fill-lts.spec (fill-told t) (fill-at t) fill.Post (fill-peek-requires t) (fill-kind-of-requires t) (fill-is-string-requires t) (fill-type-at-requires t) (fill-plain-entry-requires t) (fill-put-entry-requires t) (fill-end-of-requires t) (fill-add-t21 t) (fill-same-length t) (fill-returns t) (fill-add-fields t) (fill-sub-fields t) (fill-add-fields-2 t) (fill-fields-requires t) (fill-sub-bare-entry t) (fill-bare-entry-requires t) (fill-put-entry-requires-2 t) (fill-same-length-2 t) (fill-same-length-3 t) (fill-returns-2 t))

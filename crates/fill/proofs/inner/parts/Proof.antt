@@ -1,6 +1,6 @@
 -- Each part stands where the gap before it says. Assumes nothing.
 use native.Mathlib.Omega.{arith}
-use mathlib.Core.Path.{sym, ap, _∙_}
+use mathlib.Core.Path.{ap, _∙_}
 use Rattle.literal.specs.Text.{kindOf}
 use Rattle.dims.specs.Walk.{closingOf}
 use Rattle.fill.specs.Filled.{gapPlace}

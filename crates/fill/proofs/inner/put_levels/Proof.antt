@@ -48,20 +48,20 @@ parent-requires c κs =
     let w = c .before .before .before .before .loop .inv .2 (x .0) (x .1) (x .2) in
     omega (arith, w .reaches, c .before .before .before .before .before .before .before .fits .stop .fits, c .before .before .before .loop-test .taken)
 
-mul-level-entry : tie.Need-mul-level-entry Inv-loop μ-loop
-mul-level-entry c = search needs
+mul-bare-entry : tie.Need-mul-bare-entry Inv-loop μ-loop
+mul-bare-entry c = search needs
 
-shared-slice-read-level-entry : tie.Need-shared-slice-read-level-entry Inv-loop μ-loop
-shared-slice-read-level-entry c = omega (arith, c .before .before .before .before .before .before .loop .inv .0, c .before .before .before .before .before .loop-test .taken)
+shared-slice-read-bare-entry : tie.Need-shared-slice-read-bare-entry Inv-loop μ-loop
+shared-slice-read-bare-entry c = omega (arith, c .before .before .before .before .before .before .loop .inv .0, c .before .before .before .before .before .loop-test .taken)
 
-add-level-entry : tie.Need-add-level-entry Inv-loop μ-loop
-add-level-entry c =
+add-bare-entry : tie.Need-add-bare-entry Inv-loop μ-loop
+add-bare-entry c =
     let x = c .before .before .before .before .before .before .before .before .before .pre in
     let w = c .before .before .before .before .before .before .loop .inv .2 (x .0) (x .1) (x .2) in
     omega (arith, w .reaches, c .before .before .before .before .before .before .before .before .before .fits .stop .fits)
 
-sub-level-entry : tie.Need-sub-level-entry Inv-loop μ-loop
-sub-level-entry c =
+sub-bare-entry : tie.Need-sub-bare-entry Inv-loop μ-loop
+sub-bare-entry c =
     let x = c .before .before .before .before .before .before .before .before .before .pre in
     let w = c .before .before .before .before .before .before .loop .inv .2 (x .0) (x .1) (x .2) in
     omega (arith, w .reaches, c .before .before .before .before .before .loop-test .taken)
@@ -69,8 +69,8 @@ sub-level-entry c =
 name-of-requires : tie.Need-name-of-requires Inv-loop μ-loop
 name-of-requires c κs = search needs
 
-level-entry-requires : tie.Need-level-entry-requires Inv-loop μ-loop
-level-entry-requires c κs = search needs
+bare-entry-requires : tie.Need-bare-entry-requires Inv-loop μ-loop
+bare-entry-requires c κs = search needs
 
 put-entry-requires : tie.Need-put-entry-requires Inv-loop μ-loop
 put-entry-requires c κs =
@@ -88,8 +88,8 @@ loop-again c =
     let hk : l .k ≡ suc (l .k - 1) = omega (arith, c .before .before .before .before .before .before .before .before .before .before .loop-test .taken) in
     let ht = c .before .before .put-entry .ensures in (
       omega (arith, l .inv .0),
-      ap length ht ∙ length-sets (l .table) (entry-width * (a .entry + (l .k - 1))) (numbers (c .before .before .before .level-entry .result) []) ∙ l .inv .1,
-      λ old d h. level-more old (a .entry) (a .up) (a .name) (a .stop) (a .shape .now) d (l .k) (l .table) (l .held) (l .inv .2 old d h) (l .k - 1) hk (omega (arith, l .inv .0, c .before .before .before .before .before .before .before .before .before .before .loop-test .taken)) _ refl (c .before .before .before .before .before .before .before .before .held-product .result) (c .before .before .before .before .before .before .before .before .held-product .ensures) (saturated-times _ _) (c .before .before .before .before .before .before .parent .result) (c .before .before .before .before .name-of .result) (c .before .before .before .before .before .before .parent .ensures) (c .before .before .before .before .name-of .ensures) (c .before .before .before .level-entry .result) (c .before .before .before .level-entry .ensures) _ ht,
+      ap length ht ∙ length-sets (l .table) (entry-width * (a .entry + (l .k - 1))) (numbers (c .before .before .before .bare-entry .result) []) ∙ l .inv .1,
+      λ old d h. level-more old (a .entry) (a .up) (a .name) (a .stop) (a .shape .now) d (l .k) (l .table) (l .held) (l .inv .2 old d h) (l .k - 1) hk (omega (arith, l .inv .0, c .before .before .before .before .before .before .before .before .before .before .loop-test .taken)) _ refl (c .before .before .before .before .before .before .before .before .held-product .result) (c .before .before .before .before .before .before .before .before .held-product .ensures) (saturated-times _ _) (c .before .before .before .before .before .before .parent .result) (c .before .before .before .before .name-of .result) (c .before .before .before .before .before .before .parent .ensures) (c .before .before .before .before .name-of .ensures) (c .before .before .before .bare-entry .result) (c .before .before .before .bare-entry .ensures) _ ht,
     )
 
 same-length : tie.Need-same-length Inv-loop μ-loop
@@ -115,12 +115,12 @@ put-levels-spec =
     held-product-requires
     add-put-entry
     parent-requires
-    mul-level-entry
-    shared-slice-read-level-entry
-    add-level-entry
-    sub-level-entry
+    mul-bare-entry
+    shared-slice-read-bare-entry
+    add-bare-entry
+    sub-bare-entry
     name-of-requires
-    level-entry-requires
+    bare-entry-requires
     put-entry-requires
     loop-less
     loop-again
