@@ -6,7 +6,11 @@ use super::Spot;
 use counts::Number;
 use dims::Verdict;
 use dims::closing;
+use dtype::ARRAY;
+use dtype::ENTRY;
 use dtype::Entry;
+use dtype::PLAIN;
+use dtype::RECORD;
 use literal::Parsed;
 use literal::bytes::Kind;
 use literal::bytes::kind_of;
@@ -47,7 +51,7 @@ fn put_entry(table: &mut [u64], at: usize, e: Entry)
     requires { ⌜ 9 * at + 9 ≤ length (now table) ⌝ }
     ensures { λ _. ⌜ now (table .exit) ≡ sets (now (table .entry)) (9 * at) (numbers e []) ⌝ }
 {
-    let i = 9 * at;
+    let i = ENTRY * at;
     table[i] = e.parent;
     table[i + 1] = e.kind;
     table[i + 2] = e.order;
@@ -117,7 +121,7 @@ fn plain_entry(t: TypeStr, up: u64, name: u64) -> Entry
     let units = t.units;
     Entry {
         parent: up,
-        kind: 0,
+        kind: PLAIN,
         order: order.to_byte() as u64,
         letter: letter.to_byte() as u64,
         number: t.size,
@@ -284,7 +288,7 @@ fn put_levels(
             table,
             entry + k,
             bare_entry(
-                1,
+                ARRAY,
                 parent(k, entry, up),
                 shape[k],
                 (stop - (entry + k)) as u64,
@@ -387,7 +391,7 @@ pub fn fill(
     put_entry(
         table,
         entry,
-        bare_entry(2, up, r.count, (r.entry - entry) as u64, r.size, name),
+        bare_entry(RECORD, up, r.count, (r.entry - entry) as u64, r.size, name),
     );
     Spot {
         end: r.end,

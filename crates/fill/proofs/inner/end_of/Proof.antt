@@ -4,7 +4,6 @@ use Rattle.literal.specs.Answer.{place}
 use borrow.Author.Needs.{needs}
 use Rattle.fill.proofs.inner.end_of.Statement.{statement}
 use Rattle.fill.proofs.inner.end_of.Tie as tie
-use Rattle.literal.proofs.value.Reads as value-reads
 
 value-requires : tie.Need-value-requires
 value-requires c κs = search needs

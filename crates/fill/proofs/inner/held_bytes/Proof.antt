@@ -4,7 +4,6 @@ use mathlib.Core.Path.{sym, _∙_}
 use borrow.Author.Needs.{needs}
 use Rattle.fill.proofs.inner.held_bytes.Statement.{statement}
 use Rattle.fill.proofs.inner.held_bytes.Tie as tie
-use Rattle.type_str.proofs.TypeStr.num_bytes.Reads as num-bytes-reads
 
 num-bytes-requires : tie.Need-num-bytes-requires
 num-bytes-requires c κs = search needs

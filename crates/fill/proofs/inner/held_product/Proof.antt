@@ -3,7 +3,6 @@ use Rattle.table.proofs.Types.{held-is, held-over}
 use borrow.Author.Needs.{needs}
 use Rattle.fill.proofs.inner.held_product.Statement.{statement}
 use Rattle.fill.proofs.inner.held_product.Tie as tie
-use Rattle.counts.proofs.product.Reads as product-reads
 
 product-requires : tie.Need-product-requires
 product-requires c κs = search needs

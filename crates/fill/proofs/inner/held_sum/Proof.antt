@@ -3,7 +3,6 @@ use Rattle.table.proofs.Types.{held-is, held-over}
 use borrow.Author.Needs.{needs}
 use Rattle.fill.proofs.inner.held_sum.Statement.{statement}
 use Rattle.fill.proofs.inner.held_sum.Tie as tie
-use Rattle.counts.proofs.sum.Reads as sum-reads
 
 sum-requires : tie.Need-sum-requires
 sum-requires c κs = search needs

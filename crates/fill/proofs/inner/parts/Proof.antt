@@ -8,15 +8,6 @@ use Rattle.fill.proofs.Parted.{field-bracket, parts-two, parts-three}
 use borrow.Author.Needs.{needs}
 use Rattle.fill.proofs.inner.parts.Statement.{statement}
 use Rattle.fill.proofs.inner.parts.Tie as tie
-use Rattle.dims.proofs.closing.Reads as closing-reads
-use Rattle.dims.proofs.judge.Reads as judge-reads
-use Rattle.fill.proofs.inner.end_of.Reads as end-of-reads
-use Rattle.fill.proofs.inner.place_of.Reads as place-of-reads
-use Rattle.fill.proofs.inner.rank_of.Reads as rank-of-reads
-use Rattle.literal.proofs.bytes.kind_of.Reads as kind-of-reads
-use Rattle.literal.proofs.bytes.peek.Reads as peek-reads
-use Rattle.literal.proofs.gaps.gap_at.Reads as gap-at-reads
-use Rattle.literal.proofs.gaps.then_at.Reads as then-at-reads
 
 peek-requires : tie.Need-peek-requires
 peek-requires c κs = search needs

@@ -1,12 +1,7 @@
 -- Number by number. Assumes nothing.
-
 use borrow.Author.Needs.{needs}
 use Rattle.fill.proofs.inner.plain_entry.Statement.{statement}
 use Rattle.fill.proofs.inner.plain_entry.Tie as tie
-use Rattle.fill.proofs.inner.held_bytes.Reads as held-bytes-reads
-use Rattle.fill.proofs.inner.units_number.Reads as units-number-reads
-use Rattle.type_str.proofs.Endianness.to_byte.Reads as Endianness-to-byte-reads
-use Rattle.type_str.proofs.TypeChar.to_byte.Reads as TypeChar-to-byte-reads
 
 to-byte-requires : tie.Need-to-byte-requires
 to-byte-requires c κs = search needs

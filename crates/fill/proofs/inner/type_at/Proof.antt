@@ -7,10 +7,6 @@ use Rattle.fill.proofs.Parted.{refused-gives, read-back}
 use borrow.Author.Needs.{needs}
 use Rattle.fill.proofs.inner.type_at.Statement.{statement}
 use Rattle.fill.proofs.inner.type_at.Tie as tie
-use Rattle.fill.proofs.inner.no_type.Reads as no-type-reads
-use Rattle.fill.proofs.inner.type_of.Reads as type-of-reads
-use Rattle.literal.proofs.strings.scan_at.Reads as scan-at-reads
-use Rattle.type_str.proofs.parse.Reads as parse-reads
 
 add-from : tie.Need-add-from
 add-from c = search needs

@@ -5,7 +5,6 @@ use mathlib.Core.Path.{_≡_}
 use borrow.Author.Needs.{needs}
 use Rattle.fill.proofs.inner.type_of.Statement.{statement}
 use Rattle.fill.proofs.inner.type_of.Tie as tie
-use Rattle.fill.proofs.inner.no_type.Reads as no-type-reads
 
 enum-known-r : tie.Need-enum-known-r
 enum-known-r c = search needs
