@@ -1,0 +1,441 @@
+-- The filling walk on plain values. A descr is a type string or a list of fields. What is kept along the fields: what is left to put on the table and on
+-- the names as they are gives the due table and the due names. A record's entry comes behind its fields, a field's levels behind its type. Assumes nothing.
+use Prim.Native.Nat.{ℕ, suc, _+_, _-_, _*_, _<_, _≤_}
+use native.Mathlib.Omega.{arith}
+use mathlib.Core.Path.{_≡_, refl, sym, ap, subst, _∙_}
+use mathlib.Core.List.{List, [], _∷_, _++_, append-assoc}
+use mathlib.Core.Bool.{true, false}
+use lib.ListN.{length, drop, length-append}
+use lib.Seq.{sets, length-sets, drop-length}
+use denote.Enum.Declared.{tagOf}
+use types.Run.{OneOf}
+use Rattle.counts.specs.Outcome.{Outcome, gives, refused, then, each}
+use Rattle.dtype.specs.declared.Entry.{Entry}
+use Rattle.dtype.specs.Dtype.{Dtype, Fields, plain, record-of, end-of-fields, field-then, sizeOf, sizesOf}
+use Rattle.dtype.specs.Entries.{entriesOf, entriesIn, fieldCount}
+use Rattle.dtype.specs.Names.{nameBytes, nameBytesIn, namesOf, namesIn}
+use Rattle.dtype.specs.Flat.{entry-width, saturated, entryOf, numbers, flat, flats}
+use Rattle.dtype.proofs.Flat.{some-entry, flat-length, names-length}
+use Rattle.type_str.specs.declared.TypeStr.{TypeStr}
+use Rattle.type_str.specs.TypeString.{typeString}
+use Rattle.record.specs.Descr.{Field, arrays, descrOf, fieldOf, fieldsOf}
+use Rattle.literal.specs.Node.{Node, nodes, string, integer, True, False, None, list, tuple, dict}
+use Rattle.literal.specs.Got.{Got, got, pos}
+use Rattle.literal.specs.Forget.{forget, forgetAll}
+use Rattle.literal.specs.Text.{byteAt, kindOf}
+use Rattle.literal.specs.Strings.{spelled}
+use Rattle.literal.specs.Literal.{value}
+use Rattle.literal.specs.Brackets.{gapAt, thenAt}
+use Rattle.literal.specs.Rows.{Row}
+use Rattle.literal.specs.declared.gaps.Gap.{Gap}
+use Rattle.literal.specs.declared.gaps.Gap.the-variants.{Item}
+use Rattle.literal.proofs.gaps.Gap.{the-type}
+use Rattle.literal.proofs.Positions.{kind-in}
+use Rattle.literal.proofs.View.{view, value-kind}
+use Rattle.literal.proofs.Rows.{row-step}
+use Rattle.literal.proofs.Ends.{Ahead, value-ahead, then-ahead}
+use Rattle.literal.proofs.Steps.{gapLeft, gap-falls}
+use Rattle.fill.specs.declared.Spot.{Spot}
+use Rattle.fill.specs.declared.Many.{Many}
+use Rattle.fill.specs.declared.Parts.{Parts}
+use Rattle.fill.specs.Filled.{gapPlace, isString, upOf, nameOf, Narrow, NarrowIn, PartsOf, Levelled, Due, Filled, DueFields, FilledFields, DueField, FilledField, LevelsDue}
+use Rattle.fill.proofs.Stores.{sets-append, flat-front, names-front}
+use Rattle.fill.proofs.Parted.{refused-gives, row-none}
+use Rattle.fill.proofs.Levels.{entry-before, narrow-levels}
+
+-- ---- a type string
+plain-back : (o : Outcome TypeStr) (d : Dtype) → each plain o ≡ gives d → (t : TypeStr) × (o ≡ gives t) × (d ≡ plain t)
+plain-back (gives t) d h = (t, refl, sym (let z : plain t ≡ d = cc in z))
+plain-back (refused n) d h = refused-gives h
+
+record-back : (o : Outcome Fields) (d : Dtype) → each record-of o ≡ gives d → (fs : Fields) × (o ≡ gives fs) × (d ≡ record-of fs)
+record-back (gives fs) d h = (fs, refl, sym (let z : record-of fs ≡ d = cc in z))
+record-back (refused n) d h = refused-gives h
+
+false-true : {A : Type 0} → false ≡ true → A
+false-true h = absurd (let z : _≡_ {A = ℕ} 0 1 = cc in omega arith)
+
+-- what the value at `at` is, by whether a string begins there
+pub record Text (s : List ℕ) (at : ℕ) (d : Dtype) : Type 0 where
+  pub inside : at < length s
+  pub t : TypeStr
+  pub is : typeString (spelled (byteAt s at) s (at + 1) .bytes) ≡ gives t
+  pub plainly : d ≡ plain t
+
+pub record Listed (k : ℕ) (s : List ℕ) (at e : ℕ) (d : Dtype) : Type 0 where
+  pub inside : at < length s
+  pub deep : 0 < k
+  pub ns : List Node
+  pub row : Row (value (k - 1) s) s 93 ns (gapAt s (at + 1) 93) e
+  pub fs : Fields
+  pub is : fieldsOf (forgetAll (nodes ns)) ≡ gives fs
+  pub recorded : d ≡ record-of fs
+
+module _ (k : ℕ) (s : List ℕ) (at e : ℕ) (d : Dtype) where
+  pub text-due : (n : Node) → value k s at ≡ got n e → descrOf (forget n) ≡ gives d → isString (kindOf (byteAt s at)) ≡ true → Text s at d
+  unfolding forget
+  text-due (string x u) hv hd hq =
+      let hk = value-kind k s at hv in
+      let v = view k s at hv hk in
+      let y : u ≡ spelled (byteAt s at) s (at + 1) .bytes = cc in
+      let b = plain-back (typeString u) d hd in
+      record { inside = kind-in s at hk refl; t = b .0; is = ap typeString (sym y) ∙ b .1; plainly = b .2 }
+  text-due (integer x true n) hv hd hq = refused-gives hd
+  text-due (integer x false n) hv hd hq = refused-gives hd
+  text-due (True x) hv hd hq = refused-gives hd
+  text-due (False x) hv hd hq = refused-gives hd
+  text-due (None x) hv hd hq = refused-gives hd
+  text-due (list x ns) hv hd hq = false-true (sym (ap isString (value-kind k s at hv)) ∙ hq)
+  text-due (tuple x ns) hv hd hq = refused-gives hd
+  text-due (dict x ps) hv hd hq = refused-gives hd
+
+  pub list-due : (n : Node) → value k s at ≡ got n e → descrOf (forget n) ≡ gives d → isString (kindOf (byteAt s at)) ≡ false → Listed k s at e d
+  unfolding forget
+  list-due (string x u) hv hd hq = false-true (sym hq ∙ ap isString (value-kind k s at hv))
+  list-due (integer x true n) hv hd hq = refused-gives hd
+  list-due (integer x false n) hv hd hq = refused-gives hd
+  list-due (True x) hv hd hq = refused-gives hd
+  list-due (False x) hv hd hq = refused-gives hd
+  list-due (None x) hv hd hq = refused-gives hd
+  list-due (list x ns) hv hd hq =
+      let hk = value-kind k s at hv in
+      let v = view k s at hv hk in
+      let all = ap (λ (y : Node). descrOf (forget y)) (v .2) in
+      let b = record-back (fieldsOf (forgetAll (nodes (v .1)))) d (sym all ∙ hd) in
+      record { inside = kind-in s at hk refl; deep = v .0; ns = v .1; row = v .3; fs = b .0; is = b .1; recorded = b .2 }
+  list-due (tuple x ns) hv hd hq = refused-gives hd
+  list-due (dict x ps) hv hd hq = refused-gives hd
+
+-- ---- a record: its entry behind its fields
+pub record-filled : (e entry up m byte : ℕ) (fs : Fields) (d : Dtype) (table names mid names′ table′ : List ℕ) (r : Many) (x : Entry) → d ≡ record-of fs
+    → FilledFields e (entry + 1) entry byte fs table names mid names′ r
+    → x ≡ record { parent = up; kind = 2; order = 0; letter = 0; number = r .count; units = 0; extent = r .entry - entry; bytes = r .size; name = m }
+    → table′ ≡ sets mid (entry-width * entry) (numbers x []) → Filled e entry up m byte d table names table′ names′ (record { end = r .end; entry = r .entry; byte = r .byte; size = r .size })
+record-filled e entry up m byte fs d table names mid names′ table′ r x hd w hx ht =
+    let one : entry + 1 ≡ suc entry = omega arith in
+    let ext : r .entry - entry ≡ suc (entriesIn fs) = omega (arith, w .next) in
+    let is : x ≡ entryOf (record-of fs) up m =
+    hx ∙ ap (λ (y : ℕ). record { parent = up; kind = 2; order = 0; letter = 0; number = y; units = 0; extent = r .entry - entry; bytes = r .size; name = m }) (w .counted)
+    ∙ ap (λ (y : ℕ). record { parent = up; kind = 2; order = 0; letter = 0; number = fieldCount fs; units = 0; extent = y; bytes = r .size; name = m }) ext
+    ∙ ap (λ (y : ℕ). record { parent = up; kind = 2; order = 0; letter = 0; number = fieldCount fs; units = 0; extent = suc (entriesIn fs); bytes = y; name = m }) (w .sized) in
+    let n : entriesOf d ≡ suc (entriesIn fs) = ap entriesOf hd in
+    record {
+      ends = w .ends;
+      next = omega (arith, w .next, n);
+      next-name = w .next-name ∙ ap (λ (y : Dtype). byte + nameBytes y) (sym hd);
+      sized = w .sized ∙ ap (λ (y : Dtype). saturated (sizeOf y)) (sym hd);
+      table-after = ht ∙ ap (λ (y : List ℕ). sets y (entry-width * entry) (numbers x [])) (w .table-after ∙ ap (λ (y : ℕ). sets table (entry-width * (entry + 1)) (flats fs y entry [])) one)
+          ∙ entry-before x entry (entry + 1) (flats fs (suc entry) entry []) table one
+          ∙ ap (λ (y : Entry). sets table (entry-width * entry) (numbers y (flats fs (suc entry) entry []))) is
+          ∙ ap (λ (y : Dtype). sets table (entry-width * entry) (flat y entry up m [])) (sym hd);
+      names-after = w .names-after ∙ ap (λ (y : Dtype). sets names byte (namesOf y [])) (sym hd);
+    }
+
+-- ---- fields, one behind the other
+add-back : (a : Outcome Field) (b : Outcome Fields) (fs : Fields) → then a (λ f. each (field-then (f .name) (f .type)) b) ≡ gives fs
+    → (f : Field) × (gs : Fields) × (a ≡ gives f) × (b ≡ gives gs) × (fs ≡ field-then (f .name) (f .type) gs)
+add-back (gives f) (gives gs) fs h = (f, gs, refl, refl, sym (let z : field-then (f .name) (f .type) gs ≡ fs = cc in z))
+add-back (gives f) (refused n) fs h = refused-gives h
+add-back (refused n) b fs h = refused-gives h
+
+fields-back : (v : Node) (vs : List Node) (fs : Fields) → fieldsOf (forgetAll (nodes (v ∷ vs))) ≡ gives fs
+    → (f : Field) × (gs : Fields) × (fieldOf (forget v) ≡ gives f) × (fieldsOf (forgetAll (nodes vs)) ≡ gives gs) × (fs ≡ field-then (f .name) (f .type) gs)
+unfolding forgetAll forget
+fields-back v vs fs h = add-back (fieldOf (forget v)) (fieldsOf (forgetAll (nodes vs))) fs h
+
+fields-none : (fs : Fields) → fieldsOf (forgetAll (nodes [])) ≡ gives fs → fs ≡ end-of-fields
+unfolding forgetAll
+fields-none fs h = let z : end-of-fields ≡ fs = cc in sym z
+
+-- one field and then the others, in the table and in the names
+pub field-put : (f : Field) (gs : Fields) (at up : ℕ) (table : List ℕ)
+    → sets table (entry-width * at) (flats (field-then (f .name) (f .type) gs) at up [])
+    ≡ sets (sets table (entry-width * at) (flat (f .type) at up (length (f .name)) [])) (entry-width * (at + entriesOf (f .type))) (flats gs (at + entriesOf (f .type)) up [])
+field-put f gs at up table =
+    let here = flat (f .type) at up (length (f .name)) [] in
+    let more = flats gs (at + entriesOf (f .type)) up [] in
+    let i : entry-width * at + length here ≡ entry-width * (at + entriesOf (f .type)) = omega (arith, flat-length (f .type) at up (length (f .name)) []) in
+    ap (sets table (entry-width * at)) (flat-front (f .type) at up (length (f .name)) more) ∙ sets-append table (entry-width * at) here more ∙ ap (λ (j : ℕ). sets (sets table (entry-width * at) here) j more) i
+
+pub name-put : (f : Field) (gs : Fields) (byte : ℕ) (names : List ℕ)
+    → sets names byte (namesIn (field-then (f .name) (f .type) gs) [])
+    ≡ sets (sets names byte (f .name ++ namesOf (f .type) [])) (byte + (length (f .name) + nameBytes (f .type))) (namesIn gs [])
+name-put f gs byte names =
+    let more = namesIn gs [] in
+    let w = f .name in
+    let i : byte + length (w ++ namesOf (f .type) []) ≡ byte + (length w + nameBytes (f .type)) = ap (λ (j : ℕ). byte + j) (length-append w (namesOf (f .type) []) ∙ (let l = names-length (f .type) [] in omega (arith, l))) in
+    ap (λ (l : List ℕ). sets names byte (w ++ l)) (names-front (f .type) more) ∙ ap (sets names byte) (sym (append-assoc w (namesOf (f .type) []) more))
+    ∙ sets-append names byte (w ++ namesOf (f .type) []) more ∙ ap (λ (j : ℕ). sets (sets names byte (w ++ namesOf (f .type) [])) j more) i
+
+module _ (k : ℕ) (s : List ℕ) (from entry up byte : ℕ) (table0 names0 : List ℕ) where
+  pub record Left (g : Gap) (at b count size : ℕ) (table names : List ℕ) (fs : Fields) (e : ℕ) : Type 0 where
+    pub us : List Node
+    pub gs : Fields
+    pub row : Row (value k s) s 93 us g e
+    pub is : fieldsOf (forgetAll (nodes us)) ≡ gives gs
+    pub narrow : NarrowIn gs
+    pub adds : at + entriesIn gs ≡ entry + entriesIn fs
+    pub adds-names : b + nameBytesIn gs ≡ byte + nameBytesIn fs
+    pub counts : count + fieldCount gs ≡ fieldCount fs
+    pub sizes : saturated (size + sizesOf gs) ≡ saturated (sizesOf fs)
+    pub due : sets table (entry-width * at) (flats gs at up []) ≡ sets table0 (entry-width * entry) (flats fs entry up [])
+    pub due-names : sets names b (namesIn gs []) ≡ sets names0 byte (namesIn fs [])
+
+  pub record Filling (g : Gap) (at b count size : ℕ) (table names : List ℕ) : Type 0 where
+    pub long : length table ≡ length table0
+    pub long-names : length names ≡ length names0
+    pub low : count ≤ at
+    pub fits : saturated size ≡ size
+    pub goes : (ns : List Node) (e : ℕ) (fs : Fields) → DueFields k s from entry table0 byte names0 ns e fs → Left g at b count size table names fs e
+
+  pub filling-start : (g : Gap) → g ≡ gapAt s from 93 → Filling g entry byte 0 0 table0 names0
+  filling-start g hg =
+      record {
+        long = refl;
+        long-names = refl;
+        low = omega arith;
+        fits = omega arith;
+        goes = λ ns e fs h.
+            record {
+              us = ns;
+              gs = fs;
+              row = subst (λ (x : Gap). Row (value k s) s 93 ns x e) (sym hg) (h .row);
+              is = h .is;
+              narrow = h .narrow;
+              adds = refl;
+              adds-names = refl;
+              counts = omega arith;
+              sizes = ap saturated (let z : 0 + sizesOf fs ≡ sizesOf fs = omega arith in z);
+              due = refl;
+              due-names = refl;
+            };
+      }
+
+  module _ (g : Gap) (at b count size : ℕ) (table names : List ℕ) (w : Filling g at b count size table names) where
+    -- the next field, with its room
+    pub filling-field : (p : ℕ) → g ≡ Item p → (ns : List Node) (e : ℕ) (fs : Fields) → DueFields k s from entry table0 byte names0 ns e fs
+        → (v : Node) × (q : ℕ) × (f : Field) × DueField k s p at table b names v q f
+    filling-field p hg ns e fs h =
+        let l = w .goes ns e fs h in
+        let x = row-step (value k s) s 93 (l .us) p e (subst (λ (y : Gap). Row (value k s) s 93 (l .us) y e) hg (l .row)) in
+        let y = fields-back (x .0) (x .1) (l .gs) (sym (ap (λ (z : List Node). fieldsOf (forgetAll (nodes z))) (x .3)) ∙ l .is) in
+        let f = y .0 in
+        let nar : NarrowIn (field-then (f .name) (f .type) (y .1)) = subst (λ (z : Fields). NarrowIn z) (y .4) (l .narrow) in
+        let m1 : entriesIn (l .gs) ≡ entriesOf (f .type) + entriesIn (y .1) = ap entriesIn (y .4) in
+        let m2 : nameBytesIn (l .gs) ≡ length (f .name) + (nameBytes (f .type) + nameBytesIn (y .1)) = ap nameBytesIn (y .4) in (
+          x .0,
+          x .2,
+          f,
+          record {
+            one = record { stands = x .4; is = y .2 };
+            narrow = nar .0;
+            room = omega (arith, l .adds, m1, h .room, w .long);
+            name-room = omega (arith, l .adds-names, m2, h .name-room, w .long-names);
+          },
+        )
+
+    pub filling-more : (p : ℕ) → g ≡ Item p → (r : Spot) (g′ : Gap) (table′ names′ : List ℕ) (size′ : ℕ) → g′ ≡ thenAt s (r .end) 93 → size′ ≡ saturated (size + r .size)
+        → ((v : Node) (q : ℕ) (f : Field) → DueField k s p at table b names v q f → FilledField q at up b f table names table′ names′ r)
+        → length table′ ≡ length table → length names′ ≡ length names → at < r .entry → Filling g′ (r .entry) (r .byte) (count + 1) size′ table′ names′
+    filling-more p hg r g′ table′ names′ size′ hg′ hs hf hl hn up′ =
+        record {
+          long = hl ∙ w .long;
+          long-names = hn ∙ w .long-names;
+          low = omega (arith, w .low);
+          fits = omega arith;
+          goes = λ ns e fs h.
+              let l = w .goes ns e fs h in
+              let x = row-step (value k s) s 93 (l .us) p e (subst (λ (y : Gap). Row (value k s) s 93 (l .us) y e) hg (l .row)) in
+              let y = fields-back (x .0) (x .1) (l .gs) (sym (ap (λ (z : List Node). fieldsOf (forgetAll (nodes z))) (x .3)) ∙ l .is) in
+              let f = y .0 in
+              let gs = y .1 in
+              let nar : NarrowIn (field-then (f .name) (f .type) gs) = subst (λ (z : Fields). NarrowIn z) (y .4) (l .narrow) in
+              let m1 : entriesIn (l .gs) ≡ entriesOf (f .type) + entriesIn gs = ap entriesIn (y .4) in
+              let m2 : nameBytesIn (l .gs) ≡ length (f .name) + (nameBytes (f .type) + nameBytesIn gs) = ap nameBytesIn (y .4) in
+              let m3 : fieldCount (l .gs) ≡ suc (fieldCount gs) = ap fieldCount (y .4) in
+              let m4 : sizesOf (l .gs) ≡ sizeOf (f .type) + sizesOf gs = ap sizesOf (y .4) in
+              let due : DueField k s p at table b names (x .0) (x .2) f =
+              record {
+                one = record { stands = x .4; is = y .2 };
+                narrow = nar .0;
+                room = omega (arith, l .adds, m1, h .room, w .long);
+                name-room = omega (arith, l .adds-names, m2, h .name-room, w .long-names);
+              } in
+              let z = hf (x .0) (x .2) f due in
+              record {
+                us = x .1;
+                gs = gs;
+                row = subst (λ (q : Gap). Row (value k s) s 93 (x .1) q e) (ap (λ (q : ℕ). thenAt s q 93) (sym (z .ends)) ∙ sym hg′) (x .5);
+                is = y .3;
+                narrow = nar .1;
+                adds = omega (arith, z .next, m1, l .adds);
+                adds-names = omega (arith, z .next-name, m2, l .adds-names);
+                counts = omega (arith, m3, l .counts);
+                sizes = omega (arith, hs, z .sized, m4, l .sizes);
+                due = ap (λ (q : List ℕ). sets q (entry-width * r .entry) (flats gs (r .entry) up [])) (z .table-after)
+                    ∙ ap (λ (q : ℕ). sets (sets table (entry-width * at) (flat (f .type) at up (length (f .name)) [])) (entry-width * q) (flats gs q up [])) (z .next)
+                    ∙ sym (field-put f gs at up table) ∙ ap (λ (q : Fields). sets table (entry-width * at) (flats q at up [])) (sym (y .4)) ∙ l .due;
+                due-names = ap (λ (q : List ℕ). sets q (r .byte) (namesIn gs [])) (z .names-after)
+                    ∙ ap (λ (q : ℕ). sets (sets names b (f .name ++ namesOf (f .type) [])) q (namesIn gs [])) (z .next-name)
+                    ∙ sym (name-put f gs b names) ∙ ap (λ (q : Fields). sets names b (namesIn q [])) (sym (y .4)) ∙ l .due-names;
+              };
+        }
+
+    pub filling-end : OneOf (0 ∷ 2 ∷ []) (tagOf the-type g) → (end : ℕ) → end ≡ gapPlace g → (ns : List Node) (e : ℕ) (fs : Fields) → DueFields k s from entry table0 byte names0 ns e fs
+        → FilledFields e entry up byte fs table0 names0 table names (record { end = end; entry = at; byte = b; size = size; count = count })
+    filling-end o end hend ns e fs h =
+        let l = w .goes ns e fs h in
+        let z = row-none (value k s) s 93 (l .us) g e o (l .row) in
+        let none : l .gs ≡ end-of-fields = fields-none (l .gs) (sym (ap (λ (q : List Node). fieldsOf (forgetAll (nodes q))) (z .0)) ∙ l .is) in
+        let m1 : entriesIn (l .gs) ≡ 0 = ap entriesIn none in
+        let m2 : nameBytesIn (l .gs) ≡ 0 = ap nameBytesIn none in
+        let m3 : fieldCount (l .gs) ≡ 0 = ap fieldCount none in
+        let m4 : sizesOf (l .gs) ≡ 0 = ap sizesOf none in
+        record {
+          ends = hend ∙ z .1;
+          next = omega (arith, l .adds, m1);
+          next-name = omega (arith, l .adds-names, m2);
+          sized = omega (arith, l .sizes, m4, w .fits);
+          counted = omega (arith, l .counts, m3);
+          table-after = sym (ap (λ (q : Fields). sets table (entry-width * at) (flats q at up [])) none) ∙ l .due;
+          names-after = sym (ap (λ (q : Fields). sets names b (namesIn q [])) none) ∙ l .due-names;
+        }
+
+-- ---- a type string's entry
+pub text-filled : (e entry up m byte : ℕ) (d : Dtype) (t : TypeStr) (table names table′ : List ℕ) (x : Entry) (end : ℕ) → d ≡ plain t → x ≡ entryOf (plain t) up m → end ≡ e
+    → table′ ≡ sets table (entry-width * entry) (numbers x []) → Filled e entry up m byte d table names table′ names (record { end = end; entry = entry + 1; byte = byte; size = x .bytes })
+text-filled e entry up m byte d t table names table′ x end hd hx he ht =
+    record {
+      ends = he;
+      next = ap (λ (y : Dtype). entry + entriesOf y) (sym hd);
+      next-name = (let z : byte ≡ byte + 0 = omega arith in z) ∙ ap (λ (y : Dtype). byte + nameBytes y) (sym hd);
+      sized = ap (λ (y : Entry). y .bytes) hx ∙ ap (λ (y : Dtype). saturated (sizeOf y)) (sym hd);
+      table-after = ht ∙ ap (λ (y : Entry). sets table (entry-width * entry) (numbers y [])) hx ∙ ap (λ (y : Dtype). sets table (entry-width * entry) (flat y entry up m [])) (sym hd);
+      names-after = ap (λ (y : Dtype). sets names byte (namesOf y [])) (sym hd);
+    }
+
+-- ---- a field
+arrays-entries : (ns : List ℕ) (d : Dtype) → entriesOf (arrays ns d) ≡ length ns + entriesOf d
+arrays-entries [] d = omega arith
+arrays-entries (n ∷ ns) d = omega (arith, arrays-entries ns d)
+
+arrays-bytes : (ns : List ℕ) (d : Dtype) → nameBytes (arrays ns d) ≡ nameBytes d
+arrays-bytes [] d = refl
+arrays-bytes (n ∷ ns) d = arrays-bytes ns d
+
+arrays-names : (ns : List ℕ) (d : Dtype) (y : List ℕ) → namesOf (arrays ns d) y ≡ namesOf d y
+arrays-names [] d y = refl
+arrays-names (n ∷ ns) d y = arrays-names ns d y
+
+module _ (k : ℕ) (s : List ℕ) (at entry up byte : ℕ) (table names : List ℕ) (n : Node) (e : ℕ) (f : Field) (p : Parts) (due : DueField k s at entry table byte names n e f) (w : PartsOf k s e f p)
+    (m : ℕ) (names1 : List ℕ) (hm : m ≡ length (spelled (byteAt s (p .name)) s (p .name + 1) .bytes)) (hn : names1 ≡ sets names byte (spelled (byteAt s (p .name)) s (p .name + 1) .bytes)) where
+  entries-are : entriesOf (f .type) ≡ p .rank + entriesOf (w .d)
+  entries-are = ap entriesOf (w .typed) ∙ arrays-entries (w .ns) (w .d) ∙ ap (λ (x : ℕ). x + entriesOf (w .d)) (sym (w .ranked))
+
+  bytes-are : nameBytes (f .type) ≡ nameBytes (w .d)
+  bytes-are = ap nameBytes (w .typed) ∙ arrays-bytes (w .ns) (w .d)
+
+  length-is : m ≡ length (f .name)
+  length-is = hm ∙ sym (ap length (w .named))
+
+  pub few-levels : (length (w .ns) ≤ 32) × Narrow (w .d)
+  few-levels = narrow-levels (w .ns) (w .d) (subst (λ (x : Dtype). Narrow x) (w .typed) (due .narrow))
+
+  pub inner-due : Due (k - 1) s (p .inner) (entry + p .rank) table (byte + m) names1 (w .node) (w .end-of-node) (w .d)
+  inner-due =
+      let len = ap length hn ∙ length-sets names byte (spelled (byteAt s (p .name)) s (p .name + 1) .bytes) in
+      record {
+        stands = w .stands;
+        is = w .is;
+        narrow = few-levels .1;
+        room = omega (arith, due .room, entries-are);
+        name-room = omega (arith, due .name-room, bytes-are, length-is, len);
+      }
+
+  module _ (p′ m′ : ℕ) (table1 names2 : List ℕ) (r : Spot) (hp : p′ ≡ upOf (p .rank) entry up) (hm′ : m′ ≡ nameOf (p .rank) m)
+      (fl : Filled (w .end-of-node) (entry + p .rank) p′ m′ (byte + m) (w .d) table names1 table1 names2 r) where
+    pub levels-due : LevelsDue (k - 1) s (p .shape) (p .rank) table entry up m (r .entry) (w .ns) (w .d) table1 (r .size)
+    levels-due =
+        let rest : arrays (drop (length (w .ns)) (w .ns)) (w .d) ≡ w .d = ap (λ (l : List ℕ). arrays l (w .d)) (drop-length (w .ns)) in
+        let ents : entriesOf (arrays (drop (length (w .ns)) (w .ns)) (w .d)) ≡ entriesOf (w .d) = ap entriesOf rest in
+        let rk = w .ranked in
+        record {
+          ranked = rk;
+          few = few-levels .0;
+          shaped = w .shaped;
+          levelled = record {
+            long = ap length (fl .table-after) ∙ length-sets table (entry-width * (entry + p .rank)) (flat (w .d) (entry + p .rank) p′ m′ []);
+            room = omega (arith, fl .next, due .room, entries-are);
+            reaches = omega (arith, fl .next, ents, rk);
+            sized = fl .sized ∙ ap (λ (x : Dtype). saturated (sizeOf x)) (sym rest);
+            holds = fl .table-after
+                ∙ ap (λ (x : ℕ). sets table (entry-width * (entry + p .rank)) (flat (w .d) (entry + p .rank) x m′ [])) hp
+                ∙ ap (λ (x : ℕ). sets table (entry-width * (entry + p .rank)) (flat (w .d) (entry + p .rank) (upOf (p .rank) entry up) x [])) hm′
+                ∙ ap (λ (x : ℕ). sets table (entry-width * (entry + x)) (flat (w .d) (entry + x) (upOf x entry up) (nameOf x m) [])) rk
+                ∙ ap (λ (x : Dtype). sets table (entry-width * (entry + length (w .ns))) (flat x (entry + length (w .ns)) (upOf (length (w .ns)) entry up) (nameOf (length (w .ns)) m) [])) (sym rest);
+          };
+        }
+
+    pub field-filled : (table2 : List ℕ) (size : ℕ) → Levelled table entry up m (r .entry) (w .ns) (w .d) 0 table2 size
+        → FilledField e entry up byte f table names table2 names2 (record { end = p .end; entry = r .entry; byte = r .byte; size = size })
+    field-filled table2 size l =
+        let zero-more : entry + 0 ≡ entry = omega arith in
+        let ws = spelled (byteAt s (p .name)) s (p .name + 1) .bytes in
+        let inner = namesOf (w .d) [] in
+        record {
+          ends = w .ends;
+          next = omega (arith, fl .next, entries-are);
+          next-name = omega (arith, fl .next-name, bytes-are, length-is);
+          sized = l .sized ∙ ap (λ (x : Dtype). saturated (sizeOf x)) (sym (w .typed));
+          table-after = l .holds ∙ ap (λ (x : ℕ). sets table (entry-width * x) (flat (arrays (w .ns) (w .d)) x up m [])) zero-more
+              ∙ ap (λ (x : ℕ). sets table (entry-width * entry) (flat (arrays (w .ns) (w .d)) entry up x [])) length-is
+              ∙ ap (λ (x : Dtype). sets table (entry-width * entry) (flat x entry up (length (f .name)) [])) (sym (w .typed));
+          names-after = fl .names-after ∙ ap (λ (x : List ℕ). sets x (byte + m) inner) hn ∙ ap (λ (x : ℕ). sets (sets names byte ws) (byte + x) inner) hm
+              ∙ sym (sets-append names byte ws inner) ∙ ap (λ (x : List ℕ). sets names byte (x ++ inner)) (sym (w .named))
+              ∙ ap (λ (x : List ℕ). sets names byte (f .name ++ x)) (sym (arrays-names (w .ns) (w .d) []) ∙ ap (λ (x : Dtype). namesOf x []) (sym (w .typed)));
+        }
+
+-- ---- what is asked of the parts of a descr and of a field
+pub fields-due : (k : ℕ) (s : List ℕ) (at entry byte : ℕ) (table names : List ℕ) (n : Node) (e : ℕ) (d : Dtype) → Due k s at entry table byte names n e d → (l : Listed k s at e d)
+    → DueFields (k - 1) s (at + 1) (entry + 1) table byte names (l .ns) e (l .fs)
+fields-due k s at entry byte table names n e d h l =
+    let m1 : entriesOf d ≡ suc (entriesIn (l .fs)) = ap entriesOf (l .recorded) in
+    let m2 : nameBytes d ≡ nameBytesIn (l .fs) = ap nameBytes (l .recorded) in
+    record {
+      row = l .row;
+      is = l .is;
+      narrow = subst (λ (x : Dtype). Narrow x) (l .recorded) (h .narrow);
+      room = omega (arith, h .room, m1);
+      name-room = omega (arith, h .name-room, m2);
+    }
+
+pub name-fits : (k : ℕ) (s : List ℕ) (at entry byte : ℕ) (table names : List ℕ) (n : Node) (e : ℕ) (f : Field) (p : Parts) → DueField k s at entry table byte names n e f → PartsOf k s e f p
+    → byte + length (spelled (byteAt s (p .name)) s (p .name + 1) .bytes) ≤ length names
+name-fits k s at entry byte table names n e f p h w = let m = ap length (w .named) in omega (arith, h .name-room, m)
+
+pub rank-fits : (k : ℕ) (s : List ℕ) (at entry byte : ℕ) (table names : List ℕ) (n : Node) (e : ℕ) (f : Field) (p : Parts) → DueField k s at entry table byte names n e f → PartsOf k s e f p
+    → entry + p .rank < length table
+rank-fits k s at entry byte table names n e f p h w =
+    let m = ap entriesOf (w .typed) ∙ arrays-entries (w .ns) (w .d) in
+    omega (arith, h .room, m, w .ranked, some-entry (w .d))
+
+-- ---- no length changes
+module _ {e entry up m byte : ℕ} {table names table′ names′ : List ℕ} where
+  pub filled-long : {d : Dtype} {r : Spot} → Filled e entry up m byte d table names table′ names′ r → (length table′ ≡ length table) × (length names′ ≡ length names)
+  filled-long {d} w = (ap length (w .table-after) ∙ length-sets table (entry-width * entry) (flat d entry up m []), ap length (w .names-after) ∙ length-sets names byte (namesOf d []))
+
+module _ {e entry up byte : ℕ} {table names table′ names′ : List ℕ} where
+  pub fields-long : {fs : Fields} {r : Many} → FilledFields e entry up byte fs table names table′ names′ r → (length table′ ≡ length table) × (length names′ ≡ length names)
+  fields-long {fs} w = (ap length (w .table-after) ∙ length-sets table (entry-width * entry) (flats fs entry up []), ap length (w .names-after) ∙ length-sets names byte (namesIn fs []))
+
+  pub field-long : {f : Field} {r : Spot} → FilledField e entry up byte f table names table′ names′ r → (length table′ ≡ length table) × (length names′ ≡ length names)
+  field-long {f} w = (
+    ap length (w .table-after) ∙ length-sets table (entry-width * entry) (flat (f .type) entry up (length (f .name)) []),
+    ap length (w .names-after) ∙ length-sets names byte (f .name ++ namesOf (f .type) []),
+  )
+
+-- a field ends behind where it begins
+pub field-less : (k : ℕ) (s : List ℕ) (p q : ℕ) (v : Node) (g g′ : Gap) (end : ℕ) → g ≡ Item p → value k s p ≡ got v q → end ≡ q → g′ ≡ thenAt s end 93 → gapLeft (length s) g′ < gapLeft (length s) g
+field-less k s p q v g g′ end hg hv he hg′ =
+    let a : (p < q) × (q ≤ length s) = subst (λ (x : Got Node). Ahead p (length s) (pos x)) hv (value-ahead k s p) in
+    rw (hg, hg′, he) (gap-falls p q (length s) (thenAt s q 93) (a .0) (a .1) (then-ahead s q 93 (omega arith)))

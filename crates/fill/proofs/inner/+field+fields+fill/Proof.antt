@@ -1,0 +1,373 @@
+-- The cycle of calls {fill, fields, field}. A bracket that opens leaves one fewer: the measure is three times the brackets that may yet open, and two or one
+-- more where a bracket is open already and its items are handed on. Assumes nothing.
+use Prim.Native.Nat.{ℕ, _+_, _*_, _<_}
+use native.Mathlib.Omega.{arith}
+use mathlib.Core.Path.{sym, ap, _∙_}
+use lib.ListN.{length}
+use Rattle.type_str.specs.declared.TypeStr.{TypeStr}
+use Rattle.dtype.specs.Dtype.{plain}
+use Rattle.dtype.specs.Flat.{entryOf}
+use Rattle.dtype.proofs.Flat.{some-entry}
+use Rattle.literal.specs.Node.{Node}
+use Rattle.literal.specs.Got.{Got, pos}
+use Rattle.literal.specs.Answer.{place}
+use Rattle.literal.specs.Text.{kindOf}
+use Rattle.literal.proofs.Steps.{gapLeft}
+use Rattle.fill.specs.Filled.{isString}
+use Rattle.fill.proofs.Filling.{text-due, list-due, text-filled, record-filled, fields-due, Filling, filling-start, filling-field, filling-more, filling-end, name-fits, rank-fits, inner-due, levels-due, field-filled, filled-long, fields-long, field-long, field-less}
+use borrow.Author.Needs.{needs}
+use borrow.Fn.Kinds.{In}
+use borrow.Fn.PlainCycle.{Measures, is, falls, and}
+use Rattle.fill.proofs.inner.field.Reads as field
+use Rattle.fill.proofs.inner.field.Kinds as field-kinds
+use Rattle.fill.proofs.inner.+field+fields+fill.Lts-field as field-lts
+use Rattle.fill.proofs.inner.fields.Reads as fields
+use Rattle.fill.proofs.inner.fields.Kinds as fields-kinds
+use Rattle.fill.proofs.inner.+field+fields+fill.Lts-fields as fields-lts
+use Rattle.fill.proofs.inner.fill.Reads as fill
+use Rattle.fill.proofs.inner.fill.Kinds as fill-kinds
+use Rattle.fill.proofs.inner.+field+fields+fill.Lts-fill as fill-lts
+use Rattle.fill.proofs.inner.end_of.Reads as end-of-reads
+use Rattle.literal.proofs.gaps.gap_at.Reads as gap-at-reads
+use Rattle.fill.proofs.inner.held_sum.Reads as held-sum-reads
+use Rattle.fill.proofs.inner.is_string.Reads as is-string-reads
+use Rattle.literal.proofs.bytes.kind_of.Reads as kind-of-reads
+use Rattle.fill.proofs.inner.name_at.Reads as name-at-reads
+use Rattle.fill.proofs.inner.name_of.Reads as name-of-reads
+use Rattle.fill.proofs.inner.parent.Reads as parent-reads
+use Rattle.fill.proofs.inner.parts.Reads as parts-reads
+use Rattle.literal.proofs.bytes.peek.Reads as peek-reads
+use Rattle.fill.proofs.inner.place_of.Reads as place-of-reads
+use Rattle.fill.proofs.inner.plain_entry.Reads as plain-entry-reads
+use Rattle.fill.proofs.inner.put_entry.Reads as put-entry-reads
+use Rattle.fill.proofs.inner.put_shape.Reads as put-shape-reads
+use Rattle.fill.proofs.inner.bare_entry.Reads as bare-entry-reads
+use Rattle.literal.proofs.gaps.then_at.Reads as then-at-reads
+use Rattle.fill.proofs.inner.type_at.Reads as type-at-reads
+use Rattle.fill.proofs.inner.+field+fields+fill.{statement}
+use Rattle.fill.proofs.inner.+field+fields+fill.Tie.{close}
+
+abbrev μ-field : Measures 3 field-kinds.ps ℕ
+μ-field κs a = 3 * a .1 .1 .0 + 1
+
+abbrev μ-fields : Measures 3 fields-kinds.ps ℕ
+μ-fields κs a = 3 * a .1 .1 .0 + 2
+
+abbrev μ-fill : Measures 3 fill-kinds.ps ℕ
+μ-fill κs a = 3 * a .1 .1 .0
+
+abbrev field-at : ℕ → In 3 field-kinds.ps
+field-at t = and 3 field-kinds.ps (is 3 field-kinds.ps μ-field t) field.Pre
+
+abbrev field-below : ℕ → In 3 field-kinds.ps
+field-below t = and 3 field-kinds.ps (falls 3 field-kinds.ps _<_ μ-field t) field.Pre
+
+abbrev fields-at : ℕ → In 3 fields-kinds.ps
+fields-at t = and 3 fields-kinds.ps (is 3 fields-kinds.ps μ-fields t) fields.Pre
+
+abbrev fields-below : ℕ → In 3 fields-kinds.ps
+fields-below t = and 3 fields-kinds.ps (falls 3 fields-kinds.ps _<_ μ-fields t) fields.Pre
+
+abbrev fill-at : ℕ → In 3 fill-kinds.ps
+fill-at t = and 3 fill-kinds.ps (is 3 fill-kinds.ps μ-fill t) fill.Pre
+
+abbrev fill-below : ℕ → In 3 fill-kinds.ps
+fill-below t = and 3 fill-kinds.ps (falls 3 fill-kinds.ps _<_ μ-fill t) fill.Pre
+
+abbrev field-told : ℕ → field-lts.Claims
+field-told t = (parts-reads.Asked, parts-reads.Learnt, name-at-reads.Asked, name-at-reads.Learnt, parent-reads.Asked, parent-reads.Learnt, name-of-reads.Asked, name-of-reads.Learnt, fill-below t, fill.Post, put-shape-reads.Asked, put-shape-reads.Learnt)
+
+abbrev fields-told : ℕ → fields-lts.Claims
+fields-told t = (gap-at-reads.Asked, gap-at-reads.Learnt, place-of-reads.Asked, place-of-reads.Learnt, field-below t, field.Post, held-sum-reads.Asked, held-sum-reads.Learnt, then-at-reads.Asked, then-at-reads.Learnt)
+
+abbrev fill-told : ℕ → fill-lts.Claims
+fill-told t = (peek-reads.Asked, peek-reads.Learnt, kind-of-reads.Asked, kind-of-reads.Learnt, is-string-reads.Asked, is-string-reads.Learnt, type-at-reads.Asked, type-at-reads.Learnt, plain-entry-reads.Asked, plain-entry-reads.Learnt, put-entry-reads.Asked, put-entry-reads.Learnt, end-of-reads.Asked, end-of-reads.Learnt, fields-below t, fields.Post, bare-entry-reads.Asked, bare-entry-reads.Learnt)
+
+abbrev fields-Inv-loop : fields-lts.InvT-loop
+fields-Inv-loop text from room table₀ entry up names₀ byte g₀ at₀ b₀ size₀ count₀ table names g at b size count = Filling room text from entry up byte table₀ names₀ g at b count size table names
+
+abbrev fields-μ-loop : fields-lts.MeasureT-loop
+fields-μ-loop text from room table₀ entry up names₀ byte g₀ at₀ b₀ size₀ count₀ table names g at b size count = gapLeft (length text) g
+
+field-parts-requires : (t : ℕ) → field-lts.Need-parts-requires (field-told t) (field-at t) field.Post
+field-parts-requires t c κs =
+    let a = c .before .before .before .args in
+    let x = c .before .before .before .pre .1 in
+    (x .0, x .1, x .2, x .3 .one)
+
+field-name-at-requires : (t : ℕ) → field-lts.Need-name-at-requires (field-told t) (field-at t) field.Post
+field-name-at-requires t c κs =
+    let a = c .before .before .before .before .before .args in
+    let x = c .before .before .before .before .before .pre .1 in
+    let w = c .before .parts .ensures (x .0) (x .1) (x .2) (x .3 .one) in
+    (w .begins, name-fits (a .room) (a .text .now) (a .at) (a .entry) (a .byte) (a .table .now) (a .names .now) (x .0) (x .1) (x .2) (c .before .parts .result) (x .3) w)
+
+field-sub-fill : (t : ℕ) → field-lts.Need-sub-fill (field-told t) (field-at t) field.Post
+field-sub-fill t c =
+    let a = c .before .before .before .before .before .before .before .before .args in
+    let x = c .before .before .before .before .before .before .before .before .pre .1 in
+    let w = c .before .before .before .before .parts .ensures (x .0) (x .1) (x .2) (x .3 .one) in
+    omega (arith, w .deep)
+
+field-add-fill : (t : ℕ) → field-lts.Need-add-fill (field-told t) (field-at t) field.Post
+field-add-fill t c =
+    let a = c .before .before .before .before .before .before .before .before .before .before .args in
+    let x = c .before .before .before .before .before .before .before .before .before .before .pre .1 in
+    let w = c .before .before .before .before .before .before .parts .ensures (x .0) (x .1) (x .2) (x .3 .one) in
+    omega (arith, rank-fits (a .room) (a .text .now) (a .at) (a .entry) (a .byte) (a .table .now) (a .names .now) (x .0) (x .1) (x .2) (c .before .before .before .before .before .before .parts .result) (x .3) w)
+
+field-parent-requires : (t : ℕ) → field-lts.Need-parent-requires (field-told t) (field-at t) field.Post
+field-parent-requires t c κs =
+    let a = c .before .before .before .before .before .before .before .before .before .before .args in
+    let x = c .before .before .before .before .before .before .before .before .before .before .pre .1 in
+    let w = c .before .before .before .before .before .before .parts .ensures (x .0) (x .1) (x .2) (x .3 .one) in
+    omega (arith, rank-fits (a .room) (a .text .now) (a .at) (a .entry) (a .byte) (a .table .now) (a .names .now) (x .0) (x .1) (x .2) (c .before .before .before .before .before .before .parts .result) (x .3) w)
+
+field-name-of-requires : (t : ℕ) → field-lts.Need-name-of-requires (field-told t) (field-at t) field.Post
+field-name-of-requires t c κs = search needs
+
+field-add-fill-2 : (t : ℕ) → field-lts.Need-add-fill-2 (field-told t) (field-at t) field.Post
+field-add-fill-2 t c =
+    let a = c .before .before .before .before .before .before .before .before .before .before .before .before .before .args in
+    let x = c .before .before .before .before .before .before .before .before .before .before .before .before .before .pre .1 in
+    let w = c .before .before .before .before .before .before .before .before .before .parts .ensures (x .0) (x .1) (x .2) (x .3 .one) in
+    omega (arith, c .before .before .before .before .before .before .before .name-at .ensures .0, name-fits (a .room) (a .text .now) (a .at) (a .entry) (a .byte) (a .table .now) (a .names .now) (x .0) (x .1) (x .2) (c .before .before .before .before .before .before .before .before .before .parts .result) (x .3) w, c .before .before .before .before .before .before .before .before .before .before .before .before .before .good .1 .1 .1 .1 .1 .1 .0 .0)
+
+field-fill-requires : (t : ℕ) → field-lts.Need-fill-requires (field-told t) (field-at t) field.Post
+field-fill-requires t c κs =
+    let a = c .before .before .before .before .before .before .before .before .before .before .before .before .before .args in
+    let x = c .before .before .before .before .before .before .before .before .before .before .before .before .before .pre .1 in
+    let w = c .before .before .before .before .before .before .before .before .before .parts .ensures (x .0) (x .1) (x .2) (x .3 .one) in
+    (omega (arith, w .deep), (w .node, w .end-of-node, w .d, inner-due (a .room) (a .text .now) (a .at) (a .entry) (a .up) (a .byte) (a .table .now) (a .names .now) (x .0) (x .1) (x .2) (c .before .before .before .before .before .before .before .before .before .parts .result) (x .3) w (c .before .before .before .before .before .before .before .name-at .result) _ (c .before .before .before .before .before .before .before .name-at .ensures .0) (c .before .before .before .before .before .before .before .name-at .ensures .1)))
+
+field-sub-put-shape : (t : ℕ) → field-lts.Need-sub-put-shape (field-told t) (field-at t) field.Post
+field-sub-put-shape t c =
+    let a = c .before .before .before .before .before .before .before .before .before .before .before .before .before .before .before .before .before .before .args in
+    let x = c .before .before .before .before .before .before .before .before .before .before .before .before .before .before .before .before .before .before .pre .1 in
+    let w = c .before .before .before .before .before .before .before .before .before .before .before .before .before .before .parts .ensures (x .0) (x .1) (x .2) (x .3 .one) in
+    omega (arith, w .deep)
+
+field-put-shape-requires : (t : ℕ) → field-lts.Need-put-shape-requires (field-told t) (field-at t) field.Post
+field-put-shape-requires t c κs =
+    let a = c .before .before .before .before .before .before .before .before .before .before .before .before .before .before .before .before .before .before .before .args in
+    let x = c .before .before .before .before .before .before .before .before .before .before .before .before .before .before .before .before .before .before .before .pre .1 in
+    let w = c .before .before .before .before .before .before .before .before .before .before .before .before .before .before .before .parts .ensures (x .0) (x .1) (x .2) (x .3 .one) in
+    (w .ns, a .table .now, w .d, levels-due (a .room) (a .text .now) (a .at) (a .entry) (a .up) (a .byte) (a .table .now) (a .names .now) (x .0) (x .1) (x .2) (c .before .before .before .before .before .before .before .before .before .before .before .before .before .before .before .parts .result) (x .3) w (c .before .before .before .before .before .before .before .before .before .before .before .before .before .name-at .result) _ (c .before .before .before .before .before .before .before .before .before .before .before .before .before .name-at .ensures .0) (c .before .before .before .before .before .before .before .before .before .before .before .before .before .name-at .ensures .1) (c .before .before .before .before .before .before .before .before .parent .result) (c .before .before .before .before .before .before .before .name-of .result) _ _ (c .before .before .before .before .before .fill .result) (c .before .before .before .before .before .before .before .before .parent .ensures) (c .before .before .before .before .before .before .before .name-of .ensures) (c .before .before .before .before .before .fill .ensures (w .node) (w .end-of-node) (w .d) (inner-due (a .room) (a .text .now) (a .at) (a .entry) (a .up) (a .byte) (a .table .now) (a .names .now) (x .0) (x .1) (x .2) (c .before .before .before .before .before .before .before .before .before .before .before .before .before .before .before .parts .result) (x .3) w (c .before .before .before .before .before .before .before .before .before .before .before .before .before .name-at .result) _ (c .before .before .before .before .before .before .before .before .before .before .before .before .before .name-at .ensures .0) (c .before .before .before .before .before .before .before .before .before .before .before .before .before .name-at .ensures .1))))
+
+field-same-length : (t : ℕ) → field-lts.Need-same-length (field-told t) (field-at t) field.Post
+field-same-length t c =
+    let a = c .before .before .before .before .before .before .before .before .before .before .before .before .before .before .before .before .before .before .before .before .before .before .args in
+    let x = c .before .before .before .before .before .before .before .before .before .before .before .before .before .before .before .before .before .before .before .before .before .before .pre .1 in
+    let z = (let w = c .before .before .before .before .before .before .before .before .before .before .before .before .before .before .before .before .before .before .parts .ensures (x .0) (x .1) (x .2) (x .3 .one) in
+    field-filled (a .room) (a .text .now) (a .at) (a .entry) (a .up) (a .byte) (a .table .now) (a .names .now) (x .0) (x .1) (x .2) (c .before .before .before .before .before .before .before .before .before .before .before .before .before .before .before .before .before .before .parts .result) (x .3) w (c .before .before .before .before .before .before .before .before .before .before .before .before .before .before .before .before .name-at .result) _ (c .before .before .before .before .before .before .before .before .before .before .before .before .before .before .before .before .name-at .ensures .0) (c .before .before .before .before .before .before .before .before .before .before .before .before .before .before .before .before .name-at .ensures .1) (c .before .before .before .before .before .before .before .before .before .before .before .parent .result) (c .before .before .before .before .before .before .before .before .before .before .name-of .result) _ _ (c .before .before .before .before .before .before .before .before .fill .result) (c .before .before .before .before .before .before .before .before .before .before .before .parent .ensures) (c .before .before .before .before .before .before .before .before .before .before .name-of .ensures) (c .before .before .before .before .before .before .before .before .fill .ensures (w .node) (w .end-of-node) (w .d) (inner-due (a .room) (a .text .now) (a .at) (a .entry) (a .up) (a .byte) (a .table .now) (a .names .now) (x .0) (x .1) (x .2) (c .before .before .before .before .before .before .before .before .before .before .before .before .before .before .before .before .before .before .parts .result) (x .3) w (c .before .before .before .before .before .before .before .before .before .before .before .before .before .before .before .before .name-at .result) _ (c .before .before .before .before .before .before .before .before .before .before .before .before .before .before .before .before .name-at .ensures .0) (c .before .before .before .before .before .before .before .before .before .before .before .before .before .before .before .before .name-at .ensures .1))) _ (c .before .before .put-shape .result) (c .before .before .put-shape .ensures (w .ns) (a .table .now) (w .d) (levels-due (a .room) (a .text .now) (a .at) (a .entry) (a .up) (a .byte) (a .table .now) (a .names .now) (x .0) (x .1) (x .2) (c .before .before .before .before .before .before .before .before .before .before .before .before .before .before .before .before .before .before .parts .result) (x .3) w (c .before .before .before .before .before .before .before .before .before .before .before .before .before .before .before .before .name-at .result) _ (c .before .before .before .before .before .before .before .before .before .before .before .before .before .before .before .before .name-at .ensures .0) (c .before .before .before .before .before .before .before .before .before .before .before .before .before .before .before .before .name-at .ensures .1) (c .before .before .before .before .before .before .before .before .before .before .before .parent .result) (c .before .before .before .before .before .before .before .before .before .before .name-of .result) _ _ (c .before .before .before .before .before .before .before .before .fill .result) (c .before .before .before .before .before .before .before .before .before .before .before .parent .ensures) (c .before .before .before .before .before .before .before .before .before .before .name-of .ensures) (c .before .before .before .before .before .before .before .before .fill .ensures (w .node) (w .end-of-node) (w .d) (inner-due (a .room) (a .text .now) (a .at) (a .entry) (a .up) (a .byte) (a .table .now) (a .names .now) (x .0) (x .1) (x .2) (c .before .before .before .before .before .before .before .before .before .before .before .before .before .before .before .before .before .before .parts .result) (x .3) w (c .before .before .before .before .before .before .before .before .before .before .before .before .before .before .before .before .name-at .result) _ (c .before .before .before .before .before .before .before .before .before .before .before .before .before .before .before .before .name-at .ensures .0) (c .before .before .before .before .before .before .before .before .before .before .before .before .before .before .before .before .name-at .ensures .1)))))) in
+    field-long z .0
+
+field-same-length-2 : (t : ℕ) → field-lts.Need-same-length-2 (field-told t) (field-at t) field.Post
+field-same-length-2 t c =
+    let a = c .before .before .before .before .before .before .before .before .before .before .before .before .before .before .before .before .before .before .before .before .before .before .args in
+    let x = c .before .before .before .before .before .before .before .before .before .before .before .before .before .before .before .before .before .before .before .before .before .before .pre .1 in
+    let z = (let w = c .before .before .before .before .before .before .before .before .before .before .before .before .before .before .before .before .before .before .parts .ensures (x .0) (x .1) (x .2) (x .3 .one) in
+    field-filled (a .room) (a .text .now) (a .at) (a .entry) (a .up) (a .byte) (a .table .now) (a .names .now) (x .0) (x .1) (x .2) (c .before .before .before .before .before .before .before .before .before .before .before .before .before .before .before .before .before .before .parts .result) (x .3) w (c .before .before .before .before .before .before .before .before .before .before .before .before .before .before .before .before .name-at .result) _ (c .before .before .before .before .before .before .before .before .before .before .before .before .before .before .before .before .name-at .ensures .0) (c .before .before .before .before .before .before .before .before .before .before .before .before .before .before .before .before .name-at .ensures .1) (c .before .before .before .before .before .before .before .before .before .before .before .parent .result) (c .before .before .before .before .before .before .before .before .before .before .name-of .result) _ _ (c .before .before .before .before .before .before .before .before .fill .result) (c .before .before .before .before .before .before .before .before .before .before .before .parent .ensures) (c .before .before .before .before .before .before .before .before .before .before .name-of .ensures) (c .before .before .before .before .before .before .before .before .fill .ensures (w .node) (w .end-of-node) (w .d) (inner-due (a .room) (a .text .now) (a .at) (a .entry) (a .up) (a .byte) (a .table .now) (a .names .now) (x .0) (x .1) (x .2) (c .before .before .before .before .before .before .before .before .before .before .before .before .before .before .before .before .before .before .parts .result) (x .3) w (c .before .before .before .before .before .before .before .before .before .before .before .before .before .before .before .before .name-at .result) _ (c .before .before .before .before .before .before .before .before .before .before .before .before .before .before .before .before .name-at .ensures .0) (c .before .before .before .before .before .before .before .before .before .before .before .before .before .before .before .before .name-at .ensures .1))) _ (c .before .before .put-shape .result) (c .before .before .put-shape .ensures (w .ns) (a .table .now) (w .d) (levels-due (a .room) (a .text .now) (a .at) (a .entry) (a .up) (a .byte) (a .table .now) (a .names .now) (x .0) (x .1) (x .2) (c .before .before .before .before .before .before .before .before .before .before .before .before .before .before .before .before .before .before .parts .result) (x .3) w (c .before .before .before .before .before .before .before .before .before .before .before .before .before .before .before .before .name-at .result) _ (c .before .before .before .before .before .before .before .before .before .before .before .before .before .before .before .before .name-at .ensures .0) (c .before .before .before .before .before .before .before .before .before .before .before .before .before .before .before .before .name-at .ensures .1) (c .before .before .before .before .before .before .before .before .before .before .before .parent .result) (c .before .before .before .before .before .before .before .before .before .before .name-of .result) _ _ (c .before .before .before .before .before .before .before .before .fill .result) (c .before .before .before .before .before .before .before .before .before .before .before .parent .ensures) (c .before .before .before .before .before .before .before .before .before .before .name-of .ensures) (c .before .before .before .before .before .before .before .before .fill .ensures (w .node) (w .end-of-node) (w .d) (inner-due (a .room) (a .text .now) (a .at) (a .entry) (a .up) (a .byte) (a .table .now) (a .names .now) (x .0) (x .1) (x .2) (c .before .before .before .before .before .before .before .before .before .before .before .before .before .before .before .before .before .before .parts .result) (x .3) w (c .before .before .before .before .before .before .before .before .before .before .before .before .before .before .before .before .name-at .result) _ (c .before .before .before .before .before .before .before .before .before .before .before .before .before .before .before .before .name-at .ensures .0) (c .before .before .before .before .before .before .before .before .before .before .before .before .before .before .before .before .name-at .ensures .1)))))) in
+    field-long z .1
+
+field-returns : (t : ℕ) → field-lts.Need-returns (field-told t) (field-at t) field.Post
+field-returns t c =
+    let a = c .before .before .before .before .before .before .before .before .before .before .before .before .before .before .before .before .before .before .before .before .before .before .args in
+    λ n e f h.
+    let w = c .before .before .before .before .before .before .before .before .before .before .before .before .before .before .before .before .before .before .parts .ensures n e f (h .one) in
+    field-filled (a .room) (a .text .now) (a .at) (a .entry) (a .up) (a .byte) (a .table .now) (a .names .now) n e f (c .before .before .before .before .before .before .before .before .before .before .before .before .before .before .before .before .before .before .parts .result) h w (c .before .before .before .before .before .before .before .before .before .before .before .before .before .before .before .before .name-at .result) _ (c .before .before .before .before .before .before .before .before .before .before .before .before .before .before .before .before .name-at .ensures .0) (c .before .before .before .before .before .before .before .before .before .before .before .before .before .before .before .before .name-at .ensures .1) (c .before .before .before .before .before .before .before .before .before .before .before .parent .result) (c .before .before .before .before .before .before .before .before .before .before .name-of .result) _ _ (c .before .before .before .before .before .before .before .before .fill .result) (c .before .before .before .before .before .before .before .before .before .before .before .parent .ensures) (c .before .before .before .before .before .before .before .before .before .before .name-of .ensures) (c .before .before .before .before .before .before .before .before .fill .ensures (w .node) (w .end-of-node) (w .d) (inner-due (a .room) (a .text .now) (a .at) (a .entry) (a .up) (a .byte) (a .table .now) (a .names .now) n e f (c .before .before .before .before .before .before .before .before .before .before .before .before .before .before .before .before .before .before .parts .result) h w (c .before .before .before .before .before .before .before .before .before .before .before .before .before .before .before .before .name-at .result) _ (c .before .before .before .before .before .before .before .before .before .before .before .before .before .before .before .before .name-at .ensures .0) (c .before .before .before .before .before .before .before .before .before .before .before .before .before .before .before .before .name-at .ensures .1))) _ (c .before .before .put-shape .result) (c .before .before .put-shape .ensures (w .ns) (a .table .now) (w .d) (levels-due (a .room) (a .text .now) (a .at) (a .entry) (a .up) (a .byte) (a .table .now) (a .names .now) n e f (c .before .before .before .before .before .before .before .before .before .before .before .before .before .before .before .before .before .before .parts .result) h w (c .before .before .before .before .before .before .before .before .before .before .before .before .before .before .before .before .name-at .result) _ (c .before .before .before .before .before .before .before .before .before .before .before .before .before .before .before .before .name-at .ensures .0) (c .before .before .before .before .before .before .before .before .before .before .before .before .before .before .before .before .name-at .ensures .1) (c .before .before .before .before .before .before .before .before .before .before .before .parent .result) (c .before .before .before .before .before .before .before .before .before .before .name-of .result) _ _ (c .before .before .before .before .before .before .before .before .fill .result) (c .before .before .before .before .before .before .before .before .before .before .before .parent .ensures) (c .before .before .before .before .before .before .before .before .before .before .name-of .ensures) (c .before .before .before .before .before .before .before .before .fill .ensures (w .node) (w .end-of-node) (w .d) (inner-due (a .room) (a .text .now) (a .at) (a .entry) (a .up) (a .byte) (a .table .now) (a .names .now) n e f (c .before .before .before .before .before .before .before .before .before .before .before .before .before .before .before .before .before .before .parts .result) h w (c .before .before .before .before .before .before .before .before .before .before .before .before .before .before .before .before .name-at .result) _ (c .before .before .before .before .before .before .before .before .before .before .before .before .before .before .before .before .name-at .ensures .0) (c .before .before .before .before .before .before .before .before .before .before .before .before .before .before .before .before .name-at .ensures .1)))))
+
+fields-gap-at-requires : (t : ℕ) → fields-lts.Need-gap-at-requires (fields-told t) (fields-at t) fields.Post fields-Inv-loop fields-μ-loop
+fields-gap-at-requires t c κs = search needs
+
+fields-loop-holds : (t : ℕ) → fields-lts.Need-loop-holds (fields-told t) (fields-at t) fields.Post fields-Inv-loop fields-μ-loop
+fields-loop-holds t c =
+    let a = c .before .before .before .before .args in
+    filling-start (a .room) (a .text .now) (a .from) (a .entry) (a .up) (a .byte) (a .table .now) (a .names .now) (c .gap-at .result) (c .gap-at .ensures)
+
+fields-enum-known-g : (t : ℕ) → fields-lts.Need-enum-known-g (fields-told t) (fields-at t) fields.Post fields-Inv-loop fields-μ-loop
+fields-enum-known-g t c = search needs
+
+fields-place-of-requires : (t : ℕ) → fields-lts.Need-place-of-requires (fields-told t) (fields-at t) fields.Post fields-Inv-loop fields-μ-loop
+fields-place-of-requires t c κs = search needs
+
+fields-same-length : (t : ℕ) → fields-lts.Need-same-length (fields-told t) (fields-at t) fields.Post fields-Inv-loop fields-μ-loop
+fields-same-length t c = c .before .before .loop .inv .long
+
+fields-same-length-2 : (t : ℕ) → fields-lts.Need-same-length-2 (fields-told t) (fields-at t) fields.Post fields-Inv-loop fields-μ-loop
+fields-same-length-2 t c = c .before .before .loop .inv .long-names
+
+fields-returns : (t : ℕ) → fields-lts.Need-returns (fields-told t) (fields-at t) fields.Post fields-Inv-loop fields-μ-loop
+fields-returns t c =
+    let a = c .before .before .before .before .before .before .before .args in
+    let l = c .before .before .loop in
+    filling-end (a .room) (a .text .now) (a .from) (a .entry) (a .up) (a .byte) (a .table .now) (a .names .now) (l .g) (l .at) (l .b) (l .count) (l .size) (l .table) (l .names) (l .inv) (c .before .match .keys2) (c .place-of .result) (c .place-of .ensures)
+
+fields-field-requires : (t : ℕ) → fields-lts.Need-field-requires (fields-told t) (fields-at t) fields.Post fields-Inv-loop fields-μ-loop
+fields-field-requires t c κs =
+    let a = c .before .before .before .before .before .before .before .before .before .before .args in
+    let l = c .before .before .before .before .before .loop in
+    let x = c .before .before .before .before .before .before .before .before .before .before .pre .1 in
+    (omega arith, filling-field (a .room) (a .text .now) (a .from) (a .entry) (a .up) (a .byte) (a .table .now) (a .names .now) (l .g) (l .at) (l .b) (l .count) (l .size) (l .table) (l .names) (l .inv) _ (c .before .before .before .g .given .1) (x .0) (x .1) (x .2) (x .3))
+
+fields-held-sum-requires : (t : ℕ) → fields-lts.Need-held-sum-requires (fields-told t) (fields-at t) fields.Post fields-Inv-loop fields-μ-loop
+fields-held-sum-requires t c κs = search needs
+
+fields-add-count : (t : ℕ) → fields-lts.Need-add-count (fields-told t) (fields-at t) fields.Post fields-Inv-loop fields-μ-loop
+fields-add-count t c =
+    let a = c .before .before .before .before .before .before .before .before .before .before .before .before .before .before .before .before .args in
+    let l = c .before .before .before .before .before .before .before .before .before .before .before .loop in
+    let x = c .before .before .before .before .before .before .before .before .before .before .before .before .before .before .before .before .pre .1 in
+    let w = l .inv .goes (x .0) (x .1) (x .2) (x .3) in
+    omega (arith, w .adds, l .inv .low, x .3 .room)
+
+fields-then-at-requires : (t : ℕ) → fields-lts.Need-then-at-requires (fields-told t) (fields-at t) fields.Post fields-Inv-loop fields-μ-loop
+fields-then-at-requires t c κs = search needs
+
+fields-loop-less : (t : ℕ) → fields-lts.Need-loop-less (fields-told t) (fields-at t) fields.Post fields-Inv-loop fields-μ-loop
+fields-loop-less t c =
+    let a = c .before .before .before .before .before .before .before .before .before .before .before .before .before .before .before .before .before .args in
+    let l = c .before .before .before .before .before .before .before .before .before .before .before .before .loop in
+    let x = c .before .before .before .before .before .before .before .before .before .before .before .before .before .before .before .before .before .pre .1 in
+    let f = filling-field (a .room) (a .text .now) (a .from) (a .entry) (a .up) (a .byte) (a .table .now) (a .names .now) (l .g) (l .at) (l .b) (l .count) (l .size) (l .table) (l .names) (l .inv) _ (c .before .before .before .before .before .before .before .before .before .before .g .given .1) (x .0) (x .1) (x .2) (x .3) in
+    let z = c .before .before .before .before .before .before .field .ensures (f .0) (f .1) (f .2) (f .3) in
+    field-less (a .room) (a .text .now) _ (f .1) (f .0) (l .g) (c .then-at .result) (c .before .before .before .before .before .before .field .result .end) (c .before .before .before .before .before .before .before .before .before .before .g .given .1) (f .3 .one .stands) (z .ends) (c .then-at .ensures)
+
+fields-loop-again : (t : ℕ) → fields-lts.Need-loop-again (fields-told t) (fields-at t) fields.Post fields-Inv-loop fields-μ-loop
+fields-loop-again t c =
+    let a = c .before .before .before .before .before .before .before .before .before .before .before .before .before .before .before .before .before .args in
+    let l = c .before .before .before .before .before .before .before .before .before .before .before .before .loop in
+    let x = c .before .before .before .before .before .before .before .before .before .before .before .before .before .before .before .before .before .pre .1 in
+    let f = filling-field (a .room) (a .text .now) (a .from) (a .entry) (a .up) (a .byte) (a .table .now) (a .names .now) (l .g) (l .at) (l .b) (l .count) (l .size) (l .table) (l .names) (l .inv) _ (c .before .before .before .before .before .before .before .before .before .before .g .given .1) (x .0) (x .1) (x .2) (x .3) in
+    let z = c .before .before .before .before .before .before .field .ensures (f .0) (f .1) (f .2) (f .3) in
+    let long = field-long z in
+    filling-more (a .room) (a .text .now) (a .from) (a .entry) (a .up) (a .byte) (a .table .now) (a .names .now) (l .g) (l .at) (l .b) (l .count) (l .size) (l .table) (l .names) (l .inv) _ (c .before .before .before .before .before .before .before .before .before .before .g .given .1) (c .before .before .before .before .before .before .field .result) (c .then-at .result) _ _ (c .before .held-sum .result) (c .then-at .ensures) (c .before .held-sum .ensures) (c .before .before .before .before .before .before .field .ensures) (long .0) (long .1) (omega (arith, z .next, some-entry (f .2 .type)))
+
+fill-peek-requires : (t : ℕ) → fill-lts.Need-peek-requires (fill-told t) (fill-at t) fill.Post
+fill-peek-requires t c κs = search needs
+
+fill-kind-of-requires : (t : ℕ) → fill-lts.Need-kind-of-requires (fill-told t) (fill-at t) fill.Post
+fill-kind-of-requires t c κs = search needs
+
+fill-is-string-requires : (t : ℕ) → fill-lts.Need-is-string-requires (fill-told t) (fill-at t) fill.Post
+fill-is-string-requires t c κs = search needs
+
+fill-type-at-requires : (t : ℕ) → fill-lts.Need-type-at-requires (fill-told t) (fill-at t) fill.Post
+fill-type-at-requires t c κs =
+    let a = c .before .before .before .before .before .before .before .args in
+    let x = c .before .before .before .before .before .before .before .pre .1 in
+    let t = text-due (a .room) (a .text .now) (a .at) (x .1) (x .2) (x .0) (x .3 .stands) (x .3 .is) (sym (c .before .is-string .ensures ∙ ap isString (c .before .before .kind-of .ensures ∙ ap kindOf (c .before .before .before .peek .ensures))) ∙ c .if1 .taken) in
+    t .inside
+
+fill-plain-entry-requires : (t : ℕ) → fill-lts.Need-plain-entry-requires (fill-told t) (fill-at t) fill.Post
+fill-plain-entry-requires t c κs = search needs
+
+fill-put-entry-requires : (t : ℕ) → fill-lts.Need-put-entry-requires (fill-told t) (fill-at t) fill.Post
+fill-put-entry-requires t c κs =
+    let a = c .before .before .before .before .before .before .before .before .before .before .args in
+    let x = c .before .before .before .before .before .before .before .before .before .before .pre .1 in
+    omega (arith, x .3 .room, some-entry (x .2))
+
+fill-end-of-requires : (t : ℕ) → fill-lts.Need-end-of-requires (fill-told t) (fill-at t) fill.Post
+fill-end-of-requires t c κs = search needs
+
+fill-add-t21 : (t : ℕ) → fill-lts.Need-add-t21 (fill-told t) (fill-at t) fill.Post
+fill-add-t21 t c =
+    let a = c .before .before .before .before .before .before .before .before .before .before .before .before .before .before .args in
+    let x = c .before .before .before .before .before .before .before .before .before .before .before .before .before .before .pre .1 in
+    omega (arith, x .3 .room, some-entry (x .2), c .before .before .before .before .before .before .before .before .before .before .before .before .before .before .good .1 .1 .1 .0 .0)
+
+fill-same-length : (t : ℕ) → fill-lts.Need-same-length (fill-told t) (fill-at t) fill.Post
+fill-same-length t c =
+    let a = c .before .before .before .before .before .before .before .before .before .before .before .before .before .before .args in
+    let x = c .before .before .before .before .before .before .before .before .before .before .before .before .before .before .pre .1 in
+    filled-long (let t = text-due (a .room) (a .text .now) (a .at) (x .1) (x .2) (x .0) (x .3 .stands) (x .3 .is) (sym (c .before .before .before .before .before .before .before .before .is-string .ensures ∙ ap isString (c .before .before .before .before .before .before .before .before .before .kind-of .ensures ∙ ap kindOf (c .before .before .before .before .before .before .before .before .before .before .peek .ensures))) ∙ c .before .before .before .before .before .before .before .if1 .taken) in
+    text-filled (x .1) (a .entry) (a .up) (a .name) (a .byte) (x .2) (t .t) (a .table .now) (a .names .now) _ (c .before .before .before .before .before .plain-entry .result) (c .end-of .result) (t .plainly)
+    (c .before .before .before .before .before .plain-entry .ensures ∙ ap (λ (y : TypeStr). entryOf (plain y) (a .up) (a .name)) (c .before .before .before .before .before .before .type-at .ensures (t .t) (t .is)))
+    (c .end-of .ensures ∙ ap (λ (g : Got Node). place (pos g)) (x .3 .stands)) (c .before .before .before .put-entry .ensures)) .0
+
+fill-returns : (t : ℕ) → fill-lts.Need-returns (fill-told t) (fill-at t) fill.Post
+fill-returns t c =
+    let a = c .before .before .before .before .before .before .before .before .before .before .before .before .before .before .args in
+    λ n e d h.
+    let t = text-due (a .room) (a .text .now) (a .at) e d n (h .stands) (h .is) (sym (c .before .before .before .before .before .before .before .before .is-string .ensures ∙ ap isString (c .before .before .before .before .before .before .before .before .before .kind-of .ensures ∙ ap kindOf (c .before .before .before .before .before .before .before .before .before .before .peek .ensures))) ∙ c .before .before .before .before .before .before .before .if1 .taken) in
+    text-filled e (a .entry) (a .up) (a .name) (a .byte) d (t .t) (a .table .now) (a .names .now) _ (c .before .before .before .before .before .plain-entry .result) (c .end-of .result) (t .plainly)
+    (c .before .before .before .before .before .plain-entry .ensures ∙ ap (λ (y : TypeStr). entryOf (plain y) (a .up) (a .name)) (c .before .before .before .before .before .before .type-at .ensures (t .t) (t .is)))
+    (c .end-of .ensures ∙ ap (λ (g : Got Node). place (pos g)) (h .stands)) (c .before .before .before .put-entry .ensures)
+
+fill-add-fields : (t : ℕ) → fill-lts.Need-add-fields (fill-told t) (fill-at t) fill.Post
+fill-add-fields t c =
+    let a = c .before .before .before .before .before .before .before .args in
+    let x = c .before .before .before .before .before .before .before .pre .1 in
+    let l = list-due (a .room) (a .text .now) (a .at) (x .1) (x .2) (x .0) (x .3 .stands) (x .3 .is) (sym (c .before .is-string .ensures ∙ ap isString (c .before .before .kind-of .ensures ∙ ap kindOf (c .before .before .before .peek .ensures))) ∙ c .if1 .left) in
+    omega (arith, l .inside)
+
+fill-sub-fields : (t : ℕ) → fill-lts.Need-sub-fields (fill-told t) (fill-at t) fill.Post
+fill-sub-fields t c =
+    let a = c .before .before .before .before .before .before .before .args in
+    let x = c .before .before .before .before .before .before .before .pre .1 in
+    let l = list-due (a .room) (a .text .now) (a .at) (x .1) (x .2) (x .0) (x .3 .stands) (x .3 .is) (sym (c .before .is-string .ensures ∙ ap isString (c .before .before .kind-of .ensures ∙ ap kindOf (c .before .before .before .peek .ensures))) ∙ c .if1 .left) in
+    omega (arith, l .deep)
+
+fill-add-fields-2 : (t : ℕ) → fill-lts.Need-add-fields-2 (fill-told t) (fill-at t) fill.Post
+fill-add-fields-2 t c =
+    let a = c .before .before .before .before .before .before .before .before .args in
+    let x = c .before .before .before .before .before .before .before .before .pre .1 in
+    omega (arith, x .3 .room, some-entry (x .2))
+
+fill-fields-requires : (t : ℕ) → fill-lts.Need-fields-requires (fill-told t) (fill-at t) fill.Post
+fill-fields-requires t c κs =
+    let a = c .before .before .before .before .before .before .before .before .before .args in
+    let x = c .before .before .before .before .before .before .before .before .before .pre .1 in
+    let l = list-due (a .room) (a .text .now) (a .at) (x .1) (x .2) (x .0) (x .3 .stands) (x .3 .is) (sym (c .before .before .before .is-string .ensures ∙ ap isString (c .before .before .before .before .kind-of .ensures ∙ ap kindOf (c .before .before .before .before .before .peek .ensures))) ∙ c .before .before .if1 .left) in
+    (omega (arith, l .deep), (l .ns, x .1, l .fs, (fields-due (a .room) (a .text .now) (a .at) (a .entry) (a .byte) (a .table .now) (a .names .now) (x .0) (x .1) (x .2) (x .3) l)))
+
+fill-sub-bare-entry : (t : ℕ) → fill-lts.Need-sub-bare-entry (fill-told t) (fill-at t) fill.Post
+fill-sub-bare-entry t c =
+    let a = c .before .before .before .before .before .before .before .before .before .before .before .before .before .before .before .before .args in
+    let x = c .before .before .before .before .before .before .before .before .before .before .before .before .before .before .before .before .pre .1 in
+    let l = list-due (a .room) (a .text .now) (a .at) (x .1) (x .2) (x .0) (x .3 .stands) (x .3 .is) (sym (c .before .before .before .before .before .before .before .before .before .before .is-string .ensures ∙ ap isString (c .before .before .before .before .before .before .before .before .before .before .before .kind-of .ensures ∙ ap kindOf (c .before .before .before .before .before .before .before .before .before .before .before .before .peek .ensures))) ∙ c .before .before .before .before .before .before .before .before .before .if1 .left) in
+    let w = c .before .before .before .before .before .before .fields .ensures (l .ns) (x .1) (l .fs) (fields-due (a .room) (a .text .now) (a .at) (a .entry) (a .byte) (a .table .now) (a .names .now) (x .0) (x .1) (x .2) (x .3) l) in
+    omega (arith, w .next)
+
+fill-bare-entry-requires : (t : ℕ) → fill-lts.Need-bare-entry-requires (fill-told t) (fill-at t) fill.Post
+fill-bare-entry-requires t c κs = search needs
+
+fill-put-entry-requires-2 : (t : ℕ) → fill-lts.Need-put-entry-requires-2 (fill-told t) (fill-at t) fill.Post
+fill-put-entry-requires-2 t c κs =
+    let a = c .before .before .before .before .before .before .before .before .before .before .before .before .before .before .before .before .before .args in
+    let x = c .before .before .before .before .before .before .before .before .before .before .before .before .before .before .before .before .before .pre .1 in
+    let l = list-due (a .room) (a .text .now) (a .at) (x .1) (x .2) (x .0) (x .3 .stands) (x .3 .is) (sym (c .before .before .before .before .before .before .before .before .before .before .before .is-string .ensures ∙ ap isString (c .before .before .before .before .before .before .before .before .before .before .before .before .kind-of .ensures ∙ ap kindOf (c .before .before .before .before .before .before .before .before .before .before .before .before .before .peek .ensures))) ∙ c .before .before .before .before .before .before .before .before .before .before .if1 .left) in
+    let w = fields-long (c .before .before .before .before .before .before .before .fields .ensures (l .ns) (x .1) (l .fs) (fields-due (a .room) (a .text .now) (a .at) (a .entry) (a .byte) (a .table .now) (a .names .now) (x .0) (x .1) (x .2) (x .3) l)) in
+    omega (arith, w .0, x .3 .room, some-entry (x .2))
+
+fill-same-length-2 : (t : ℕ) → fill-lts.Need-same-length-2 (fill-told t) (fill-at t) fill.Post
+fill-same-length-2 t c =
+    let a = c .before .before .before .before .before .before .before .before .before .before .before .before .before .before .before .before .before .before .before .before .args in
+    let x = c .before .before .before .before .before .before .before .before .before .before .before .before .before .before .before .before .before .before .before .before .pre .1 in
+    filled-long (let l = list-due (a .room) (a .text .now) (a .at) (x .1) (x .2) (x .0) (x .3 .stands) (x .3 .is) (sym (c .before .before .before .before .before .before .before .before .before .before .before .before .before .before .is-string .ensures ∙ ap isString (c .before .before .before .before .before .before .before .before .before .before .before .before .before .before .before .kind-of .ensures ∙ ap kindOf (c .before .before .before .before .before .before .before .before .before .before .before .before .before .before .before .before .peek .ensures))) ∙ c .before .before .before .before .before .before .before .before .before .before .before .before .before .if1 .left) in
+    record-filled (x .1) (a .entry) (a .up) (a .name) (a .byte) (l .fs) (x .2) (a .table .now) (a .names .now) _ _ _ (c .before .before .before .before .before .before .before .before .before .before .fields .result) (c .before .before .before .bare-entry .result) (l .recorded)
+    (c .before .before .before .before .before .before .before .before .before .before .fields .ensures (l .ns) (x .1) (l .fs) (fields-due (a .room) (a .text .now) (a .at) (a .entry) (a .byte) (a .table .now) (a .names .now) (x .0) (x .1) (x .2) (x .3) l)) (c .before .before .before .bare-entry .ensures) (c .before .before .put-entry2 .ensures)) .0
+
+fill-same-length-3 : (t : ℕ) → fill-lts.Need-same-length-3 (fill-told t) (fill-at t) fill.Post
+fill-same-length-3 t c =
+    let a = c .before .before .before .before .before .before .before .before .before .before .before .before .before .before .before .before .before .before .before .before .args in
+    let x = c .before .before .before .before .before .before .before .before .before .before .before .before .before .before .before .before .before .before .before .before .pre .1 in
+    filled-long (let l = list-due (a .room) (a .text .now) (a .at) (x .1) (x .2) (x .0) (x .3 .stands) (x .3 .is) (sym (c .before .before .before .before .before .before .before .before .before .before .before .before .before .before .is-string .ensures ∙ ap isString (c .before .before .before .before .before .before .before .before .before .before .before .before .before .before .before .kind-of .ensures ∙ ap kindOf (c .before .before .before .before .before .before .before .before .before .before .before .before .before .before .before .before .peek .ensures))) ∙ c .before .before .before .before .before .before .before .before .before .before .before .before .before .if1 .left) in
+    record-filled (x .1) (a .entry) (a .up) (a .name) (a .byte) (l .fs) (x .2) (a .table .now) (a .names .now) _ _ _ (c .before .before .before .before .before .before .before .before .before .before .fields .result) (c .before .before .before .bare-entry .result) (l .recorded)
+    (c .before .before .before .before .before .before .before .before .before .before .fields .ensures (l .ns) (x .1) (l .fs) (fields-due (a .room) (a .text .now) (a .at) (a .entry) (a .byte) (a .table .now) (a .names .now) (x .0) (x .1) (x .2) (x .3) l)) (c .before .before .before .bare-entry .ensures) (c .before .before .put-entry2 .ensures)) .1
+
+fill-returns-2 : (t : ℕ) → fill-lts.Need-returns-2 (fill-told t) (fill-at t) fill.Post
+fill-returns-2 t c =
+    let a = c .before .before .before .before .before .before .before .before .before .before .before .before .before .before .before .before .before .before .before .before .args in
+    λ n e d h.
+    let l = list-due (a .room) (a .text .now) (a .at) e d n (h .stands) (h .is) (sym (c .before .before .before .before .before .before .before .before .before .before .before .before .before .before .is-string .ensures ∙ ap isString (c .before .before .before .before .before .before .before .before .before .before .before .before .before .before .before .kind-of .ensures ∙ ap kindOf (c .before .before .before .before .before .before .before .before .before .before .before .before .before .before .before .before .peek .ensures))) ∙ c .before .before .before .before .before .before .before .before .before .before .before .before .before .if1 .left) in
+    record-filled e (a .entry) (a .up) (a .name) (a .byte) (l .fs) d (a .table .now) (a .names .now) _ _ _ (c .before .before .before .before .before .before .before .before .before .before .fields .result) (c .before .before .before .bare-entry .result) (l .recorded)
+    (c .before .before .before .before .before .before .before .before .before .before .fields .ensures (l .ns) e (l .fs) (fields-due (a .room) (a .text .now) (a .at) (a .entry) (a .byte) (a .table .now) (a .names .now) n e d (h) l)) (c .before .before .before .bare-entry .ensures) (c .before .before .put-entry2 .ensures)
+
+pub +field+fields+fill-spec : {M : Type 1} → statement M
++field+fields+fill-spec =
+    close μ-field μ-fields μ-fill
+    (λ t. field-lts.spec (field-told t) (field-at t) field.Post (field-parts-requires t) (field-name-at-requires t) (field-sub-fill t) (field-add-fill t) (field-parent-requires t) (field-name-of-requires t) (field-add-fill-2 t) (field-fill-requires t) (field-sub-put-shape t) (field-put-shape-requires t) (field-same-length t) (field-same-length-2 t) (field-returns t))
+    (λ t. fields-lts.spec (fields-told t) (fields-at t) fields.Post fields-Inv-loop fields-μ-loop (fields-gap-at-requires t) (fields-loop-holds t) (fields-enum-known-g t) (fields-place-of-requires t) (fields-same-length t) (fields-same-length-2 t) (fields-returns t) (fields-field-requires t) (fields-held-sum-requires t) (fields-add-count t) (fields-then-at-requires t) (fields-loop-less t) (fields-loop-again t))
+    (λ t. fill-lts.spec (fill-told t) (fill-at t) fill.Post (fill-peek-requires t) (fill-kind-of-requires t) (fill-is-string-requires t) (fill-type-at-requires t) (fill-plain-entry-requires t) (fill-put-entry-requires t) (fill-end-of-requires t) (fill-add-t21 t) (fill-same-length t) (fill-returns t) (fill-add-fields t) (fill-sub-fields t) (fill-add-fields-2 t) (fill-fields-requires t) (fill-sub-bare-entry t) (fill-bare-entry-requires t) (fill-put-entry-requires-2 t) (fill-same-length-2 t) (fill-same-length-3 t) (fill-returns-2 t))

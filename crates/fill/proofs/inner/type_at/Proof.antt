@@ -1,0 +1,66 @@
+-- A type string has no escape, and without one the part of the text is the string. Assumes nothing.
+use native.Mathlib.Omega.{arith}
+use mathlib.Core.Path.{sym, ap, _∙_}
+use Rattle.type_str.specs.TypeString.{typeString}
+use Rattle.descr.proofs.Escapes.{escaped-says, raw-inside, raw-says}
+use Rattle.fill.proofs.Parted.{refused-gives, read-back}
+use borrow.Author.Needs.{needs}
+use Rattle.fill.proofs.inner.type_at.Statement.{statement}
+use Rattle.fill.proofs.inner.type_at.Tie as tie
+
+add-from : tie.Need-add-from
+add-from c = search needs
+
+shared-slice-read-scan-at : tie.Need-shared-slice-read-scan-at
+shared-slice-read-scan-at c = search needs
+
+scan-at-requires : tie.Need-scan-at-requires
+scan-at-requires c κs = search needs
+
+no-type-requires : tie.Need-no-type-requires
+no-type-requires c κs = search needs
+
+returns : tie.Need-returns
+returns c = λ t h. refused-gives (sym (escaped-says (c .before .before .before .before .before .args .text .now) (c .before .before .before .before .before .args .at) (c .before .before .before .before .before .pre) (c .before .before .scan-at .result) (c .before .before .scan-at .ensures) (c .before .if1 .taken)) ∙ h)
+
+add-to : tie.Need-add-to
+add-to c =
+    let i = raw-inside (c .before .before .before .before .before .args .text .now) (c .before .before .before .before .before .args .at) (c .before .before .before .before .before .pre) (c .before .before .scan-at .result) (c .before .before .scan-at .ensures) (c .before .if1 .left) in
+    omega arith
+
+sub-parse : tie.Need-sub-parse
+sub-parse c = search needs
+
+part-parse-start : tie.Need-part-parse-start
+part-parse-start c = search needs
+
+part-parse-end : tie.Need-part-parse-end
+part-parse-end c =
+    let i = raw-inside (c .before .before .before .before .before .args .text .now) (c .before .before .before .before .before .args .at) (c .before .before .before .before .before .pre) (c .before .before .scan-at .result) (c .before .before .scan-at .ensures) (c .before .if1 .left) in
+    omega arith
+
+parse-requires : tie.Need-parse-requires
+parse-requires c κs = search needs
+
+type-of-requires : tie.Need-type-of-requires
+type-of-requires c κs = search needs
+
+returns-2 : tie.Need-returns-2
+returns-2 c = λ t h. c .type-of .ensures t (read-back _ t (c .before .parse .ensures ∙ ap typeString (raw-says (c .before .before .before .before .before .before .before .before .args .text .now) (c .before .before .before .before .before .before .before .before .args .at) (c .before .before .before .before .before .before .before .before .pre) (c .before .before .before .before .before .scan-at .result) (c .before .before .before .before .before .scan-at .ensures) (c .before .before .before .before .if1 .left)) ∙ h))
+
+pub type-at-spec : {M : Type 1} → statement M
+type-at-spec =
+    tie.close
+    (tie.spec
+    add-from
+    shared-slice-read-scan-at
+    scan-at-requires
+    no-type-requires
+    returns
+    add-to
+    sub-parse
+    part-parse-start
+    part-parse-end
+    parse-requires
+    type-of-requires
+    returns-2)

@@ -1,0 +1,205 @@
+-- What the filling walk is asked and what it owes. Document 01, "The record": "The dtype table is listed depth first, left to right, parent first: one
+-- entry for each plain type, array level and record. Names are stored decoded, end to end in table order", and "The refusal numbers": "On success, room
+-- beyond what was needed is unchanged." The table and the names themselves are crate dtype's. Definitions only. Assumes nothing.
+use Prim.Native.Nat.{ℕ, zero, suc, _+_, _-_, _*_, _<_, _≤_}
+use mathlib.Core.Path.{_≡_}
+use mathlib.Core.List.{List, [], _++_}
+use mathlib.Core.Bool.{Bool, true, false}
+use lib.ListN.{length, drop}
+use lib.Seq.{sets}
+use Rattle.counts.specs.Outcome.{gives}
+use Rattle.dtype.specs.Dtype.{Dtype, Fields, plain, array, record-of, end-of-fields, field-then, sizeOf, sizesOf}
+use Rattle.dtype.specs.Entries.{entriesOf, entriesIn, fieldCount, levels}
+use Rattle.dtype.specs.Names.{nameBytes, nameBytesIn, namesOf, namesIn}
+use Rattle.dtype.specs.Flat.{entry-width, saturated, flat, flats}
+use Rattle.record.specs.Descr.{Field, arrays, descrOf, fieldOf, fieldsOf}
+use Rattle.literal.specs.Node.{Node, nodes}
+use Rattle.literal.specs.Got.{got}
+use Rattle.literal.specs.Text.{byteAt}
+use Rattle.literal.specs.Strings.{spelled}
+use Rattle.literal.specs.Literal.{value}
+use Rattle.literal.specs.Brackets.{gapAt}
+use Rattle.literal.specs.Rows.{Row}
+use Rattle.literal.specs.Forget.{forget, forgetAll}
+use Rattle.literal.specs.declared.bytes.Kind.{Kind}
+use Rattle.literal.specs.declared.bytes.Kind.the-variants.{Square, Round, Curly, Quote, Minus, Digit, TrueWord, FalseWord, NoneWord, Other}
+use Rattle.literal.specs.declared.gaps.Gap.{Gap}
+use Rattle.literal.specs.declared.gaps.Gap.the-variants.{Shut, Item, Stray}
+use Rattle.dims.specs.declared.Verdict.{Verdict}
+use Rattle.dims.specs.declared.Verdict.the-variants.{Good, Form, Large}
+use Rattle.dims.specs.Answer.{dimensionsAt}
+use Rattle.fill.specs.declared.Spot.{Spot}
+use Rattle.fill.specs.declared.Many.{Many}
+use Rattle.fill.specs.declared.Parts.{Parts}
+
+abbrev pub gapPlace : Gap → ℕ
+gapPlace (Shut e) = e
+gapPlace (Item p) = p
+gapPlace (Stray p) = p
+
+-- what a string begins with
+abbrev pub isString : Kind → Bool
+isString Square = false
+isString Round = false
+isString Curly = false
+isString Quote = true
+isString Minus = false
+isString Digit = false
+isString TrueWord = false
+isString FalseWord = false
+isString NoneWord = false
+isString Other = false
+
+-- how many dimensions a good sub-shape has
+abbrev pub rankOf : Verdict → ℕ
+rankOf (Good o) = o .rank
+rankOf Form = 0
+rankOf Large = 0
+
+-- the parent and the name of level k of a field whose first entry is `entry`
+abbrev pub upOf : ℕ → (entry up : ℕ) → ℕ
+upOf zero entry up = up
+upOf (suc k) entry up = entry + k
+
+abbrev pub nameOf : ℕ → ℕ → ℕ
+nameOf zero m = m
+nameOf (suc k) m = 0
+
+-- no field has over 32 array levels
+abbrev mutual
+  pub Narrow : Dtype → Type 0
+  Narrow (plain t) = Unit {0}
+  Narrow (array n d) = (levels (array n d) ≤ 32) × Narrow d
+  Narrow (record-of fs) = NarrowIn fs
+
+  pub NarrowIn : Fields → Type 0
+  NarrowIn end-of-fields = Unit {0}
+  NarrowIn (field-then name d fs) = Narrow d × NarrowIn fs
+
+-- ---- a field
+-- the value at `at` is a field
+pub record OneField (k : ℕ) (s : List ℕ) (at : ℕ) (n : Node) (e : ℕ) (f : Field) : Type 0 where
+  pub stands : value k s at ≡ got n e
+  pub is : fieldOf (forget n) ≡ gives f
+
+abbrev pub FieldAt : ℕ → List ℕ → ℕ → Type 0
+FieldAt k s at = (n : Node) × (e : ℕ) × (f : Field) × OneField k s at n e f
+
+-- its parts: a name; an inner descr that gives d; a sub-shape ns, which stands there where it has dimensions
+pub record PartsOf (k : ℕ) (s : List ℕ) (e : ℕ) (f : Field) (r : Parts) : Type 0 where
+  pub deep : 0 < k
+  pub ends : r .end ≡ e
+  pub begins : r .name < length s
+  pub named : f .name ≡ spelled (byteAt s (r .name)) s (r .name + 1) .bytes
+  pub node : Node
+  pub end-of-node : ℕ
+  pub stands : value (k - 1) s (r .inner) ≡ got node end-of-node
+  pub d : Dtype
+  pub is : descrOf (forget node) ≡ gives d
+  pub ns : List ℕ
+  pub ranked : r .rank ≡ length ns
+  pub shaped : 0 < length ns → dimensionsAt (value (k - 1) s (r .shape)) ≡ gives ns
+  pub typed : f .type ≡ arrays ns d
+
+abbrev pub PartsAt : ℕ → List ℕ → ℕ → Parts → Type 0
+PartsAt k s at r = (n : Node) (e : ℕ) (f : Field) → OneField k s at n e f → PartsOf k s e f r
+
+-- ---- array levels
+-- the table holds, behind the k outermost levels of ns, the others and the type d, whose entries end before `last`; they have this size
+pub record Levelled (old : List ℕ) (entry up m last : ℕ) (ns : List ℕ) (d : Dtype) (k : ℕ) (table : List ℕ) (size : ℕ) : Type 0 where
+  pub long : length table ≡ length old
+  pub room : entry-width * last ≤ length old
+  pub reaches : last ≡ entry + k + entriesOf (arrays (drop k ns) d)
+  pub sized : size ≡ saturated (sizeOf (arrays (drop k ns) d))
+  pub holds : table ≡ sets old (entry-width * (entry + k)) (flat (arrays (drop k ns) d) (entry + k) (upOf k entry up) (nameOf k m) [])
+
+-- so does the table with no level left out, where it did with all of them
+abbrev pub LevelsOver : (entry up m last : ℕ) (ns : List ℕ) (table : List ℕ) (size : ℕ) (table′ : List ℕ) (size′ : ℕ) → Type 0
+LevelsOver entry up m last ns table size table′ size′ =
+    (old : List ℕ) (d : Dtype) → Levelled old entry up m last ns d (length ns) table size → Levelled old entry up m last ns d 0 table′ size′
+
+-- ---- a descr
+-- the value at `at` is a descr that gives d, and there is room for d
+pub record Due (k : ℕ) (s : List ℕ) (at entry : ℕ) (table : List ℕ) (byte : ℕ) (names : List ℕ) (n : Node) (e : ℕ) (d : Dtype) : Type 0 where
+  pub stands : value k s at ≡ got n e
+  pub is : descrOf (forget n) ≡ gives d
+  pub narrow : Narrow d
+  pub room : entry-width * (entry + entriesOf d) ≤ length table
+  pub name-room : byte + nameBytes d ≤ length names
+
+pub record Filled (e entry up m byte : ℕ) (d : Dtype) (table names table′ names′ : List ℕ) (r : Spot) : Type 0 where
+  pub ends : r .end ≡ e
+  pub next : r .entry ≡ entry + entriesOf d
+  pub next-name : r .byte ≡ byte + nameBytes d
+  pub sized : r .size ≡ saturated (sizeOf d)
+  pub table-after : table′ ≡ sets table (entry-width * entry) (flat d entry up m [])
+  pub names-after : names′ ≡ sets names byte (namesOf d [])
+
+-- ---- the fields of a record
+-- the items from `from` on are fields that give fs, and there is room for fs
+pub record DueFields (k : ℕ) (s : List ℕ) (from entry : ℕ) (table : List ℕ) (byte : ℕ) (names : List ℕ) (ns : List Node) (e : ℕ) (fs : Fields) : Type 0 where
+  pub row : Row (value k s) s 93 ns (gapAt s from 93) e
+  pub is : fieldsOf (forgetAll (nodes ns)) ≡ gives fs
+  pub narrow : NarrowIn fs
+  pub room : entry-width * (entry + entriesIn fs) ≤ length table
+  pub name-room : byte + nameBytesIn fs ≤ length names
+
+pub record FilledFields (e entry up byte : ℕ) (fs : Fields) (table names table′ names′ : List ℕ) (r : Many) : Type 0 where
+  pub ends : r .end ≡ e
+  pub next : r .entry ≡ entry + entriesIn fs
+  pub next-name : r .byte ≡ byte + nameBytesIn fs
+  pub sized : r .size ≡ saturated (sizesOf fs)
+  pub counted : r .count ≡ fieldCount fs
+  pub table-after : table′ ≡ sets table (entry-width * entry) (flats fs entry up [])
+  pub names-after : names′ ≡ sets names byte (namesIn fs [])
+
+-- the value at `at` is a field that gives f, and there is room for f
+pub record DueField (k : ℕ) (s : List ℕ) (at entry : ℕ) (table : List ℕ) (byte : ℕ) (names : List ℕ) (n : Node) (e : ℕ) (f : Field) : Type 0 where
+  pub one : OneField k s at n e f
+  pub narrow : Narrow (f .type)
+  pub room : entry-width * (entry + entriesOf (f .type)) ≤ length table
+  pub name-room : byte + (length (f .name) + nameBytes (f .type)) ≤ length names
+
+pub record FilledField (e entry up byte : ℕ) (f : Field) (table names table′ names′ : List ℕ) (r : Spot) : Type 0 where
+  pub ends : r .end ≡ e
+  pub next : r .entry ≡ entry + entriesOf (f .type)
+  pub next-name : r .byte ≡ byte + (length (f .name) + nameBytes (f .type))
+  pub sized : r .size ≡ saturated (sizeOf (f .type))
+  pub table-after : table′ ≡ sets table (entry-width * entry) (flat (f .type) entry up (length (f .name)) [])
+  pub names-after : names′ ≡ sets names byte (f .name ++ namesOf (f .type) [])
+
+-- ---- what the functions of the walk ask and owe, whichever value stands there
+abbrev pub DueAt : (k : ℕ) (s : List ℕ) (at entry : ℕ) (table : List ℕ) (byte : ℕ) (names : List ℕ) → Type 0
+DueAt k s at entry table byte names = (n : Node) × (e : ℕ) × (d : Dtype) × Due k s at entry table byte names n e d
+
+abbrev pub Fills : (k : ℕ) (s : List ℕ) (at entry up m byte : ℕ) (table names table′ names′ : List ℕ) → Spot → Type 0
+Fills k s at entry up m byte table names table′ names′ r =
+    (n : Node) (e : ℕ) (d : Dtype) → Due k s at entry table byte names n e d → Filled e entry up m byte d table names table′ names′ r
+
+abbrev pub DueFieldsFrom : (k : ℕ) (s : List ℕ) (from entry : ℕ) (table : List ℕ) (byte : ℕ) (names : List ℕ) → Type 0
+DueFieldsFrom k s from entry table byte names = (ns : List Node) × (e : ℕ) × (fs : Fields) × DueFields k s from entry table byte names ns e fs
+
+abbrev pub FillsFields : (k : ℕ) (s : List ℕ) (from entry up byte : ℕ) (table names table′ names′ : List ℕ) → Many → Type 0
+FillsFields k s from entry up byte table names table′ names′ r =
+    (ns : List Node) (e : ℕ) (fs : Fields) → DueFields k s from entry table byte names ns e fs → FilledFields e entry up byte fs table names table′ names′ r
+
+abbrev pub DueFieldAt : (k : ℕ) (s : List ℕ) (at entry : ℕ) (table : List ℕ) (byte : ℕ) (names : List ℕ) → Type 0
+DueFieldAt k s at entry table byte names = (n : Node) × (e : ℕ) × (f : Field) × DueField k s at entry table byte names n e f
+
+abbrev pub FillsField : (k : ℕ) (s : List ℕ) (at entry up byte : ℕ) (table names table′ names′ : List ℕ) → Spot → Type 0
+FillsField k s at entry up byte table names table′ names′ r =
+    (n : Node) (e : ℕ) (f : Field) → DueField k s at entry table byte names n e f → FilledField e entry up byte f table names table′ names′ r
+
+-- the levels ns of a sub-shape, which stands at `at` where it has dimensions, are due above the type d
+pub record LevelsDue (k : ℕ) (s : List ℕ) (at rank : ℕ) (old : List ℕ) (entry up m last : ℕ) (ns : List ℕ) (d : Dtype) (table : List ℕ) (size : ℕ) : Type 0 where
+  pub ranked : rank ≡ length ns
+  pub few : length ns ≤ 32
+  pub shaped : 0 < length ns → dimensionsAt (value k s at) ≡ gives ns
+  pub levelled : Levelled old entry up m last ns d (length ns) table size
+
+abbrev pub LevelsDueAt : (k : ℕ) (s : List ℕ) (at rank entry up m last : ℕ) (table : List ℕ) (size : ℕ) → Type 0
+LevelsDueAt k s at rank entry up m last table size = (ns : List ℕ) × (old : List ℕ) × (d : Dtype) × LevelsDue k s at rank old entry up m last ns d table size
+
+abbrev pub Levels : (k : ℕ) (s : List ℕ) (at rank entry up m last : ℕ) (table : List ℕ) (size : ℕ) (table′ : List ℕ) (size′ : ℕ) → Type 0
+Levels k s at rank entry up m last table size table′ size′ =
+    (ns : List ℕ) (old : List ℕ) (d : Dtype) → LevelsDue k s at rank old entry up m last ns d table size → Levelled old entry up m last ns d 0 table′ size′
