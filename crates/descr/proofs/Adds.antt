@@ -18,16 +18,17 @@ use Rattle.counts.proofs.Fits.{number-is, number-over}
 use Rattle.grammar.specs.Value.{Value, Values, string, integer, True, False, None, list, tuple, dict, end-of-values, value-then}
 use Rattle.counts.specs.Counts.{bytes}
 use Rattle.type_str.specs.declared.TypeStr.{TypeStr}
-use Rattle.type_str.specs.declared.TypeChar.{TypeChar}
-use Rattle.type_str.specs.declared.TypeChar.the-variants.{Bool as Boolean, Int, Uint, Float as Floating, Complex, TimeDelta, DateTime, ByteStr, UnicodeStr, Object, RawData}
+use Rattle.spelling.specs.declared.TypeChar.{TypeChar}
+use Rattle.spelling.specs.declared.TypeChar.the-variants.{Bool as Boolean, Int, Uint, Float as Floating, Complex, TimeDelta, DateTime, ByteStr, UnicodeStr, Object, RawData}
 use Rattle.type_str.specs.declared.TypeBytes.{TypeBytes}
 use Rattle.type_str.specs.declared.TypeBytes.the-variants.{Sized, Unsized, TooLarge}
 use Rattle.type_str.specs.Bytes.{typeBytes, countedBytes, numBytes}
-use Rattle.type_str.specs.Spelling.{letterByte}
+use Rattle.spelling.specs.Spelling.{letterByte}
 use Rattle.dtype.specs.PlainBytes as byte
 use Rattle.dtype.specs.PlainBytes.{plainBytes}
 use Rattle.dtype.proofs.Types.{plain-bytes-type}
-use Rattle.type_str.specs.TypeString.{isObject, typeString}
+use Rattle.spelling.specs.Classes.{isObject}
+use Rattle.type_str.specs.TypeString.{typeString}
 use Rattle.dtype.specs.Dtype.{Dtype, Fields, plain, array, record-of, field-then, sizeOf, sizesOf}
 use Rattle.dtype.specs.Entries.{someEntryIn, levels}
 use Rattle.dtype.specs.Limits.{over, someOver, overLevels}

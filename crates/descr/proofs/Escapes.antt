@@ -21,12 +21,12 @@ use Rattle.literal.specs.declared.strings.Scan.{Scan}
 use Rattle.literal.proofs.Positions.{getD-any}
 use Rattle.literal.specs.declared.strings.Piece.{Piece}
 use Rattle.literal.specs.declared.strings.Piece.the-variants.{Close, Byte, Bad}
-use Rattle.type_str.specs.declared.Endianness.{Endianness}
-use Rattle.type_str.specs.declared.TypeChar.{TypeChar}
+use Rattle.spelling.specs.declared.Endianness.{Endianness}
+use Rattle.spelling.specs.declared.TypeChar.{TypeChar}
 use Rattle.type_str.specs.declared.TypeStr.{TypeStr}
-use Rattle.type_str.specs.declared.TimeUnits.{TimeUnits}
-use Rattle.type_str.specs.declared.TimeUnits.the-variants.{Absent, Year, Month, Week, Day, Hour, Minute, Second, Millisecond, Microsecond, Nanosecond, Picosecond, Femtosecond, Attosecond}
-use Rattle.type_str.specs.Spelling.{firstOf, orders, orderOf, orderByte, letters, letterOf, letterByte, units, unitText, unitsOf}
+use Rattle.spelling.specs.declared.TimeUnits.{TimeUnits}
+use Rattle.spelling.specs.declared.TimeUnits.the-variants.{Absent, Year, Month, Week, Day, Hour, Minute, Second, Millisecond, Microsecond, Nanosecond, Picosecond, Femtosecond, Attosecond}
+use Rattle.spelling.specs.Spelling.{firstOf, orders, orderOf, orderByte, letters, letterOf, letterByte, units, unitText, unitsOf}
 use Rattle.type_str.specs.TypeString.{sizeStands, sized, syntax, typeString}
 
 false-true : {A : Type 0} → false ≡ true → A

@@ -5,12 +5,12 @@ use mathlib.Core.List.{List}
 use native.Mathlib.Omega.{arith}
 use lib.ListN.{length, drop, length-append}
 use lib.Seq.{drop-cons, drop-drop, drop-append-add}
-use Rattle.type_str.specs.declared.Endianness.{Endianness}
-use Rattle.type_str.specs.declared.Endianness.the-variants.{Little, Big, Irrelevant}
-use Rattle.type_str.specs.declared.TypeChar.{TypeChar}
-use Rattle.type_str.specs.declared.TypeChar.the-variants.{Bool, Int, Uint, Float, Complex, TimeDelta, DateTime, ByteStr, UnicodeStr, Object, RawData}
-use Rattle.type_str.specs.declared.TimeUnits.{TimeUnits}
-use Rattle.type_str.specs.declared.TimeUnits.the-variants.{Absent, Year, Month, Week, Day, Hour, Minute, Second, Millisecond, Microsecond, Nanosecond, Picosecond, Femtosecond, Attosecond}
+use Rattle.spelling.specs.declared.Endianness.{Endianness}
+use Rattle.spelling.specs.declared.Endianness.the-variants.{Little, Big, Irrelevant}
+use Rattle.spelling.specs.declared.TypeChar.{TypeChar}
+use Rattle.spelling.specs.declared.TypeChar.the-variants.{Bool, Int, Uint, Float, Complex, TimeDelta, DateTime, ByteStr, UnicodeStr, Object, RawData}
+use Rattle.spelling.specs.declared.TimeUnits.{TimeUnits}
+use Rattle.spelling.specs.declared.TimeUnits.the-variants.{Absent, Year, Month, Week, Day, Hour, Minute, Second, Millisecond, Microsecond, Nanosecond, Picosecond, Femtosecond, Attosecond}
 use Rattle.dtype.specs.TypeNumbers.{orderByte, letterByte, unitsNumber, orderFrom, letterFrom, unitsFrom}
 use Rattle.dtype.specs.Dtype.{Dtype, Fields, plain, array, record-of, end-of-fields, field-then}
 use Rattle.dtype.specs.Entries.{entriesOf, entriesIn}

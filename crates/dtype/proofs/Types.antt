@@ -2,8 +2,8 @@
 use mathlib.Core.Path.{_≡_, refl}
 use Rattle.type_str.specs.Bytes.{typeBytes}
 use Rattle.type_str.specs.declared.TypeStr.{TypeStr}
-use Rattle.type_str.specs.declared.TypeChar.{TypeChar}
-use Rattle.type_str.specs.declared.TypeChar.the-variants.{Bool, Int, Uint, Float, Complex, TimeDelta, DateTime, ByteStr, UnicodeStr, Object, RawData}
+use Rattle.spelling.specs.declared.TypeChar.{TypeChar}
+use Rattle.spelling.specs.declared.TypeChar.the-variants.{Bool, Int, Uint, Float, Complex, TimeDelta, DateTime, ByteStr, UnicodeStr, Object, RawData}
 use Rattle.dtype.specs.PlainBytes.{plainBytes}
 
 pub plain-bytes-type : (t : TypeStr) → plainBytes t ≡ typeBytes t

@@ -8,7 +8,7 @@ use Rattle.counts.specs.OneOutcome.{OneOutcome}
 use Rattle.counts.specs.declared.Number.{Number}
 use Rattle.counts.proofs.OneOutcome.{by-equation}
 use Rattle.numbers.specs.Numbers.{inOrder}
-use Rattle.type_str.specs.declared.Endianness.{Endianness}
+use Rattle.spelling.specs.declared.Endianness.{Endianness}
 
 pub read-one : (run : List ℕ) (order : Endianness) → OneOutcome {A = Number} (λ r. r ≡ number (inOrder order run))
 read-one run order = by-equation (number (inOrder order run))

@@ -11,8 +11,8 @@ use Rattle.counts.specs.declared.Number.{Number}
 use Rattle.counts.specs.declared.Number.the-variants.{Is, Over}
 use Rattle.counts.proofs.Fits.{number-is, number-over}
 use Rattle.numbers.specs.Numbers.{little, bytesOf, byteOf, leastFirst, inOrder, outOrder}
-use Rattle.type_str.specs.declared.Endianness.{Endianness}
-use Rattle.type_str.specs.declared.Endianness.the-variants.{Little, Big, Irrelevant}
+use Rattle.spelling.specs.declared.Endianness.{Endianness}
+use Rattle.spelling.specs.declared.Endianness.the-variants.{Little, Big, Irrelevant}
 
 -- ---- from the other end
 pub getD-reverse : (l : List ℕ) (i j : ℕ) → i + j + 1 ≡ length l → getD (reverse l) i 0 ≡ getD l j 0

@@ -8,8 +8,8 @@ use mathlib.Core.List.{List, [], _∷_, _++_, reverse, reverse-cons}
 use lib.ListN.{length}
 use Rattle.numbers.specs.Numbers.{little, bytesOf, leastFirst, inOrder, outOrder, AllBytes}
 use Rattle.numbers.proofs.Runs.{length-least, least-least}
-use Rattle.type_str.specs.declared.Endianness.{Endianness}
-use Rattle.type_str.specs.declared.Endianness.the-variants.{Little, Big, Irrelevant}
+use Rattle.spelling.specs.declared.Endianness.{Endianness}
+use Rattle.spelling.specs.declared.Endianness.the-variants.{Little, Big, Irrelevant}
 
 pub little-below : (bs : List ℕ) → AllBytes bs → little bs < 256 ^ length bs
 little-below [] a = omega arith

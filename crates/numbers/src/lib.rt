@@ -1,6 +1,6 @@
 // The number in a run of bytes, in and out, in either byte order and at any width. No function here has a `requires`.
 use counts::Number;
-use type_str::Endianness;
+use spelling::Endianness;
 ghost use mathlib.Core.Path.{_≡_};
 ghost use mathlib.Core.List.{_++_};
 ghost use lib.ListN.{getD};

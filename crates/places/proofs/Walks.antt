@@ -28,7 +28,7 @@ use Rattle.dtype.proofs.Steps.{Leads, array-leads, record-leads, plain-leads-no
 use Rattle.table.specs.Checked.{untyped}
 use Rattle.table.specs.EntryType.{typeOf}
 use Rattle.table.proofs.Types.{type-of-written}
-use Rattle.type_str.specs.Spelling.{orderByte, letterByte, orderOf}
+use Rattle.spelling.specs.Spelling.{orderByte, letterByte, orderOf}
 use Rattle.dtype.specs.TypeNumbers.{unitsNumber}
 use Rattle.dtype.specs.PlainBytes.{plainBytes}
 use Rattle.dtype.proofs.Digits.{lt-or-ge}

@@ -13,10 +13,10 @@ use Rattle.grammar.proofs.Reading.{skip, afterDigits, natural, word, quoted, pa
 use Rattle.grammar.proofs.Kept.{placed, kept-at}
 use Rattle.utf8.specs.Scalar.{isScalar}
 use Rattle.utf8.specs.Decode.{extend, shortest, front, scan}
-use Rattle.type_str.specs.declared.Endianness.the-variants.{Little, Irrelevant}
-use Rattle.type_str.specs.declared.TypeChar.the-variants.{Bool as Boolean, Int, UnicodeStr}
-use Rattle.type_str.specs.declared.TimeUnits.the-variants.{Absent}
-use Rattle.type_str.specs.Spelling.{orderOf, letterOf, unitsOf}
+use Rattle.spelling.specs.declared.Endianness.the-variants.{Little, Irrelevant}
+use Rattle.spelling.specs.declared.TypeChar.the-variants.{Bool as Boolean, Int, UnicodeStr}
+use Rattle.spelling.specs.declared.TimeUnits.the-variants.{Absent}
+use Rattle.spelling.specs.Spelling.{orderOf, letterOf, unitsOf}
 use Rattle.type_str.specs.TypeString.{sized, syntax, validated, checked, typeString}
 use Rattle.type_str.specs.Text.{typeText}
 use Rattle.dtype.specs.declared.Order.{Order}

@@ -7,12 +7,12 @@ use mathlib.Core.Bool.{true, false, cond}
 use Rattle.counts.specs.Outcome.{gives, refused}
 use Rattle.decimal.specs.Decimal.{isDigit, digitsOf, decimalFrom}
 use Rattle.grammar.specs.Value.{Value, Values, string, integer, True, False, None, list, tuple, dict, end-of-values, value-then, end-of-items, item-then}
-use Rattle.type_str.specs.declared.Endianness.{Endianness}
-use Rattle.type_str.specs.declared.Endianness.the-variants.{Little, Big, Irrelevant}
-use Rattle.type_str.specs.declared.TypeChar.{TypeChar}
-use Rattle.type_str.specs.declared.TypeChar.the-variants.{Bool as Boolean, Int, ByteStr, Object}
-use Rattle.type_str.specs.declared.TimeUnits.the-variants.{Absent}
-use Rattle.type_str.specs.Spelling.{orderOf, letterOf, unitsOf}
+use Rattle.spelling.specs.declared.Endianness.{Endianness}
+use Rattle.spelling.specs.declared.Endianness.the-variants.{Little, Big, Irrelevant}
+use Rattle.spelling.specs.declared.TypeChar.{TypeChar}
+use Rattle.spelling.specs.declared.TypeChar.the-variants.{Bool as Boolean, Int, ByteStr, Object}
+use Rattle.spelling.specs.declared.TimeUnits.the-variants.{Absent}
+use Rattle.spelling.specs.Spelling.{orderOf, letterOf, unitsOf}
 use Rattle.type_str.specs.TypeString.{sized, syntax, validated, checked, typeString}
 use Rattle.dtype.specs.declared.Order.{Order}
 use Rattle.dtype.specs.declared.Order.the-variants.{C, Fortran}

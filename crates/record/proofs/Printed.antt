@@ -12,15 +12,15 @@ use Rattle.decimal.proofs.Prints.{by-tens, printed-low, printed-high}
 use Rattle.utf8.specs.Utf8.{WellFormed}
 use Rattle.utf8.specs.Decode.{utf8}
 use Rattle.utf8.proofs.Outcomes.{accepted-exactly}
-use Rattle.type_str.specs.declared.Endianness.{Endianness}
-use Rattle.type_str.specs.declared.Endianness.the-variants.{Little, Big, Irrelevant}
-use Rattle.type_str.specs.declared.TypeChar.{TypeChar}
-use Rattle.type_str.specs.declared.TypeChar.the-variants.{Bool as Boolean, Int, Uint, Float as Floating, Complex, TimeDelta, DateTime, ByteStr, UnicodeStr, Object, RawData}
-use Rattle.type_str.specs.declared.TimeUnits.{TimeUnits}
-use Rattle.type_str.specs.declared.TimeUnits.the-variants.{Absent, Year, Month, Week, Day, Hour, Minute, Second, Millisecond, Microsecond, Nanosecond, Picosecond, Femtosecond, Attosecond}
+use Rattle.spelling.specs.declared.Endianness.{Endianness}
+use Rattle.spelling.specs.declared.Endianness.the-variants.{Little, Big, Irrelevant}
+use Rattle.spelling.specs.declared.TypeChar.{TypeChar}
+use Rattle.spelling.specs.declared.TypeChar.the-variants.{Bool as Boolean, Int, Uint, Float as Floating, Complex, TimeDelta, DateTime, ByteStr, UnicodeStr, Object, RawData}
+use Rattle.spelling.specs.declared.TimeUnits.{TimeUnits}
+use Rattle.spelling.specs.declared.TimeUnits.the-variants.{Absent, Year, Month, Week, Day, Hour, Minute, Second, Millisecond, Microsecond, Nanosecond, Picosecond, Femtosecond, Attosecond}
 use Rattle.type_str.specs.declared.TypeStr.{TypeStr}
-use Rattle.type_str.specs.Spelling.{orderByte, letterByte, unitText}
-use Rattle.type_str.specs.TypeString.{isObject}
+use Rattle.spelling.specs.Spelling.{orderByte, letterByte, unitText}
+use Rattle.spelling.specs.Classes.{isObject}
 use Rattle.type_str.specs.Text.{typeText}
 use Rattle.grammar.specs.Bytes.{isBlank}
 use Rattle.grammar.specs.Grammar.{All, Gives}

@@ -10,7 +10,7 @@ use libc::STDOUT_FILENO;
 use slice::BytesRead;
 use slice::PointsRead;
 use slice::Wrote;
-use type_str::Endianness;
+use spelling::Endianness;
 use type_str::TypeRead;
 use type_str::TypeStr;
 ghost use Prim.Native.Nat.{_≤_};

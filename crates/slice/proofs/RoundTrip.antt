@@ -18,7 +18,7 @@ use Rattle.numbers.proofs.Widths.{in-out}
 use Rattle.utf8.specs.Scalar.{isScalar}
 use Rattle.utf8.proofs.Scalars.{scalar-low, scalar-below}
 use Rattle.type_str.specs.Text.{isType}
-use Rattle.type_str.specs.declared.Endianness.{Endianness}
+use Rattle.spelling.specs.declared.Endianness.{Endianness}
 use Rattle.type_str.specs.declared.TypeStr.{TypeStr}
 use Rattle.slice.specs.Elements.{kindOf, trimmed, scalar, point, points, pointsIn}
 use Rattle.slice.specs.Runs.{filled, bytesOut, allScalars, pointBytes, pointsOut}

@@ -12,7 +12,7 @@ use Rattle.counts.specs.Outcome.{Outcome, gives, refused, then, each}
 use Rattle.numbers.specs.Numbers.{inOrder}
 use Rattle.utf8.specs.Scalar.{isScalar}
 use Rattle.utf8.proofs.Scalars.{scalar-over}
-use Rattle.type_str.specs.declared.Endianness.{Endianness}
+use Rattle.spelling.specs.declared.Endianness.{Endianness}
 use Rattle.slice.specs.Elements.{trimmed, scalar, point, points, found}
 use Rattle.slice.specs.Runs.{allScalars}
 use Rattle.slice.proofs.Trims.{trim-zero, trim-last}

@@ -8,7 +8,7 @@ use lib.ListN.{length, replicate}
 use Rattle.counts.specs.Outcome.{Outcome, gives, refused, unless}
 use Rattle.numbers.specs.Numbers.{outOrder}
 use Rattle.utf8.specs.Scalar.{isScalar}
-use Rattle.type_str.specs.declared.Endianness.{Endianness}
+use Rattle.spelling.specs.declared.Endianness.{Endianness}
 use Rattle.slice.specs.declared.Kind.{Kind}
 
 -- "fills up with zeros"

@@ -13,20 +13,20 @@ use Rattle.counts.specs.Number.{number}
 use Rattle.counts.specs.declared.Number.{Number}
 use Rattle.counts.proofs.Alike.{true-false}
 use Rattle.counts.proofs.Fits.{number-is-back, number-over-back}
-use Rattle.type_str.specs.Spelling.{firstOf, orders, letters, units, orderByte, letterByte, orderOf, letterOf}
+use Rattle.spelling.specs.Spelling.{firstOf, orders, letters, units, orderByte, letterByte, orderOf, letterOf}
 use Rattle.type_str.specs.Text.{isType}
-use Rattle.type_str.specs.TypeString.{isObject}
+use Rattle.spelling.specs.Classes.{isObject}
 use Rattle.type_str.specs.Bytes.{typeBytes, countedBytes, numBytes}
 use Rattle.type_str.specs.declared.TypeBytes.the-variants.{Sized, Unsized, TooLarge}
 use Rattle.counts.specs.Counts.{bytes}
 use Rattle.counts.specs.declared.Bytes.{Bytes}
 use Rattle.dtype.proofs.Types.{plain-bytes-type}
-use Rattle.type_str.specs.declared.Endianness.{Endianness}
-use Rattle.type_str.specs.declared.TypeChar.{TypeChar}
-use Rattle.type_str.specs.declared.TimeUnits.{TimeUnits}
-use Rattle.type_str.specs.declared.TimeUnits.the-variants.{Absent, Year, Month, Week, Day, Hour, Minute, Second, Millisecond, Microsecond, Nanosecond, Picosecond, Femtosecond, Attosecond}
+use Rattle.spelling.specs.declared.Endianness.{Endianness}
+use Rattle.spelling.specs.declared.TypeChar.{TypeChar}
+use Rattle.spelling.specs.declared.TimeUnits.{TimeUnits}
+use Rattle.spelling.specs.declared.TimeUnits.the-variants.{Absent, Year, Month, Week, Day, Hour, Minute, Second, Millisecond, Microsecond, Nanosecond, Picosecond, Femtosecond, Attosecond}
 use Rattle.type_str.specs.declared.TypeStr.{TypeStr}
-use Rattle.type_str.proofs.Tables.{order-spelled, letter-spelled}
+use Rattle.spelling.proofs.Tables.{order-spelled, letter-spelled}
 use Rattle.dtype.specs.TypeNumbers.{unitsNumber}
 use Rattle.dtype.specs.PlainBytes.{plainBytes}
 use Rattle.dtype.specs.Dtype.{Dtype, plain, array, record-of}

@@ -4,9 +4,9 @@ use Prim.Native.Nat.{ℕ}
 use mathlib.Core.Bool.{not}
 use lib.Dec.{eqb}
 use Rattle.counts.specs.Outcome.{Outcome, gives, refused, then, unless}
-use Rattle.type_str.specs.Spelling.{firstOf, units, orderOf, letterOf}
+use Rattle.spelling.specs.Spelling.{firstOf, units, orderOf, letterOf}
 use Rattle.type_str.specs.Text.{isType}
-use Rattle.type_str.specs.declared.TimeUnits.{TimeUnits}
+use Rattle.spelling.specs.declared.TimeUnits.{TimeUnits}
 use Rattle.type_str.specs.declared.TypeStr.{TypeStr}
 use Rattle.dtype.specs.TypeNumbers.{unitsNumber}
 use Rattle.dtype.specs.declared.Entry.{Entry}

@@ -4,7 +4,7 @@ use mathlib.Core.Path.{_≡_, refl, sym, ap, _∙_}
 use mathlib.Core.Bool.{true, false, cond, and-false, and-true}
 use mathlib.Core.List.{List}
 use lib.Dec.{eqb}
-use Rattle.type_str.specs.declared.TypeChar.{TypeChar}
+use Rattle.spelling.specs.declared.TypeChar.{TypeChar}
 use borrow.Author.Tests.{lt-leb, le-leb, ne-eqb}
 use Rattle.counts.specs.Outcome.{Outcome, gives, refused, then, each}
 use native.Mathlib.Omega.{arith}
@@ -13,8 +13,9 @@ use Rattle.counts.specs.Counts.{bytes}
 use Rattle.counts.specs.declared.Number.{Number}
 use Rattle.counts.specs.declared.Number.the-variants.{Is, Over}
 use Rattle.counts.proofs.Fits.{number-is, number-is-back, number-over-back}
-use Rattle.type_str.specs.TypeString.{isObject, allows, lacksOrder, misplacesUnits, syntax, validated, checked, typeString}
-use Rattle.type_str.specs.Bytes.{isUnicode, typeBytes, countedBytes, numBytes}
+use Rattle.spelling.specs.Classes.{isObject, isUnicode}
+use Rattle.type_str.specs.TypeString.{allows, lacksOrder, misplacesUnits, syntax, validated, checked, typeString}
+use Rattle.type_str.specs.Bytes.{typeBytes, countedBytes, numBytes}
 use Rattle.type_str.specs.Text.{passes, isType}
 use Rattle.type_str.specs.Parts.{partsOf, checkedBy, checkedParts}
 use Rattle.type_str.specs.declared.TypeStr.{TypeStr}

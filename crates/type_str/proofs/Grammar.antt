@@ -6,21 +6,19 @@ use mathlib.Core.Bool.{Bool, true, false, not, cond}
 use mathlib.Core.List.{List, [], _∷_, _++_}
 use lib.ListN.{length, drop}
 use lib.Seq.{drop-append-seam}
-use lib.Dec.{eqb}
-use borrow.Author.Tests.{eqb-true}
 use Rattle.counts.specs.Outcome.{Outcome, gives, refused}
-use Rattle.counts.specs.Same.{same}
-use Rattle.counts.proofs.Alike.{true-false, same-equal}
+use Rattle.counts.proofs.Alike.{true-false}
 use Rattle.counts.proofs.Holds.{Holds, then-holds, each-holds, unless-holds, holds-of}
 use Rattle.decimal.specs.Decimal.{isDigit, digitsOf, afterDigits, decimal, decimalFrom}
-use Rattle.type_str.specs.Spelling.{firstOf, orderByte, orders, orderOf, letterByte, letters, letterOf, unitText, units, unitsOf}
-use Rattle.type_str.specs.TypeString.{isObject, sizeStands, sized as sizedOf, sizedBy, syntax}
+use Rattle.spelling.specs.Spelling.{orderByte, orderOf, letterByte, letterOf, unitText, unitsOf}
+use Rattle.spelling.specs.Classes.{isObject}
+use Rattle.type_str.specs.TypeString.{sizeStands, sized as sizedOf, sizedBy, syntax}
 use Rattle.type_str.specs.Spells.{Digits, Spells, object, sized}
-use Rattle.type_str.proofs.Tables.{order-spelled, letter-spelled, units-spelled}
+use Rattle.spelling.proofs.Tables.{order-spelled, letter-spelled, units-spelled, order-read, letter-read, units-read}
 use Rattle.type_str.proofs.RoundTrip.{units-stop, sized-as}
-use Rattle.type_str.specs.declared.Endianness.{Endianness}
-use Rattle.type_str.specs.declared.TypeChar.{TypeChar}
-use Rattle.type_str.specs.declared.TimeUnits.{TimeUnits}
+use Rattle.spelling.specs.declared.Endianness.{Endianness}
+use Rattle.spelling.specs.declared.TypeChar.{TypeChar}
+use Rattle.spelling.specs.declared.TimeUnits.{TimeUnits}
 use Rattle.type_str.specs.declared.TypeStr.{TypeStr}
 
 -- ---- complete
@@ -42,39 +40,6 @@ complete s t (sized o l d ds u h k) =
     (ap (λ (y : List ℕ). drop (length y) ((d ∷ ds) ++ unitText u [])) e ∙ drop-append-seam (d ∷ ds) (unitText u [])) (rw h) refl (units-spelled u))
 
 -- ---- sound
--- the case that a lookup gives passes its test
-first-passes : {A : Type 0} (test : A → Bool) (cases : List A) → Holds (λ a. test a ≡ true) (firstOf test cases)
-first-passes test [] = tt
-first-passes test (a ∷ more) = go (test a) refl (first-passes test more)
-  where
-    go : (b : Bool) → test a ≡ b → Holds (λ c. test c ≡ true) (firstOf test more) → Holds (λ c. test c ≡ true) (cond b (gives a) (firstOf test more))
-    go true e h = e
-    go false e h = h
-
-order-read : (b : ℕ) → Holds (λ o. b ≡ orderByte o) (orderOf b)
-unfolding orderOf
-order-read b = go (orderOf b) (first-passes (λ o. eqb b (orderByte o)) orders)
-  where
-    go : (o : Outcome Endianness) → Holds (λ o. eqb b (orderByte o) ≡ true) o → Holds (λ o. b ≡ orderByte o) o
-    go (gives o) h = eqb-true b (orderByte o) h
-    go (refused n) h = tt
-
-letter-read : (b : ℕ) → Holds (λ l. b ≡ letterByte l) (letterOf b)
-unfolding letterOf
-letter-read b = go (letterOf b) (first-passes (λ l. eqb b (letterByte l)) letters)
-  where
-    go : (l : Outcome TypeChar) → Holds (λ l. eqb b (letterByte l) ≡ true) l → Holds (λ l. b ≡ letterByte l) l
-    go (gives l) h = eqb-true b (letterByte l) h
-    go (refused n) h = tt
-
-units-read : (s : List ℕ) → Holds (λ u. s ≡ unitText u []) (unitsOf s)
-unfolding unitsOf
-units-read s = go (unitsOf s) (first-passes (λ u. same s (unitText u [])) units)
-  where
-    go : (u : Outcome TimeUnits) → Holds (λ u. same s (unitText u []) ≡ true) u → Holds (λ u. s ≡ unitText u []) u
-    go (gives u) h = same-equal s (unitText u []) h
-    go (refused n) h = tt
-
 -- a text is its digits and what stands behind them
 digits-front : (s : List ℕ) → s ≡ digitsOf s ++ afterDigits s
 unfolding digitsOf

@@ -1,4 +1,4 @@
-pub mod Tables
+pub mod Sizes
 pub mod Checks
 pub mod Splits
 pub mod Texts

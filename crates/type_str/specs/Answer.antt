@@ -2,27 +2,9 @@
 -- (proofs/Outcomes.antt), so an equation on `answer r` fixes r. Definitions only. Assumes nothing.
 use Prim.Native.Nat.{ℕ}
 use Rattle.counts.specs.Outcome.{Outcome, gives, refused}
-use Rattle.type_str.specs.declared.Endianness.{Endianness}
-use Rattle.type_str.specs.declared.TypeChar.{TypeChar}
-use Rattle.type_str.specs.declared.TimeUnits.{TimeUnits}
 use Rattle.type_str.specs.declared.TypeStr.{TypeStr}
-use Rattle.type_str.specs.declared.OrderRead.{OrderRead}
-use Rattle.type_str.specs.declared.LetterRead.{LetterRead}
-use Rattle.type_str.specs.declared.UnitsRead.{UnitsRead}
 use Rattle.type_str.specs.declared.TypeRead.{TypeRead}
 use Rattle.type_str.specs.declared.TypePrint.{TypePrint}
-
-abbrev pub orderAnswer : OrderRead → Outcome Endianness
-orderAnswer (OrderRead.Order o) = gives o
-orderAnswer OrderRead.NoOrder = refused 15
-
-abbrev pub letterAnswer : LetterRead → Outcome TypeChar
-letterAnswer (LetterRead.Letter l) = gives l
-letterAnswer LetterRead.NoLetter = refused 15
-
-abbrev pub unitsAnswer : UnitsRead → Outcome TimeUnits
-unitsAnswer (UnitsRead.Units u) = gives u
-unitsAnswer UnitsRead.NoUnits = refused 15
 
 abbrev pub answer : TypeRead → Outcome TypeStr
 answer (TypeRead.Read t) = gives t

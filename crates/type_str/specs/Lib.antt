@@ -1,4 +1,3 @@
-pub mod Spelling
 pub mod TypeString
 pub mod Bytes
 pub mod Text

@@ -8,9 +8,10 @@ use lib.Dec.{eqb}
 use Rattle.counts.specs.Outcome.{Outcome, gives, refused}
 use Rattle.decimal.specs.Decimal.{printed}
 use Rattle.emit.specs.Placed.{written, placed}
-use Rattle.type_str.specs.Spelling.{orderByte, letterByte, unitText}
-use Rattle.type_str.specs.TypeString.{isObject, checked}
-use Rattle.type_str.specs.declared.TypeChar.{TypeChar}
+use Rattle.spelling.specs.Spelling.{orderByte, letterByte, unitText}
+use Rattle.spelling.specs.Classes.{isObject}
+use Rattle.type_str.specs.TypeString.{checked}
+use Rattle.spelling.specs.declared.TypeChar.{TypeChar}
 use Rattle.type_str.specs.Answer.{printAnswer}
 use Rattle.type_str.specs.declared.TypeStr.{TypeStr}
 use Rattle.type_str.specs.declared.TypePrint.{TypePrint}

@@ -9,28 +9,13 @@ use mathlib.Core.Bool.{Bool, true, false, not, cond, _&&_, _||_}
 use lib.Dec.{leb, eqb}
 use Rattle.counts.specs.Outcome.{Outcome, gives, refused, then, each, unless}
 use Rattle.decimal.specs.Decimal.{digitsOf, afterDigits, decimal}
-use Rattle.type_str.specs.Spelling.{orderOf, letterOf, unitsOf}
-use Rattle.type_str.specs.declared.Endianness.{Endianness}
-use Rattle.type_str.specs.declared.Endianness.the-variants.{Little, Big, Irrelevant}
-use Rattle.type_str.specs.declared.TypeChar.{TypeChar}
-use Rattle.type_str.specs.declared.TypeChar.the-variants.{Bool as Boolean, Int, Uint, Float as Floating, Complex, TimeDelta, DateTime, ByteStr, UnicodeStr, Object, RawData}
-use Rattle.type_str.specs.declared.TimeUnits.{TimeUnits}
-use Rattle.type_str.specs.declared.TimeUnits.the-variants.{Absent, Year, Month, Week, Day, Hour, Minute, Second, Millisecond, Microsecond, Nanosecond, Picosecond, Femtosecond, Attosecond}
+use Rattle.spelling.specs.Spelling.{orderOf, letterOf, unitsOf}
+use Rattle.spelling.specs.Classes.{isObject, isAbsent}
+use Rattle.spelling.specs.declared.Endianness.{Endianness}
+use Rattle.spelling.specs.declared.Endianness.the-variants.{Little, Big, Irrelevant}
+use Rattle.spelling.specs.declared.TypeChar.{TypeChar}
+use Rattle.spelling.specs.declared.TypeChar.the-variants.{Bool as Boolean, Int, Uint, Float as Floating, Complex, TimeDelta, DateTime, ByteStr, UnicodeStr, Object, RawData}
 use Rattle.type_str.specs.declared.TypeStr.{TypeStr}
-
--- `O`
-abbrev pub isObject : TypeChar → Bool
-isObject Boolean = false
-isObject Int = false
-isObject Uint = false
-isObject Floating = false
-isObject Complex = false
-isObject TimeDelta = false
-isObject DateTime = false
-isObject ByteStr = false
-isObject UnicodeStr = false
-isObject Object = true
-isObject RawData = false
 
 abbrev pub none : List ℕ → Bool
 none [] = true
@@ -102,22 +87,6 @@ hasUnits ByteStr = false
 hasUnits UnicodeStr = false
 hasUnits Object = false
 hasUnits RawData = false
-
-abbrev pub isAbsent : TimeUnits → Bool
-isAbsent Absent = true
-isAbsent Year = false
-isAbsent Month = false
-isAbsent Week = false
-isAbsent Day = false
-isAbsent Hour = false
-isAbsent Minute = false
-isAbsent Second = false
-isAbsent Millisecond = false
-isAbsent Microsecond = false
-isAbsent Nanosecond = false
-isAbsent Picosecond = false
-isAbsent Femtosecond = false
-isAbsent Attosecond = false
 
 abbrev pub lacksOrder : TypeStr → Bool
 lacksOrder t = isIrrelevant (t .order) && needsOrder (t .letter) (t .size)

@@ -2,7 +2,7 @@
 use mathlib.Core.Path.{sym, ap, _∙_}
 use native.Mathlib.Omega.{arith}
 use lib.ListN.{getD, List·getD-eq-default}
-use Rattle.type_str.specs.declared.Endianness.{Endianness}
+use Rattle.spelling.specs.declared.Endianness.{Endianness}
 use Rattle.numbers.specs.Numbers.{leastFirst}
 use Rattle.numbers.proofs.Runs.{getD-reverse, length-least}
 use borrow.Author.Needs.{needs}

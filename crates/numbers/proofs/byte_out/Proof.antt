@@ -1,6 +1,6 @@
 -- `numbers::byte_out` meets its contract: the byte order says which byte stands there. Assumes nothing.
 use mathlib.Core.Path.{sym, ap, _∙_}
-use Rattle.type_str.specs.declared.Endianness.{Endianness}
+use Rattle.spelling.specs.declared.Endianness.{Endianness}
 use Rattle.numbers.specs.Numbers.{byteOf}
 use Rattle.numbers.proofs.Runs.{weight, out-at, out-past}
 use borrow.Author.Needs.{needs}

@@ -1,6 +1,6 @@
 -- `type_str::one_of` meets its contract: the first of the four that is equal decides. Assumes nothing.
 use borrow.Author.Tests.{eq-eqb, ne-eqb}
-use Rattle.type_str.proofs.Tables.{last-of-four}
+use Rattle.type_str.proofs.Sizes.{last-of-four}
 use Rattle.type_str.proofs.one_of.Statement.{statement}
 use Rattle.type_str.proofs.one_of.Tie as tie
 

@@ -1,7 +1,7 @@
 -- `type_str::take_apart` meets its contract: byte order, letter, and what stands behind them. Assumes nothing.
 use native.Mathlib.Omega.{arith}
 use Rattle.counts.proofs.OneOutcome.{told}
-use Rattle.type_str.specs.Answer.{orderAnswer, letterAnswer}
+use Rattle.spelling.specs.Answer.{orderAnswer, letterAnswer}
 use Rattle.type_str.proofs.Splits.{too-short, no-order, no-letter, both-there}
 use borrow.Author.Needs.{needs}
 use Rattle.type_str.proofs.take_apart.Statement.{statement}

@@ -3,10 +3,10 @@ use mathlib.Core.Path.{refl, sym, _∙_}
 use mathlib.Core.Bool.{true, false}
 use mathlib.Core.List.{_∷_}
 use Rattle.emit.proofs.Pieces.{emits-byte}
-use Rattle.type_str.proofs.Texts.{units-none, units-some}
+use Rattle.spelling.proofs.Texts.{units-none, units-some}
 use borrow.Author.Needs.{needs}
-use Rattle.type_str.proofs.TimeUnits.put.Statement.{statement}
-use Rattle.type_str.proofs.TimeUnits.put.Tie as tie
+use Rattle.spelling.proofs.TimeUnits.put.Statement.{statement}
+use Rattle.spelling.proofs.TimeUnits.put.Tie as tie
 
 is-absent-requires : tie.Need-is-absent-requires
 is-absent-requires c κs = search needs

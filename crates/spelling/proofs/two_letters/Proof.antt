@@ -1,9 +1,9 @@
--- `type_str::two_letters` meets its contract: a byte that no unit has there, or a letter of the table. Assumes nothing.
+-- `spelling::two_letters` meets its contract: a byte that no unit has there, or a letter of the table. Assumes nothing.
 use mathlib.Core.Path.{sym}
-use Rattle.type_str.specs.Spelling.{unitsOf}
-use Rattle.type_str.proofs.Tables.{no-open, no-s-two, no-shut-two, no-letter-two}
-use Rattle.type_str.proofs.two_letters.Statement.{statement}
-use Rattle.type_str.proofs.two_letters.Tie as tie
+use Rattle.spelling.specs.Spelling.{unitsOf}
+use Rattle.spelling.proofs.Tables.{no-open, no-s-two, no-shut-two, no-letter-two}
+use Rattle.spelling.proofs.two_letters.Statement.{statement}
+use Rattle.spelling.proofs.two_letters.Tie as tie
 
 returns : tie.Need-returns
 returns c = sym (no-open _ _ (c .if1 .taken))

@@ -1,32 +1,23 @@
 -- The three tables, read both ways, and which texts are no units. Assumes nothing.
 use Prim.Native.Nat.{ℕ}
 use mathlib.Core.Path.{_≡_, refl}
-use mathlib.Core.Bool.{Bool, true, false, _||_, and-false}
+use mathlib.Core.Bool.{Bool, true, false, cond, and-false}
 use mathlib.Core.List.{List, [], _∷_}
 use lib.ListN.{length, getD}
 use lib.Dec.{eqb}
 use native.Mathlib.Omega.{arith}
-use borrow.Author.Tests.{ne-eqb}
-use Rattle.counts.specs.Outcome.{gives, refused}
-use Rattle.type_str.specs.Spelling.{orderByte, orderOf, letterByte, letterOf, unitText, unitsOf}
-use Rattle.type_str.specs.declared.Endianness.{Endianness}
-use Rattle.type_str.specs.declared.Endianness.the-variants.{Little, Big, Irrelevant}
-use Rattle.type_str.specs.declared.TypeChar.{TypeChar}
-use Rattle.type_str.specs.declared.TypeChar.the-variants.{Bool as Boolean, Int, Uint, Float as Floating, Complex, TimeDelta, DateTime, ByteStr, UnicodeStr, Object, RawData}
-use Rattle.type_str.specs.declared.TimeUnits.{TimeUnits}
-use Rattle.type_str.specs.declared.TimeUnits.the-variants.{Absent, Year, Month, Week, Day, Hour, Minute, Second, Millisecond, Microsecond, Nanosecond, Picosecond, Femtosecond, Attosecond}
-
--- ---- four sizes, the last of which decides where the others do not
-pub last-of-four : (n a b c d : ℕ) → (n ≡ a → ⊥) → (n ≡ b → ⊥) → (n ≡ c → ⊥) → eqb n d ≡ (eqb n a || eqb n b || eqb n c || eqb n d)
-last-of-four n a b c d p q r = rw (ne-eqb n a p, ne-eqb n b q, ne-eqb n c r)
-
-or-twice : (a b : Bool) → (a || b || b) ≡ (a || b)
-or-twice true b = refl
-or-twice false true = refl
-or-twice false false = refl
-
-pub three-of-four : (n a b c : ℕ) → (eqb n a || eqb n b || eqb n c || eqb n c) ≡ (eqb n a || eqb n b || eqb n c)
-three-of-four n a b c = or-twice (eqb n a || eqb n b) (eqb n c)
+use borrow.Author.Tests.{ne-eqb, eqb-true}
+use Rattle.counts.specs.Outcome.{Outcome, gives, refused}
+use Rattle.counts.specs.Same.{same}
+use Rattle.counts.proofs.Alike.{same-equal}
+use Rattle.counts.proofs.Holds.{Holds}
+use Rattle.spelling.specs.Spelling.{firstOf, orderByte, orders, orderOf, letterByte, letters, letterOf, unitText, units, unitsOf}
+use Rattle.spelling.specs.declared.Endianness.{Endianness}
+use Rattle.spelling.specs.declared.Endianness.the-variants.{Little, Big, Irrelevant}
+use Rattle.spelling.specs.declared.TypeChar.{TypeChar}
+use Rattle.spelling.specs.declared.TypeChar.the-variants.{Bool as Boolean, Int, Uint, Float as Floating, Complex, TimeDelta, DateTime, ByteStr, UnicodeStr, Object, RawData}
+use Rattle.spelling.specs.declared.TimeUnits.{TimeUnits}
+use Rattle.spelling.specs.declared.TimeUnits.the-variants.{Absent, Year, Month, Week, Day, Hour, Minute, Second, Millisecond, Microsecond, Nanosecond, Picosecond, Femtosecond, Attosecond}
 
 -- ---- each spelling is read as its case
 pub order-spelled : (o : Endianness) → orderOf (orderByte o) ≡ gives o
@@ -65,6 +56,39 @@ units-spelled Nanosecond = refl
 units-spelled Picosecond = refl
 units-spelled Femtosecond = refl
 units-spelled Attosecond = refl
+
+-- ---- and only its spelling: the case that a lookup gives passes its test
+first-passes : {A : Type 0} (test : A → Bool) (cases : List A) → Holds (λ a. test a ≡ true) (firstOf test cases)
+first-passes test [] = tt
+first-passes test (a ∷ more) = go (test a) refl (first-passes test more)
+  where
+    go : (b : Bool) → test a ≡ b → Holds (λ c. test c ≡ true) (firstOf test more) → Holds (λ c. test c ≡ true) (cond b (gives a) (firstOf test more))
+    go true e h = e
+    go false e h = h
+
+pub order-read : (b : ℕ) → Holds (λ o. b ≡ orderByte o) (orderOf b)
+unfolding orderOf
+order-read b = go (orderOf b) (first-passes (λ o. eqb b (orderByte o)) orders)
+  where
+    go : (o : Outcome Endianness) → Holds (λ o. eqb b (orderByte o) ≡ true) o → Holds (λ o. b ≡ orderByte o) o
+    go (gives o) h = eqb-true b (orderByte o) h
+    go (refused n) h = tt
+
+pub letter-read : (b : ℕ) → Holds (λ l. b ≡ letterByte l) (letterOf b)
+unfolding letterOf
+letter-read b = go (letterOf b) (first-passes (λ l. eqb b (letterByte l)) letters)
+  where
+    go : (l : Outcome TypeChar) → Holds (λ l. eqb b (letterByte l) ≡ true) l → Holds (λ l. b ≡ letterByte l) l
+    go (gives l) h = eqb-true b (letterByte l) h
+    go (refused n) h = tt
+
+pub units-read : (s : List ℕ) → Holds (λ u. s ≡ unitText u []) (unitsOf s)
+unfolding unitsOf
+units-read s = go (unitsOf s) (first-passes (λ u. same s (unitText u [])) units)
+  where
+    go : (u : Outcome TimeUnits) → Holds (λ u. same s (unitText u []) ≡ true) u → Holds (λ u. s ≡ unitText u []) u
+    go (gives u) h = same-equal s (unitText u []) h
+    go (refused n) h = tt
 
 -- ---- texts that are no units
 pub no-open : (a : ℕ) (s : List ℕ) → (a ≡ 91 → ⊥) → unitsOf (a ∷ s) ≡ refused 15
