@@ -3,3 +3,4 @@ pub mod Fits
 pub mod Outcomes
 pub mod Alike
 pub mod Holds
+pub mod Keys

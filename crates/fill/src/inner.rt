@@ -3,7 +3,6 @@
 use super::Many;
 use super::Parts;
 use super::Spot;
-use counts::Number;
 use dims::Verdict;
 use dims::closing;
 use dtype::ARRAY;
@@ -11,6 +10,9 @@ use dtype::ENTRY;
 use dtype::Entry;
 use dtype::PLAIN;
 use dtype::RECORD;
+use held::held_bytes;
+use held::held_product;
+use held::held_sum;
 use literal::Parsed;
 use literal::bytes::Kind;
 use literal::bytes::kind_of;
@@ -24,7 +26,6 @@ use literal::value;
 use spelling::Endianness;
 use spelling::TimeUnits;
 use spelling::TypeChar;
-use type_str::TypeBytes;
 use type_str::TypeRead;
 use type_str::TypeStr;
 use type_str::parse;
@@ -35,8 +36,7 @@ ghost use lib.ListN.{length};
 ghost use lib.Seq.{sets};
 ghost use Rattle.counts.specs.Outcome.{gives};
 ghost use Rattle.dtype.specs.Dtype.{Dtype, plain};
-ghost use Rattle.dtype.specs.Flat.{saturated, entryOf, numbers};
-ghost use Rattle.dtype.specs.PlainBytes.{plainBytes};
+ghost use Rattle.dtype.specs.Flat.{entryOf, numbers};
 ghost use Rattle.dtype.specs.TypeNumbers.{unitsNumber};
 ghost use Rattle.type_str.specs.TypeString.{typeString};
 ghost use Rattle.literal.specs.Got.{pos};
@@ -61,35 +61,6 @@ fn put_entry(table: &mut [u64], at: usize, e: Entry)
     table[i + 6] = e.extent;
     table[i + 7] = e.bytes;
     table[i + 8] = e.name;
-}
-
-// A plain type's bytes, and sums and products, as an entry holds them.
-fn held_bytes(t: TypeStr) -> u64
-    ensures { λ r. ⌜ r ≡ saturated (plainBytes t) ⌝ }
-{
-    match t.num_bytes() {
-        TypeBytes::Sized(n) => n.0,
-        TypeBytes::Unsized => 0,
-        TypeBytes::TooLarge => 18446744073709551615,
-    }
-}
-
-fn held_sum(a: u64, b: u64) -> u64
-    ensures { λ r. ⌜ r ≡ saturated (a + b) ⌝ }
-{
-    match counts::sum(a, b) {
-        Number::Is(n) => n,
-        Number::Over => 18446744073709551615,
-    }
-}
-
-fn held_product(a: u64, b: u64) -> u64
-    ensures { λ r. ⌜ r ≡ saturated (a * b) ⌝ }
-{
-    match counts::product(a, b) {
-        Number::Is(n) => n,
-        Number::Over => 18446744073709551615,
-    }
 }
 
 fn units_number(u: TimeUnits) -> u64

@@ -128,17 +128,8 @@ impl TypeChar {
         ensures { λ r. ⌜ r ≡ isObject self ⌝ }
     {
         match self {
-            TypeChar::Bool => false,
-            TypeChar::Int => false,
-            TypeChar::Uint => false,
-            TypeChar::Float => false,
-            TypeChar::Complex => false,
-            TypeChar::TimeDelta => false,
-            TypeChar::DateTime => false,
-            TypeChar::ByteStr => false,
-            TypeChar::UnicodeStr => false,
             TypeChar::Object => true,
-            TypeChar::RawData => false,
+            _ => false,
         }
     }
 
@@ -146,17 +137,8 @@ impl TypeChar {
         ensures { λ r. ⌜ r ≡ isUnicode self ⌝ }
     {
         match self {
-            TypeChar::Bool => false,
-            TypeChar::Int => false,
-            TypeChar::Uint => false,
-            TypeChar::Float => false,
-            TypeChar::Complex => false,
-            TypeChar::TimeDelta => false,
-            TypeChar::DateTime => false,
-            TypeChar::ByteStr => false,
             TypeChar::UnicodeStr => true,
-            TypeChar::Object => false,
-            TypeChar::RawData => false,
+            _ => false,
         }
     }
 }
@@ -183,19 +165,7 @@ impl TimeUnits {
     {
         match self {
             TimeUnits::Absent => true,
-            TimeUnits::Year => false,
-            TimeUnits::Month => false,
-            TimeUnits::Week => false,
-            TimeUnits::Day => false,
-            TimeUnits::Hour => false,
-            TimeUnits::Minute => false,
-            TimeUnits::Second => false,
-            TimeUnits::Millisecond => false,
-            TimeUnits::Microsecond => false,
-            TimeUnits::Nanosecond => false,
-            TimeUnits::Picosecond => false,
-            TimeUnits::Femtosecond => false,
-            TimeUnits::Attosecond => false,
+            _ => false,
         }
     }
 
@@ -239,7 +209,6 @@ impl TimeUnits {
         ensures { λ r. ⌜ r ≡ isOne (unitName self) ⌝ }
     {
         match self {
-            TimeUnits::Absent => false,
             TimeUnits::Year => true,
             TimeUnits::Month => true,
             TimeUnits::Week => true,
@@ -247,12 +216,7 @@ impl TimeUnits {
             TimeUnits::Hour => true,
             TimeUnits::Minute => true,
             TimeUnits::Second => true,
-            TimeUnits::Millisecond => false,
-            TimeUnits::Microsecond => false,
-            TimeUnits::Nanosecond => false,
-            TimeUnits::Picosecond => false,
-            TimeUnits::Femtosecond => false,
-            TimeUnits::Attosecond => false,
+            _ => false,
         }
     }
 }

@@ -220,54 +220,14 @@ untyped-seen d =
     (λ c e up m x r h. ap (λ (b : Bool). b || someBelow (plainOnly (λ ty. not (isType ty))) c) (untyped-at c (table d) e up m x h))
     d 0 0 0 [] (omega arith) refl
 
--- ---- numbers as entries hold them
-pub held-is : (a n : ℕ) → Number.Is n ≡ number a → n ≡ saturated a
-held-is a n e = omega (arith, number-is-back a n (sym e))
-
-pub held-over : (a : ℕ) → Number.Over ≡ number a → 18446744073709551615 ≡ saturated a
-held-over a e = omega (arith, number-over-back a (sym e))
-
--- a plain type's bytes, by what `num_bytes` answers of it
-module _ (t : TypeStr) where
-  object-none : (b : Bool) → isObject (t .letter) ≡ b → typeBytes t ≡ cond b 0 (typeBytes t)
-  unfolding typeBytes
-  object-none true e = rw (typeBytes, e)
-  object-none false e = refl
-
-  bytes-by : (b : Bool) → isObject (t .letter) ≡ b → (m : Number) → number (typeBytes t) ≡ m → numBytes t ≡ cond b Unsized (countedBytes (bytes m))
-  unfolding numBytes
-  bytes-by b e m q = rw (numBytes, e, q)
-
-  pub sized-held : (n : Bytes) → Sized n ≡ numBytes t → n .0 ≡ saturated (plainBytes t)
-  sized-held n h = rw (plain-bytes-type t) (go (isObject (t .letter)) refl (number (typeBytes t)) refl)
-    where
-      go : (b : Bool) → isObject (t .letter) ≡ b → (m : Number) → number (typeBytes t) ≡ m → n .0 ≡ saturated (typeBytes t)
-      go true e m q = let z = h ∙ bytes-by true e m q in let y : _≡_ {A = ℕ} 0 1 = cc in absurd (omega arith)
-      go false e (Number.Is k) q =
-          let z = h ∙ bytes-by false e (Number.Is k) q in
-          let y : n ≡ record { 0 = k } = cc in
-          ap (λ (x : Bytes). x .0) y ∙ held-is (typeBytes t) k (sym q)
-      go false e Number.Over q = let z = h ∙ bytes-by false e Number.Over q in let y : _≡_ {A = ℕ} 0 1 = cc in absurd (omega arith)
-
-  pub unsized-held : Unsized ≡ numBytes t → 0 ≡ saturated (plainBytes t)
-  unsized-held h = rw (plain-bytes-type t) (go (isObject (t .letter)) refl (number (typeBytes t)) refl)
-    where
-      go : (b : Bool) → isObject (t .letter) ≡ b → (m : Number) → number (typeBytes t) ≡ m → 0 ≡ saturated (typeBytes t)
-      go true e m q = omega (arith, object-none true e)
-      go false e (Number.Is k) q = let z = h ∙ bytes-by false e (Number.Is k) q in let y : _≡_ {A = ℕ} 0 1 = cc in absurd (omega arith)
-      go false e Number.Over q = let z = h ∙ bytes-by false e Number.Over q in let y : _≡_ {A = ℕ} 0 1 = cc in absurd (omega arith)
-
-  pub large-held : TooLarge ≡ numBytes t → 18446744073709551615 ≡ saturated (plainBytes t)
-  large-held h = rw (plain-bytes-type t) (go (isObject (t .letter)) refl (number (typeBytes t)) refl)
-    where
-      go : (b : Bool) → isObject (t .letter) ≡ b → (m : Number) → number (typeBytes t) ≡ m → 18446744073709551615 ≡ saturated (typeBytes t)
-      go true e m q = let z = h ∙ bytes-by true e m q in let y : _≡_ {A = ℕ} 0 1 = cc in absurd (omega arith)
-      go false e (Number.Is k) q = let z = h ∙ bytes-by false e (Number.Is k) q in let y : _≡_ {A = ℕ} 0 1 = cc in absurd (omega arith)
-      go false e Number.Over q = held-over (typeBytes t) (sym q)
-
 -- ---- objects
 pub object-here : (t : List ℕ) (e : ℕ) (x : Entry) → x ≡ entryAt t e → x .letter ≡ 79 → objectAt t e ≡ true
 object-here t e x s h = let z : entryAt t e .letter ≡ 79 = rw s at h in rw z
 
 pub no-object-here : (t : List ℕ) (e : ℕ) (x : Entry) → x ≡ entryAt t e → (x .letter ≡ 79 → ⊥) → objectAt t e ≡ false
 no-object-here t e x s h = ne-eqb (entryAt t e .letter) 79 (λ p. h (ap (λ (a : Entry). a .letter) s ∙ p))
+
+-- ---- an entry is its nine numbers
+pub entry-of : (y : Entry) {a b c d e f g h i : ℕ} → a ≡ y .parent → b ≡ y .kind → c ≡ y .order → d ≡ y .letter → e ≡ y .number → f ≡ y .units → g ≡ y .extent → h ≡ y .bytes → i ≡ y .name
+    → _≡_ {A = Entry} (record { parent = a; kind = b; order = c; letter = d; number = e; units = f; extent = g; bytes = h; name = i }) y
+entry-of y a b c d e f g h i = rw (a, b, c, d, e, f, g, h, i)

@@ -6,13 +6,15 @@ use counts::Items;
 use counts::Number;
 use dtype::Entry;
 use dtype::Order;
+use held::held_bytes;
+use held::held_product;
+use held::held_sum;
 use spelling::Endianness;
 use spelling::LetterRead;
 use spelling::OrderRead;
 use spelling::TimeUnits;
 use spelling::TypeChar;
 use spelling::UnitsRead;
-use type_str::TypeBytes;
 use type_str::TypeStr;
 use utf8::Text;
 ghost use mathlib.Core.Path.{_≡_};
@@ -24,8 +26,8 @@ ghost use Rattle.counts.specs.Outcome.{each};
 ghost use Rattle.spelling.specs.Spelling.{orderOf, letterOf};
 ghost use Rattle.spelling.specs.Answer.{orderAnswer, letterAnswer, unitsAnswer};
 ghost use Rattle.utf8.specs.Decode.{utf8};
-ghost use Rattle.dtype.specs.PlainBytes.{plainBytes, bytesOf};
-ghost use Rattle.dtype.specs.Flat.{saturated, entry-width};
+ghost use Rattle.dtype.specs.PlainBytes.{bytesOf};
+ghost use Rattle.dtype.specs.Flat.{entry-width};
 ghost use Rattle.dtype.specs.Limits.{over};
 ghost use Rattle.dtype.specs.Agrees.{entryAt, Bare, Array-agrees, Record-agrees, Agrees};
 ghost use Rattle.dtype.specs.Seen.{someFrom, objectAt, arraysFrom, fieldBytes, overAt};
@@ -159,36 +161,6 @@ fn units_of(n: u64) -> UnitsRead
         12 => UnitsRead::Units(TimeUnits::Femtosecond),
         13 => UnitsRead::Units(TimeUnits::Attosecond),
         _ => UnitsRead::NoUnits,
-    }
-}
-
-// A plain type's bytes as an entry holds them.
-fn held_bytes(t: TypeStr) -> u64
-    ensures { λ r. ⌜ r ≡ saturated (plainBytes t) ⌝ }
-{
-    match t.num_bytes() {
-        TypeBytes::Sized(n) => n.0,
-        TypeBytes::Unsized => 0,
-        TypeBytes::TooLarge => 18446744073709551615,
-    }
-}
-
-// Sums and products as an entry holds them.
-fn held_sum(a: u64, b: u64) -> u64
-    ensures { λ r. ⌜ r ≡ saturated (a + b) ⌝ }
-{
-    match counts::sum(a, b) {
-        Number::Is(n) => n,
-        Number::Over => 18446744073709551615,
-    }
-}
-
-fn held_product(a: u64, b: u64) -> u64
-    ensures { λ r. ⌜ r ≡ saturated (a * b) ⌝ }
-{
-    match counts::product(a, b) {
-        Number::Is(n) => n,
-        Number::Over => 18446744073709551615,
     }
 }
 

@@ -98,17 +98,9 @@ fn has_units(letter: TypeChar) -> bool
     ensures { λ r. ⌜ r ≡ hasUnits letter ⌝ }
 {
     match letter {
-        TypeChar::Bool => false,
-        TypeChar::Int => false,
-        TypeChar::Uint => false,
-        TypeChar::Float => false,
-        TypeChar::Complex => false,
         TypeChar::TimeDelta => true,
         TypeChar::DateTime => true,
-        TypeChar::ByteStr => false,
-        TypeChar::UnicodeStr => false,
-        TypeChar::Object => false,
-        TypeChar::RawData => false,
+        _ => false,
     }
 }
 

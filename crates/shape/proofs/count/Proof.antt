@@ -1,6 +1,7 @@
 -- `shape::count` meets its contract: the loop keeps `Counting`, and a product that does not fit is the count or a stride. The measure is what is left
 -- of the rank. Assumes nothing.
 use Prim.Native.Nat.{_-_}
+use mathlib.Core.Path.{sym, _∙_}
 use borrow.Author.Needs.{needs}
 use lib.ListN.{length}
 use Rattle.shape.proofs.Turns.{Counting, counting-start, counting-next, counting-over, counting-end}
@@ -37,7 +38,7 @@ enum-told c = search needs
 returns : tie.Need-returns Inv-loop μ-loop
 returns c =
     let l = c .before .before .before .before .before .before .loop in
-    counting-over _ _ (l .product) (l .k) _ (l .inv) (c .before .before .before .before .before .loop-test .taken) (c .before .before .before .before .visit .ensures .0) (cc)
+    counting-over _ _ (l .product) (l .k) _ (l .inv) (c .before .before .before .before .before .loop-test .taken) (c .before .before .before .before .visit .ensures .0) (sym (c .enum-told .given .1) ∙ c .before .before .product .ensures)
 
 add-k : tie.Need-add-k Inv-loop μ-loop
 add-k c = search needs
@@ -48,7 +49,7 @@ loop-less c = search needs
 loop-again : tie.Need-loop-again Inv-loop μ-loop
 loop-again c =
     let l = c .before .before .before .before .before .before .before .loop in
-    counting-next _ _ (l .product) (l .k) _ (l .inv) (c .before .before .before .before .before .before .loop-test .taken) (c .before .before .before .before .before .visit .ensures .0) _ (cc)
+    counting-next _ _ (l .product) (l .k) _ (l .inv) (c .before .before .before .before .before .before .loop-test .taken) (c .before .before .before .before .before .visit .ensures .0) _ (sym (c .before .next .given .1) ∙ c .before .before .before .product .ensures)
 
 returns-2 : tie.Need-returns-2 Inv-loop μ-loop
 returns-2 c = counting-end _ _ _ _ (c .before .loop .inv) (c .loop-test .left)

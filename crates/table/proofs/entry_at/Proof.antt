@@ -1,4 +1,5 @@
 -- `table::entry_at` meets its contract, number by number. Assumes nothing.
+use Rattle.table.proofs.Types.{entry-of}
 use borrow.Author.Needs.{needs}
 use Rattle.table.proofs.entry_at.Statement.{statement}
 use Rattle.table.proofs.entry_at.Tie as tie
@@ -31,7 +32,8 @@ number-at-requires-9 : tie.Need-number-at-requires-9
 number-at-requires-9 c κs = search needs
 
 returns : tie.Need-returns
-returns c = cc
+returns c =
+    entry-of _ (c .before .before .before .before .before .before .before .before .number-at .ensures) (c .before .before .before .before .before .before .before .number-at2 .ensures) (c .before .before .before .before .before .before .number-at3 .ensures) (c .before .before .before .before .before .number-at4 .ensures) (c .before .before .before .before .number-at5 .ensures) (c .before .before .before .number-at6 .ensures) (c .before .before .number-at7 .ensures) (c .before .number-at8 .ensures) (c .number-at9 .ensures)
 
 pub entry-at-spec : {M : Type 1} → statement M
 entry-at-spec =

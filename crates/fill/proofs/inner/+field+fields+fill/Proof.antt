@@ -29,7 +29,7 @@ use Rattle.fill.proofs.inner.fill.Kinds as fill-kinds
 use Rattle.fill.proofs.inner.+field+fields+fill.Lts-fill as fill-lts
 use Rattle.fill.proofs.inner.end_of.Reads as end-of-reads
 use Rattle.literal.proofs.gaps.gap_at.Reads as gap-at-reads
-use Rattle.fill.proofs.inner.held_sum.Reads as held-sum-reads
+use Rattle.held.proofs.held_sum.Reads as held-sum-reads
 use Rattle.fill.proofs.inner.is_string.Reads as is-string-reads
 use Rattle.literal.proofs.bytes.kind_of.Reads as kind-of-reads
 use Rattle.fill.proofs.inner.name_at.Reads as name-at-reads

@@ -1,7 +1,7 @@
 -- The invariant: the run from `from` on ends where the run from `at` on ends. A byte of the class stands in the text, since 256 is of neither class.
 -- Assumes nothing.
 use Prim.Native.Nat.{_-_}
-use mathlib.Core.Path.{_≡_, refl, sym, _∙_}
+use mathlib.Core.Path.{_≡_, refl, sym, ap, _∙_}
 use mathlib.Core.Bool.{true, false}
 use native.Mathlib.Omega.{arith}
 use lib.ListN.{length}
@@ -28,27 +28,35 @@ is-in-requires c κs = search needs
 
 add-at : tie.Need-add-at Inv-loop μ-loop
 add-at c =
-    let lt = class-in (c .before .before .before .before .before .args .class) (c .before .before .before .before .before .args .text .now) (c .before .before .before .loop .at) (cc) in
+    let class = c .before .before .before .before .before .args .class in
+    let s = c .before .before .before .before .before .args .text .now in
+    let at = c .before .before .before .loop .at in
+    let lt = class-in class s at (sym (c .before .is-in .ensures ∙ ap (isIn class) (c .before .before .peek .ensures)) ∙ c .if1 .taken) in
     omega arith
 
 loop-less : tie.Need-loop-less Inv-loop μ-loop
 loop-less c =
-    let lt = class-in (c .before .before .before .before .before .args .class) (c .before .before .before .before .before .args .text .now) (c .before .before .before .loop .at) (cc) in
+    let class = c .before .before .before .before .before .args .class in
+    let s = c .before .before .before .before .before .args .text .now in
+    let at = c .before .before .before .loop .at in
+    let lt = class-in class s at (sym (c .before .is-in .ensures ∙ ap (isIn class) (c .before .before .peek .ensures)) ∙ c .if1 .taken) in
     omega arith
 
 loop-again : tie.Need-loop-again Inv-loop μ-loop
 loop-again c =
+    let class = c .before .before .before .before .before .args .class in
     let s = c .before .before .before .before .before .args .text .now in
     let at = c .before .before .before .loop .at in
-    let h : isIn (c .before .before .before .before .before .args .class) (byteAt s at) ≡ true = cc in
-    c .before .before .before .loop .inv ∙ past-more (isIn (c .before .before .before .before .before .args .class)) s at (class-in (c .before .before .before .before .before .args .class) s at h) h
+    let h : isIn class (byteAt s at) ≡ true = sym (c .before .is-in .ensures ∙ ap (isIn class) (c .before .before .peek .ensures)) ∙ c .if1 .taken in
+    c .before .before .before .loop .inv ∙ past-more (isIn class) s at (class-in class s at h) h
 
 returns : tie.Need-returns Inv-loop μ-loop
 returns c =
+    let class = c .before .before .before .before .before .args .class in
     let s = c .before .before .before .before .before .args .text .now in
     let at = c .before .before .before .loop .at in
-    let h : isIn (c .before .before .before .before .before .args .class) (byteAt s at) ≡ false = cc in
-    sym (c .before .before .before .loop .inv ∙ past-stop (isIn (c .before .before .before .before .before .args .class)) s at h)
+    let h : isIn class (byteAt s at) ≡ false = sym (c .before .is-in .ensures ∙ ap (isIn class) (c .before .before .peek .ensures)) ∙ c .if1 .left in
+    sym (c .before .before .before .loop .inv ∙ past-stop (isIn class) s at h)
 
 pub pass-spec : {M : Type 1} → statement M
 pass-spec =

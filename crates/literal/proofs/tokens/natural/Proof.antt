@@ -1,6 +1,6 @@
 -- The first byte decides, as in the definition; a digit stands in the text, so the position behind it fits. Assumes nothing.
 use borrow.Author.Tests.{eq-eqb, ne-eqb}
-use mathlib.Core.Path.{_≡_, sym, _∙_}
+use mathlib.Core.Path.{_≡_, sym, ap, _∙_}
 use native.Mathlib.Omega.{arith}
 use mathlib.Core.Bool.{true}
 use lib.Dec.{lit<}
@@ -30,7 +30,7 @@ is-digit-requires c κs = search needs
 
 add-digits : tie.Need-add-digits
 add-digits c =
-    let h : isDigit (byteAt (c .before .before .before .before .before .args .text .now) (c .before .before .before .before .before .args .at)) ≡ true = cc in
+    let h : isDigit (byteAt (c .before .before .before .before .before .args .text .now) (c .before .before .before .before .before .args .at)) ≡ true = sym (c .before .is-digit .ensures ∙ ap isDigit (c .before .before .before .peek .ensures)) ∙ c .if2 .taken in
     let lt = class-in Digits (c .before .before .before .before .before .args .text .now) (c .before .before .before .before .before .args .at) h in
     omega arith
 

@@ -1,9 +1,9 @@
--- `table::held_bytes` meets its contract, by the three answers of `num_bytes`. Assumes nothing.
-use Rattle.table.proofs.Types.{sized-held, unsized-held, large-held}
+-- `held::held_bytes` meets its contract, by the three answers of `num_bytes`. Assumes nothing.
+use Rattle.held.proofs.Held.{sized-held, unsized-held, large-held}
 use mathlib.Core.Path.{sym, _∙_}
 use borrow.Author.Needs.{needs}
-use Rattle.table.proofs.held_bytes.Statement.{statement}
-use Rattle.table.proofs.held_bytes.Tie as tie
+use Rattle.held.proofs.held_bytes.Statement.{statement}
+use Rattle.held.proofs.held_bytes.Tie as tie
 
 num-bytes-requires : tie.Need-num-bytes-requires
 num-bytes-requires c κs = search needs
