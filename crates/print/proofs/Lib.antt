@@ -1,0 +1,5 @@
+pub mod Types
+pub mod Listing
+pub mod Walking
+pub mod Nesting
+pub mod Outcomes

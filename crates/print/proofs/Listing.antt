@@ -1,0 +1,109 @@
+-- A dtype that is listed in a table, from one entry to the next: its kind, its room, what is listed inside it. And the loop that writes array levels.
+-- Assumes nothing.
+use Prim.Native.Nat.{ℕ, suc, _+_, _*_, _<_, _≤_}
+use native.Mathlib.Omega.{arith}
+use mathlib.Core.Path.{_≡_, refl, sym, ap, _∙_}
+use mathlib.Core.List.{List, [], _∷_}
+use lib.ListN.{length, drop, length-drop}
+use lib.Seq.{sets}
+use Rattle.decimal.specs.Decimal.{printed}
+use Rattle.emit.specs.Emits.{Emits, capped}
+use Rattle.emit.proofs.Pieces.{emits-length}
+use Rattle.grammar.specs.Print.{printRow}
+use Rattle.dtype.specs.declared.Entry.{Entry}
+use Rattle.dtype.specs.Dtype.{Dtype, Fields, plain, array, record-of, end-of-fields, field-then}
+use Rattle.dtype.specs.Entries.{entriesOf, entriesIn}
+use Rattle.dtype.specs.Flat.{kindOf, numberOf, entryOf, entry-width, flats}
+use Rattle.dtype.specs.Agrees.{entryAt}
+use Rattle.dtype.proofs.Flat.{some-entry, flat-length}
+use Rattle.dtype.proofs.Stands.{stands-entry, stands-below, stands-after}
+use Rattle.record.specs.Layout.{dimensionRow, levelsOf}
+use Rattle.print.specs.Walk.{Listed, ListedIn}
+
+pub next-entry : (e : ℕ) → suc e ≡ e + 1
+next-entry e = omega arith
+
+module _ (t : List ℕ) (e : ℕ) where
+  pub listed-entry : (d : Dtype) (l : Listed t e d) → entryAt t e ≡ entryOf d (l .up) (l .name)
+  listed-entry d l = stands-entry d t e (l .up) (l .name) (l .rest) (l .is)
+
+  pub listed-room : (d : Dtype) → Listed t e d → entry-width * (e + entriesOf d) ≤ length t
+  listed-room d l = omega (arith, ap length (l .is), length-drop (entry-width * e) t, flat-length d e (l .up) (l .name) (l .rest), some-entry d)
+
+  pub listed-inner : (n : ℕ) (d : Dtype) → Listed t e (array n d) → Listed t (e + 1) d
+  listed-inner n d l =
+      rw (← (next-entry e))
+      (record { up = e; name = 0; rest = l .rest; is = stands-below (array n d) t e (l .up) (l .name) (l .rest) (l .is) })
+
+  pub listed-fields : (fs : Fields) → Listed t e (record-of fs) → ListedIn t (e + 1) fs
+  listed-fields fs l =
+      rw (← (next-entry e)) (record { up = e; rest = l .rest; is = stands-below (record-of fs) t e (l .up) (l .name) (l .rest) (l .is) })
+
+  abbrev pub listed-first : (name : List ℕ) (d : Dtype) (fs : Fields) → ListedIn t e (field-then name d fs) → Listed t e d
+  listed-first name d fs l = record { up = l .up; name = length name; rest = flats fs (e + entriesOf d) (l .up) (l .rest); is = l .is }
+
+  pub listed-later : (name : List ℕ) (d : Dtype) (fs : Fields) → ListedIn t e (field-then name d fs) → ListedIn t (e + entriesOf d) fs
+  listed-later name d fs l =
+      record { up = l .up; rest = l .rest; is = stands-after d t e (l .up) (length name) (flats fs (e + entriesOf d) (l .up) (l .rest)) (l .is) }
+
+-- ---- the loop of `put_levels`: what is left of the levels, and the kind and the number of the entry that comes next
+abbrev pub row : List ℕ → List ℕ → List ℕ
+row s x = printRow (dimensionRow 0 s) x
+
+pub record Levelling (t : List ℕ) (d : Dtype) (old : List ℕ) (at : ℕ) (out : List ℕ) (p c kind number : ℕ) : Type 0 where
+  pub inner : Dtype
+  pub listed : Listed t c inner
+  pub kind-is : kind ≡ kindOf inner
+  pub number-is : number ≡ numberOf inner
+  pub stored : (x : List ℕ) → sets out p (row (levelsOf inner) x) ≡ sets old at (row (levelsOf d) x)
+  pub behind : (x : List ℕ) → capped (p + length (row (levelsOf inner) x)) ≡ capped (at + length (row (levelsOf d) x))
+
+pub record Levels (t : List ℕ) (e : ℕ) (old : List ℕ) (at : ℕ) (out : List ℕ) (p c kind number : ℕ) : Type 0 where
+  pub same : length out ≡ length old
+  pub goes : (d : Dtype) → Listed t e d → Levelling t d old at out p c kind number
+
+pub levels-start : (t : List ℕ) (e : ℕ) (old : List ℕ) (at : ℕ) (x : Entry) → x ≡ entryAt t e → Levels t e old at old at e (x .kind) (x .number)
+levels-start t e old at x q =
+    record {
+      same = refl;
+      goes = λ d l.
+          let s = q ∙ listed-entry t e d l in
+          record { inner = d; listed = l; kind-is = ap (λ (a : Entry). a .kind) s; number-is = ap (λ (a : Entry). a .number) s; stored = λ x. refl; behind = λ x. refl };
+    }
+
+module _ (t : List ℕ) (e : ℕ) (old : List ℕ) (at : ℕ) (out : List ℕ) (p c kind number : ℕ) (w : Levels t e old at out p c kind number) where
+  pub levels-room : (d : Dtype) × Listed t e d → c < length t
+  levels-room (d, l) = let g = w .goes d l in omega (arith, listed-room t c (g .inner) (g .listed), some-entry (g .inner))
+
+  pub levels-more : kind ≡ 1 → (out′ : List ℕ) (p′ : ℕ) → Emits (λ x. printed number (44 ∷ x)) out p out′ p′ → (y : Entry) → y ≡ entryAt t (c + 1)
+      → Levels t e old at out′ p′ (c + 1) (y .kind) (y .number)
+  levels-more k out′ p′ h y q =
+      record { same = emits-length _ out p out′ p′ h ∙ w .same; goes = λ d l. let g = w .goes d l in go d (g .inner) (g .listed) (g .kind-is) (g .number-is) (g .stored) (g .behind) }
+    where
+      go : (d i : Dtype) → Listed t c i → kind ≡ kindOf i → number ≡ numberOf i
+          → ((x : List ℕ) → sets out p (row (levelsOf i) x) ≡ sets old at (row (levelsOf d) x))
+          → ((x : List ℕ) → capped (p + length (row (levelsOf i) x)) ≡ capped (at + length (row (levelsOf d) x)))
+          → Levelling t d old at out′ p′ (c + 1) (y .kind) (y .number)
+      go d (plain ty) l a b s r = absurd (omega arith)
+      go d (array n i) l a b s r =
+          let j = listed-inner t c n i l in
+          let v = q ∙ listed-entry t (c + 1) i j in
+          record {
+            inner = i;
+            listed = j;
+            kind-is = ap (λ (u : Entry). u .kind) v;
+            number-is = ap (λ (u : Entry). u .number) v;
+            stored = λ x. h .stored (row (levelsOf i) x) ∙ ap (λ (m : ℕ). sets out p (printed m (44 ∷ row (levelsOf i) x))) b ∙ s x;
+            behind = λ x. h .behind (row (levelsOf i) x) ∙ ap (λ (m : ℕ). capped (p + length (printed m (44 ∷ row (levelsOf i) x)))) b ∙ r x;
+          }
+      go d (record-of fs) l a b s r = absurd (omega arith)
+
+  pub levels-end : (kind ≡ 1 → ⊥) → (d : Dtype) → Listed t e d → Emits (printRow (dimensionRow 0 (levelsOf d))) old at out p
+  levels-end k d l = let g = w .goes d l in go (g .inner) (g .kind-is) (g .stored) (g .behind)
+    where
+      go : (i : Dtype) → kind ≡ kindOf i → ((x : List ℕ) → sets out p (row (levelsOf i) x) ≡ sets old at (row (levelsOf d) x))
+          → ((x : List ℕ) → capped (p + length (row (levelsOf i) x)) ≡ capped (at + length (row (levelsOf d) x)))
+          → Emits (printRow (dimensionRow 0 (levelsOf d))) old at out p
+      go (plain ty) a s r = record { stored = s; behind = r }
+      go (array n i) a s r = absurd (k a)
+      go (record-of fs) a s r = record { stored = s; behind = r }

@@ -1,0 +1,254 @@
+-- The walk that prints: a sub-shape, a plain type, an array, a record, and the loop over a record's fields, each from what the functions that it calls have
+-- written. Assumes nothing.
+use Prim.Native.Nat.{ℕ, suc, _+_, _-_, _*_, _<_, _≤_}
+use native.Mathlib.Omega.{arith}
+use mathlib.Core.Path.{_≡_, refl, sym, ap, _∙_, subst}
+use mathlib.Core.Bool.{false, not}
+use mathlib.Core.List.{List, [], _∷_, _++_}
+use borrow.Author.Tests.{not-false}
+use lib.ListN.{length, take, drop, length-drop, length-append}
+use lib.Seq.{sets, drop-drop, take-append-seam, drop-append-seam}
+use Rattle.counts.specs.Outcome.{gives}
+use Rattle.emit.specs.Emits.{Emits, capped}
+use Rattle.emit.proofs.Pieces.{emits-then, emits-same, emits-length}
+use Rattle.grammar.specs.Print.{Layout, quote, print, printRow}
+use Rattle.type_str.specs.declared.TypeStr.{TypeStr}
+use Rattle.type_str.specs.Text.{typeText, isType}
+use Rattle.dtype.specs.declared.Entry.{Entry}
+use Rattle.dtype.specs.Dtype.{Dtype, Fields, plain, array, record-of, end-of-fields, field-then}
+use Rattle.dtype.specs.Entries.{fieldCount, entriesOf, entriesIn, someEntryIn, plainOnly}
+use Rattle.dtype.specs.Names.{namesOf, namesIn, nameBytes, nameBytesIn}
+use Rattle.dtype.specs.Flat.{entryOf, entry-width}
+use Rattle.dtype.specs.Agrees.{entryAt}
+use Rattle.dtype.proofs.Flat.{some-entry, names-drop, names-length}
+use Rattle.dtype.proofs.Seen.{or-left, or-right}
+use Rattle.record.specs.Layout.{dimensionRow, levelsOf, fieldLayout, descrLayout, fieldRow}
+use Rattle.table.specs.Checked.{untyped}
+use Rattle.table.specs.EntryType.{typeOf}
+use Rattle.table.proofs.Types.{type-of-written}
+use Rattle.print.specs.declared.Spot.{Spot}
+use Rattle.print.specs.Walk.{subText, Listed, ListedIn, Stands, StandsIn, Walked}
+use Rattle.print.proofs.Listing.{listed-entry, listed-room, listed-inner, listed-fields, listed-first, listed-later}
+
+-- ---- `close_field`
+module _ (t : List ℕ) (e : ℕ) (x : Entry) (q : x ≡ entryAt t e) (old : List ℕ) (at : ℕ) (out : List ℕ) (p : ℕ) where
+  kind-of : (d : Dtype) (l : Listed t e d) → x .kind ≡ entryOf d (l .up) (l .name) .kind
+  kind-of d l = ap (λ (a : Entry). a .kind) (q ∙ listed-entry t e d l)
+
+  pub sub-none : (x .kind ≡ 1 → ⊥) → Emits (λ z. 41 ∷ 44 ∷ 32 ∷ z) old at out p → (d : Dtype) → Listed t e d
+      → Emits (λ z. subText (levelsOf d) (41 ∷ 44 ∷ 32 ∷ z)) old at out p
+  sub-none k h (plain ty) l = h
+  sub-none k h (array n d) l = absurd (k (kind-of (array n d) l))
+  sub-none k h (record-of fs) l = h
+
+  pub sub-some : x .kind ≡ 1 → (m₁ : List ℕ) (p₁ : ℕ) (m₂ : List ℕ) (p₂ : ℕ) → Emits (λ z. 44 ∷ 32 ∷ 40 ∷ z) old at m₁ p₁
+      → ((d : Dtype) → Listed t e d → Emits (printRow (dimensionRow 0 (levelsOf d))) m₁ p₁ m₂ p₂) → Emits (λ z. 41 ∷ 41 ∷ 44 ∷ 32 ∷ z) m₂ p₂ out p
+      → (d : Dtype) → Listed t e d → Emits (λ z. subText (levelsOf d) (41 ∷ 44 ∷ 32 ∷ z)) old at out p
+  sub-some k m₁ p₁ m₂ p₂ a b c (plain ty) l = absurd (omega (arith, kind-of (plain ty) l))
+  sub-some k m₁ p₁ m₂ p₂ a b c (array n d) l =
+      let row = printRow (dimensionRow 0 (levelsOf (array n d))) in
+      emits-then (λ z. 44 ∷ 32 ∷ 40 ∷ row z) (λ z. 41 ∷ 41 ∷ 44 ∷ 32 ∷ z) old at m₂ p₂ out p
+      (emits-then (λ z. 44 ∷ 32 ∷ 40 ∷ z) row old at m₁ p₁ m₂ p₂ a (b (array n d) l)) c
+  sub-some k m₁ p₁ m₂ p₂ a b c (record-of fs) l = absurd (omega (arith, kind-of (record-of fs) l))
+
+-- ---- `put_descr`
+module _ (t ns : List ℕ) (e b : ℕ) where
+  pub stands-room : (d : Dtype) → Stands t ns e b d → e < length t
+  stands-room d s = omega (arith, listed-room t e d (s .listed), some-entry d)
+
+  module _ (x : Entry) (q : x ≡ entryAt t e) where
+    entry-is : (d : Dtype) (s : Stands t ns e b d) → x ≡ entryOf d (s .listed .up) (s .listed .name)
+    entry-is d s = q ∙ listed-entry t e d (s .listed)
+
+    kind-is : (d : Dtype) (s : Stands t ns e b d) → x .kind ≡ entryOf d (s .listed .up) (s .listed .name) .kind
+    kind-is d s = ap (λ (a : Entry). a .kind) (entry-is d s)
+
+    type-is : (ty : TypeStr) → Stands t ns e b (plain ty) → typeOf x ≡ gives ty
+    type-is ty s =
+        let y = entry-is (plain ty) s in
+        type-of-written x ty
+        (record {
+          order = ap (λ (a : Entry). a .order) y;
+          letter = ap (λ (a : Entry). a .letter) y;
+          number = ap (λ (a : Entry). a .number) y;
+          units = ap (λ (a : Entry). a .units) y;
+        })
+        ∙ simp (not-false (isType ty) (s .typed))
+
+    pub plain-walked : x .kind ≡ 0 → (old : List ℕ) (at : ℕ) (out : List ℕ) (p : ℕ)
+        → ((ty : TypeStr) → typeOf x ≡ gives ty → Emits (print (quote (typeText ty []))) old at out p) → (d : Dtype) → Stands t ns e b d
+        → Walked (print (descrLayout d)) (entriesOf d) (nameBytes d) old e b at out (record { entry = e + 1; byte = b; at = p })
+    plain-walked k old at out p h (plain ty) s = record { emits = h ty (type-is ty s); next = refl; next-name = omega arith }
+    plain-walked k old at out p h (array n d) s = absurd (omega (arith, kind-is (array n d) s))
+    plain-walked k old at out p h (record-of fs) s = absurd (omega (arith, kind-is (record-of fs) s))
+
+    inner-stands : (n : ℕ) (d : Dtype) → Stands t ns e b (array n d) → Stands t ns (e + 1) b d
+    inner-stands n d s = record { listed = listed-inner t e n d (s .listed); later = s .later; named = s .named; inside = s .inside; typed = s .typed }
+
+    pub inner-asks : x .kind ≡ 1 → (d : Dtype) × Stands t ns e b d → (d : Dtype) × Stands t ns (e + 1) b d
+    inner-asks k (plain ty, s) = absurd (omega (arith, kind-is (plain ty) s))
+    inner-asks k (array n d, s) = (d, inner-stands n d s)
+    inner-asks k (record-of fs, s) = absurd (omega (arith, kind-is (record-of fs) s))
+
+    pub inner-walked : x .kind ≡ 1 → (old : List ℕ) (at : ℕ) (out : List ℕ) (r : Spot)
+        → ((d : Dtype) → Stands t ns (e + 1) b d → Walked (print (descrLayout d)) (entriesOf d) (nameBytes d) old (e + 1) b at out r)
+        → (d : Dtype) → Stands t ns e b d → Walked (print (descrLayout d)) (entriesOf d) (nameBytes d) old e b at out r
+    inner-walked k old at out r h (plain ty) s = absurd (omega (arith, kind-is (plain ty) s))
+    inner-walked k old at out r h (array n d) s =
+        let w = h d (inner-stands n d s) in record { emits = w .emits; next = omega (arith, w .next); next-name = w .next-name }
+    inner-walked k old at out r h (record-of fs) s = absurd (omega (arith, kind-is (record-of fs) s))
+
+    module _ (not-plain : x .kind ≡ 0 → ⊥) (not-array : x .kind ≡ 1 → ⊥) where
+      fields-stand : (fs : Fields) → Stands t ns e b (record-of fs) → StandsIn t ns (e + 1) b fs
+      fields-stand fs s = record { listed = listed-fields t e fs (s .listed); later = s .later; named = s .named; inside = s .inside; typed = s .typed }
+
+      count-is : (fs : Fields) → Stands t ns e b (record-of fs) → x .number ≡ fieldCount fs
+      count-is fs s = ap (λ (a : Entry). a .number) (entry-is (record-of fs) s)
+
+      pub fields-asks : (d : Dtype) × Stands t ns e b d → (fs : Fields) × (x .number ≡ fieldCount fs) × StandsIn t ns (e + 1) b fs
+      fields-asks (plain ty, s) = absurd (not-plain (kind-is (plain ty) s))
+      fields-asks (array n d, s) = absurd (not-array (kind-is (array n d) s))
+      fields-asks (record-of fs, s) = (fs, count-is fs s, fields-stand fs s)
+
+      pub record-walked : (old : List ℕ) (at : ℕ) (m₁ : List ℕ) (p₁ : ℕ) (m₂ : List ℕ) (r : Spot) (out : List ℕ) (p : ℕ) → Emits (λ z. 91 ∷ z) old at m₁ p₁
+          → ((fs : Fields) → x .number ≡ fieldCount fs → StandsIn t ns (e + 1) b fs → Walked (printRow (fieldRow fs)) (entriesIn fs) (nameBytesIn fs) m₁ (e + 1) b p₁ m₂ r)
+          → Emits (λ z. 93 ∷ z) m₂ (r .at) out p → (d : Dtype) → Stands t ns e b d
+          → Walked (print (descrLayout d)) (entriesOf d) (nameBytes d) old e b at out (record { entry = r .entry; byte = r .byte; at = p })
+      record-walked old at m₁ p₁ m₂ r out p a f c (plain ty) s = absurd (not-plain (kind-is (plain ty) s))
+      record-walked old at m₁ p₁ m₂ r out p a f c (array n d) s = absurd (not-array (kind-is (array n d) s))
+      record-walked old at m₁ p₁ m₂ r out p a f c (record-of fs) s =
+          let w = f fs (count-is fs s) (fields-stand fs s) in
+          let row = printRow (fieldRow fs) in
+          record {
+            emits = emits-then (λ z. 91 ∷ row z) (λ z. 93 ∷ z) old at m₂ (r .at) out p (emits-then (λ z. 91 ∷ z) row old at m₁ p₁ m₂ (r .at) a (w .emits)) c;
+            next = omega (arith, w .next);
+            next-name = w .next-name;
+          }
+
+-- ---- `put_fields`
+-- a field's text, in the pieces that the code writes
+field-text : (name : List ℕ) (l : Layout) (s z : List ℕ)
+    → 40 ∷ print (quote name) (44 ∷ 32 ∷ print l (subText s (41 ∷ 44 ∷ 32 ∷ z))) ≡ print (fieldLayout name l s) (44 ∷ 32 ∷ z)
+field-text name l [] z = refl
+field-text name l (n ∷ s) z = refl
+
+-- what is left of the fields, and where they stand
+pub record Going (t ns : List ℕ) (e b : ℕ) (old : List ℕ) (at : ℕ) (out : List ℕ) (c start p left : ℕ) (fs : Fields) : Type 0 where
+  pub still : Fields
+  pub stands : StandsIn t ns c start still
+  pub counted : left ≡ fieldCount still
+  pub further : e ≤ c
+  pub entries : c + entriesIn still ≡ e + entriesIn fs
+  pub bytes : start + nameBytesIn still ≡ b + nameBytesIn fs
+  pub same : length out ≡ length old
+  pub stored : (z : List ℕ) → sets out p (printRow (fieldRow still) z) ≡ sets old at (printRow (fieldRow fs) z)
+  pub behind : (z : List ℕ) → capped (p + length (printRow (fieldRow still) z)) ≡ capped (at + length (printRow (fieldRow fs) z))
+
+pub going-start : (t ns : List ℕ) (e b : ℕ) (old : List ℕ) (at count : ℕ) (fs : Fields) → count ≡ fieldCount fs → StandsIn t ns e b fs
+    → Going t ns e b old at old e b at count fs
+going-start t ns e b old at count fs n s =
+    record { still = fs; stands = s; counted = n; further = omega arith; entries = refl; bytes = refl; same = refl; stored = λ z. refl; behind = λ z. refl }
+
+-- the next field: its name's place, and its dtype behind that
+pub record Next (t ns : List ℕ) (c start : ℕ) (x : Entry) (name : List ℕ) (d : Dtype) : Type 0 where
+  pub fits : start + x .name ≤ length ns
+  pub name-is : take (start + x .name - start) (drop start ns) ≡ name
+  pub inner : Stands t ns c (start + x .name) d
+
+module _ (t ns : List ℕ) (c start : ℕ) (x : Entry) (q : x ≡ entryAt t c) where
+  name-length : (name : List ℕ) (d : Dtype) (fs : Fields) → StandsIn t ns c start (field-then name d fs) → x .name ≡ length name
+  name-length name d fs s = ap (λ (a : Entry). a .name) (q ∙ listed-entry t c d (listed-first t c name d fs (s .listed)))
+
+  next-of : (name : List ℕ) (d : Dtype) (fs : Fields) → StandsIn t ns c start (field-then name d fs) → Next t ns c start x name d
+  next-of name d fs s =
+      let l = listed-first t c name d fs (s .listed) in
+      let y = namesOf d (namesIn fs (s .later)) in
+      let m = name-length name d fs s in
+      let z : start + x .name - start ≡ length name = omega arith in
+      record {
+        fits = omega (arith, s .inside, length-drop start ns, ap length (s .named), length-append name y);
+        name-is = rw (z, s .named) (take-append-seam name y);
+        inner =
+            record {
+              listed = l;
+              later = namesIn fs (s .later);
+              named = rw m (sym (drop-drop (length name) start ns) ∙ ap (λ (u : List ℕ). drop (length name) u) (s .named) ∙ drop-append-seam name y);
+              inside = omega (arith, s .inside, length-drop start ns, ap length (s .named), length-append name y);
+              typed = or-left (untyped d) (someEntryIn (plainOnly (λ ty. not (isType ty))) fs) (s .typed);
+            };
+      }
+
+  later-stands : (name : List ℕ) (d : Dtype) (fs : Fields) → StandsIn t ns c start (field-then name d fs) → (r : Spot) → r .entry ≡ c + entriesOf d
+      → r .byte ≡ start + x .name + nameBytes d → StandsIn t ns (r .entry) (r .byte) fs
+  unfolding next-of
+  later-stands name d fs s r u v =
+      let i = next-of name d fs s .inner in
+      let y = namesIn fs (s .later) in
+      rw (u, v)
+      (record {
+        listed = listed-later t c name d fs (s .listed);
+        later = s .later;
+        named = sym (drop-drop (nameBytes d) (start + x .name) ns) ∙ ap (λ (w : List ℕ). drop (nameBytes d) w) (i .named) ∙ names-drop d y;
+        inside = omega (arith, i .inside, length-drop (start + x .name) ns, ap length (i .named), names-length d y);
+        typed = or-right (untyped d) (someEntryIn (plainOnly (λ ty. not (isType ty))) fs) (s .typed);
+      })
+
+  module _ (e b : ℕ) (old : List ℕ) (at : ℕ) (out : List ℕ) (p left : ℕ) (fs : Fields) (g : Going t ns e b old at out c start p left fs) (more : 0 < left) where
+    -- what the calls of a turn ask
+    pub going-next : (name : List ℕ) × (d : Dtype) × Next t ns c start x name d
+    going-next = go (g .still) (g .counted) (g .stands)
+      where
+        go : (gs : Fields) → left ≡ fieldCount gs → StandsIn t ns c start gs → (name : List ℕ) × (d : Dtype) × Next t ns c start x name d
+        go end-of-fields n s = absurd (omega arith)
+        go (field-then name d gs) n s = (name, d, next-of name d gs s)
+
+    module _ (m₁ : List ℕ) (p₁ : ℕ) (m₂ : List ℕ) (r : Spot) (out′ : List ℕ) (p′ : ℕ)
+        (opened : Emits (λ z. 40 ∷ print (quote (take (start + x .name - start) (drop start ns))) (44 ∷ 32 ∷ z)) out p m₁ p₁)
+        (walked : (d : Dtype) → Stands t ns c (start + x .name) d → Walked (print (descrLayout d)) (entriesOf d) (nameBytes d) m₁ c (start + x .name) p₁ m₂ r)
+        (closed : (d : Dtype) → Listed t c d → Emits (λ z. subText (levelsOf d) (41 ∷ 44 ∷ 32 ∷ z)) m₂ (r .at) out′ p′) where
+      field-emits : (name : List ℕ) (d : Dtype) → Next t ns c start x name d → Emits (λ z. print (fieldLayout name (descrLayout d) (levelsOf d)) (44 ∷ 32 ∷ z)) out p out′ p′
+      field-emits name d n =
+          let head : List ℕ → List ℕ → List ℕ = λ w z. 40 ∷ print (quote w) (44 ∷ 32 ∷ z) in
+          let open-is : Emits (head name) out p m₁ p₁ = subst (λ (w : List ℕ). Emits (head w) out p m₁ p₁) (n .name-is) opened in
+          let inner = print (descrLayout d) in
+          emits-same (λ z. head name (inner (subText (levelsOf d) (41 ∷ 44 ∷ 32 ∷ z)))) (λ z. print (fieldLayout name (descrLayout d) (levelsOf d)) (44 ∷ 32 ∷ z)) out p out′ p′
+          (λ z. field-text name (descrLayout d) (levelsOf d) z)
+          (emits-then (λ z. head name (inner z)) (λ z. subText (levelsOf d) (41 ∷ 44 ∷ 32 ∷ z)) out p m₂ (r .at) out′ p′
+          (emits-then (head name) inner out p m₁ p₁ m₂ (r .at) open-is (walked d (n .inner) .emits))
+          (closed d (n .inner .listed)))
+
+      pub going-more : Going t ns e b old at out′ (r .entry) (r .byte) p′ (left - 1) fs
+      going-more = go (g .still) (g .counted) (g .stands) (g .entries) (g .bytes) (g .stored) (g .behind)
+        where
+          go : (gs : Fields) → left ≡ fieldCount gs → StandsIn t ns c start gs → c + entriesIn gs ≡ e + entriesIn fs → start + nameBytesIn gs ≡ b + nameBytesIn fs
+              → ((z : List ℕ) → sets out p (printRow (fieldRow gs) z) ≡ sets old at (printRow (fieldRow fs) z))
+              → ((z : List ℕ) → capped (p + length (printRow (fieldRow gs) z)) ≡ capped (at + length (printRow (fieldRow fs) z)))
+              → Going t ns e b old at out′ (r .entry) (r .byte) p′ (left - 1) fs
+          go end-of-fields n s u v k l = absurd (omega arith)
+          go (field-then name d gs) n s u v k l =
+              let y = next-of name d gs s in
+              let w = walked d (y .inner) in
+              let f = field-emits name d y in
+              let m = name-length name d gs s in
+              record {
+                still = gs;
+                stands = later-stands name d gs s r (w .next) (w .next-name);
+                counted = omega arith;
+                further = omega (arith, w .next, g .further);
+                entries = omega (arith, w .next);
+                bytes = omega (arith, w .next-name);
+                same = emits-length _ out p out′ p′ f ∙ g .same;
+                stored = λ z. f .stored (printRow (fieldRow gs) z) ∙ k z;
+                behind = λ z. f .behind (printRow (fieldRow gs) z) ∙ l z;
+              }
+
+pub going-end : (t ns : List ℕ) (e b : ℕ) (old : List ℕ) (at : ℕ) (out : List ℕ) (c start p left : ℕ) (fs : Fields) → Going t ns e b old at out c start p left fs → left ≤ 0
+    → Walked (printRow (fieldRow fs)) (entriesIn fs) (nameBytesIn fs) old e b at out (record { entry = c; byte = start; at = p })
+going-end t ns e b old at out c start p left fs g none = go (g .still) (g .counted) (g .entries) (g .bytes) (g .stored) (g .behind)
+  where
+    go : (gs : Fields) → left ≡ fieldCount gs → c + entriesIn gs ≡ e + entriesIn fs → start + nameBytesIn gs ≡ b + nameBytesIn fs
+        → ((z : List ℕ) → sets out p (printRow (fieldRow gs) z) ≡ sets old at (printRow (fieldRow fs) z))
+        → ((z : List ℕ) → capped (p + length (printRow (fieldRow gs) z)) ≡ capped (at + length (printRow (fieldRow fs) z)))
+        → Walked (printRow (fieldRow fs)) (entriesIn fs) (nameBytesIn fs) old e b at out (record { entry = c; byte = start; at = p })
+    go end-of-fields n u v k l = record { emits = record { stored = k; behind = l }; next = omega arith; next-name = omega arith }
+    go (field-then name d gs) n u v k l = absurd (omega arith)

@@ -1,0 +1,57 @@
+-- A dtype that stands in a table and its names, and what a walk over it writes and where it ends. Document 01, "The record": "The dtype table is listed depth
+-- first, left to right, parent first" and "Names are stored decoded, end to end in table order": so a walk that prints meets both in their order.
+-- Definitions only. Assumes nothing.
+use Prim.Native.Nat.{ℕ, _+_, _*_, _≤_}
+use mathlib.Core.Path.{_≡_}
+use mathlib.Core.Bool.{false, not}
+use mathlib.Core.List.{List, [], _∷_}
+use lib.ListN.{length, drop}
+use Rattle.emit.specs.Emits.{Emits}
+use Rattle.grammar.specs.Print.{print}
+use Rattle.type_str.specs.Text.{isType}
+use Rattle.dtype.specs.Dtype.{Dtype, Fields}
+use Rattle.dtype.specs.Entries.{someEntryIn, plainOnly}
+use Rattle.dtype.specs.Names.{namesOf, namesIn}
+use Rattle.dtype.specs.Flat.{entry-width, flat, flats}
+use Rattle.record.specs.Layout.{shapeLayout}
+use Rattle.table.specs.Checked.{untyped}
+use Rattle.print.specs.declared.Spot.{Spot}
+
+-- a field's sub-shape behind its type, in front of r: nothing where it has none
+abbrev pub subText : (levels : List ℕ) → List ℕ → List ℕ
+subText [] r = r
+subText (n ∷ ns) r = 44 ∷ 32 ∷ print (shapeLayout 0 (n ∷ ns)) r
+
+-- d is listed in a table from entry e on
+pub record Listed (t : List ℕ) (e : ℕ) (d : Dtype) : Type 0 where
+  pub up : ℕ
+  pub name : ℕ
+  pub rest : List ℕ
+  pub is : drop (entry-width * e) t ≡ flat d e up name rest
+
+-- and so are fields
+pub record ListedIn (t : List ℕ) (e : ℕ) (fs : Fields) : Type 0 where
+  pub up : ℕ
+  pub rest : List ℕ
+  pub is : drop (entry-width * e) t ≡ flats fs e up rest
+
+-- d is listed from entry e on and its names from byte b on, and type strings give its types
+pub record Stands (t ns : List ℕ) (e b : ℕ) (d : Dtype) : Type 0 where
+  pub listed : Listed t e d
+  pub later : List ℕ
+  pub named : drop b ns ≡ namesOf d later
+  pub inside : b ≤ length ns
+  pub typed : untyped d ≡ false
+
+pub record StandsIn (t ns : List ℕ) (e b : ℕ) (fs : Fields) : Type 0 where
+  pub listed : ListedIn t e fs
+  pub later : List ℕ
+  pub named : drop b ns ≡ namesIn fs later
+  pub inside : b ≤ length ns
+  pub typed : someEntryIn (plainOnly (λ t. not (isType t))) fs ≡ false
+
+-- the text f was written behind `at`, and so many entries and name bytes were passed
+pub record Walked (f : List ℕ → List ℕ) (entries bytes : ℕ) (old : List ℕ) (e b at : ℕ) (out : List ℕ) (r : Spot) : Type 0 where
+  pub emits : Emits f old at out (r .at)
+  pub next : r .entry ≡ e + entries
+  pub next-name : r .byte ≡ b + bytes

@@ -1,0 +1,185 @@
+// The walk over a table: `put_descr` and `put_fields` call each other in a cycle, and so do `within` and `fields_within`. Entries and names are met in
+// their order. What stands between the names and types of the text is written by small functions, `open_field`, `close_field` and `put_type`.
+use super::Spot;
+use dtype::ARRAY;
+use dtype::Entry;
+use dtype::PLAIN;
+use table::EntryType;
+ghost use mathlib.Core.Path.{_≡_};
+ghost use mathlib.Core.Bool.{cond};
+ghost use mathlib.Core.List.{[], _∷_};
+ghost use lib.Dec.{eqb};
+ghost use Rattle.counts.specs.Outcome.{gives};
+ghost use Rattle.emit.specs.Emits.{Emits};
+ghost use Rattle.grammar.specs.Print.{quote, print, printRow, valueOf, valuesOf};
+ghost use Rattle.type_str.specs.Text.{typeText};
+ghost use Rattle.type_str.specs.declared.TypeStr.{TypeStr};
+ghost use Rattle.dtype.specs.Dtype.{Dtype, Fields};
+ghost use Rattle.dtype.specs.Entries.{entriesOf, entriesIn, fieldCount};
+ghost use Rattle.dtype.specs.Names.{nameBytes, nameBytesIn};
+ghost use Rattle.record.specs.Layout.{dimensionRow, levelsOf, descrLayout, fieldRow};
+ghost use Rattle.record.specs.Within.{within as isWithin, allWithin};
+ghost use Rattle.table.specs.EntryType.{typeOf};
+ghost use Rattle.print.specs.Walk.{subText, Listed, ListedIn, Stands, StandsIn, Walked};
+
+// A type string in its quotes. An entry that has no type writes nothing.
+fn put_type(out: &mut [u8], at: usize, entry: Entry) -> usize
+    ensures { λ r. ⌜ ((t : TypeStr) → typeOf entry ≡ gives t → Emits (print (quote (typeText t []))) (now (out .entry)) at (now (out .exit)) r) ⌝ }
+{
+    let EntryType::Type(t) = table::type_of(entry) else {
+        return at;
+    };
+    let inside = emit::put(out, at, 39);
+    let behind = t.put(out, inside);
+    emit::put(out, behind, 39)
+}
+
+// What stands before a field's type: its bracket, its name, comma and space.
+fn open_field(out: &mut [u8], at: usize, name: &[u8]) -> usize
+    ensures { λ r. ⌜ Emits (λ x. 40 ∷ print (quote (now (name .entry))) (44 ∷ 32 ∷ x)) (now (out .entry)) at (now (out .exit)) r ⌝ }
+{
+    let inside = emit::put(out, at, 40);
+    let behind = quote::put_quoted(out, inside, name);
+    emit::put_bytes(out, behind, b", ")
+}
+
+// The array levels from entry e on, outermost first, each followed by a comma.
+fn put_levels(out: &mut [u8], at: usize, table: &[u64], e: usize) -> usize
+    requires { ⌜ ((d : Dtype) × Listed (now table) e d) ⌝ }
+    ensures { λ r. ⌜ ((d : Dtype) → Listed (now (table .entry)) e d → Emits (printRow (dimensionRow 0 (levelsOf d))) (now (out .entry)) at (now (out .exit)) r) ⌝ }
+{
+    let mut p = at;
+    let mut c = e;
+    let first = table::entry_at(table, e);
+    let mut kind = first.kind;
+    let mut number = first.number;
+    while kind == ARRAY {
+        p = quote::put_dimension(out, p, number);
+        c += 1;
+        let next = table::entry_at(table, c);
+        kind = next.kind;
+        number = next.number;
+    }
+    p
+}
+
+// What stands behind a field's type: its sub-shape where it has one, its bracket, comma and space.
+fn close_field(out: &mut [u8], at: usize, table: &[u64], e: usize) -> usize
+    requires { ⌜ ((d : Dtype) × Listed (now table) e d) ⌝ }
+    ensures { λ r. ⌜ ((d : Dtype) → Listed (now (table .entry)) e d → Emits (λ x. subText (levelsOf d) (41 ∷ 44 ∷ 32 ∷ x)) (now (out .entry)) at (now (out .exit)) r) ⌝ }
+{
+    let entry = table::entry_at(table, e);
+    if entry.kind == ARRAY {
+        let inside = emit::put_bytes(out, at, b", (");
+        let behind = put_levels(out, inside, table, e);
+        return emit::put_bytes(out, behind, b")), ");
+    }
+    emit::put_bytes(out, at, b"), ")
+}
+
+// The text of the dtype at entry e, its names from byte b on. Array levels are their field's to write.
+pub fn put_descr(table: &[u64], names: &[u8], e: usize, b: usize, out: &mut [u8], at: usize) -> Spot
+    requires { ⌜ ((d : Dtype) × Stands (now table) (now names) e b d) ⌝ }
+    ensures { λ r. ⌜ ((d : Dtype) → Stands (now (table .entry)) (now (names .entry)) e b d → Walked (print (descrLayout d)) (entriesOf d) (nameBytes d) (now (out .entry)) e b at (now (out .exit)) r) ⌝ }
+{
+    let entry = table::entry_at(table, e);
+    if entry.kind == PLAIN {
+        let behind = put_type(out, at, entry);
+        return Spot {
+            entry: e + 1,
+            byte: b,
+            at: behind,
+        };
+    }
+    if entry.kind == ARRAY {
+        return put_descr(table, names, e + 1, b, out, at);
+    }
+    let inside = emit::put(out, at, 91);
+    let last = put_fields(table, names, entry.number, e + 1, b, out, inside);
+    let behind = emit::put(out, last.at, 93);
+    Spot {
+        entry: last.entry,
+        byte: last.byte,
+        at: behind,
+    }
+}
+
+// So many fields, the first at entry e, their names from byte b on.
+fn put_fields(
+    table: &[u64],
+    names: &[u8],
+    count: u64,
+    e: usize,
+    b: usize,
+    out: &mut [u8],
+    at: usize,
+) -> Spot
+    requires { ⌜ ((fs : Fields) × (count ≡ fieldCount fs) × StandsIn (now table) (now names) e b fs) ⌝ }
+    ensures { λ r. ⌜ ((fs : Fields) → count ≡ fieldCount fs → StandsIn (now (table .entry)) (now (names .entry)) e b fs → Walked (printRow (fieldRow fs)) (entriesIn fs) (nameBytesIn fs) (now (out .entry)) e b at (now (out .exit)) r) ⌝ }
+{
+    let mut c = e;
+    let mut start = b;
+    let mut p = at;
+    let mut left = count;
+    while 0 < left {
+        let field = table::entry_at(table, c);
+        let end = start + field.name as usize;
+        let opened = open_field(out, p, &names[start..end]);
+        let inner = put_descr(table, names, c, end, out, opened);
+        p = close_field(out, inner.at, table, c);
+        c = inner.entry;
+        start = inner.byte;
+        left -= 1;
+    }
+    Spot {
+        entry: c,
+        byte: start,
+        at: p,
+    }
+}
+
+// Whether at most k brackets are open at once in the text of the dtype at entry e.
+pub fn within(table: &[u64], e: usize, k: u64) -> bool
+    requires { ⌜ ((d : Dtype) × Listed (now table) e d) ⌝ }
+    ensures { λ r. ⌜ ((d : Dtype) → Listed (now (table .entry)) e d → r ≡ isWithin (valueOf (descrLayout d)) k) ⌝ }
+{
+    let entry = table::entry_at(table, e);
+    if entry.kind == PLAIN {
+        return true;
+    }
+    if entry.kind == ARRAY {
+        return within(table, e + 1, k);
+    }
+    if k == 0 {
+        return false;
+    }
+    fields_within(table, entry.number, e + 1, k - 1)
+}
+
+// The same of so many fields, the first at entry e.
+fn fields_within(table: &[u64], count: u64, e: usize, k: u64) -> bool
+    requires { ⌜ ((fs : Fields) × (count ≡ fieldCount fs) × ListedIn (now table) e fs) ⌝ }
+    ensures { λ r. ⌜ ((fs : Fields) → count ≡ fieldCount fs → ListedIn (now (table .entry)) e fs → r ≡ allWithin (valuesOf (fieldRow fs)) k) ⌝ }
+{
+    let mut c = e;
+    let mut left = count;
+    while 0 < left {
+        let field = table::entry_at(table, c);
+        if k < brackets(field.kind) {
+            return false;
+        }
+        if !within(table, c, k - 1) {
+            return false;
+        }
+        c += field.extent as usize;
+        left -= 1;
+    }
+    true
+}
+
+// How many brackets a field opens beside those of its type: one, and one in it for a sub-shape.
+fn brackets(kind: u64) -> u64
+    ensures { λ r. ⌜ r ≡ cond (eqb kind 1) 2 1 ⌝ }
+{
+    if kind == ARRAY { 2 } else { 1 }
+}
