@@ -2,6 +2,7 @@
 record (its field's, from 0) or array level; sub-arrays go row by row." """
 import reader
 import rule
+import writer
 
 
 def inside(found, path):
@@ -29,3 +30,36 @@ def place(record, length, index, path):
     if found == 26:
         return 26
     return (record.data + size * sum(i * stride for i, stride in zip(index, record.strides())) + found[0], *found[1:])
+
+
+def given(table, names, shape, fortran, data):
+    """A caller's record, or the first of 27, 13, 20, 21, 22 that applies."""
+    try:
+        record = reader.Record()
+        record.dtype, record.shape, record.fortran, record.data = writer.dtype_of(table, names), shape, fortran, data
+        writer.limited(record.dtype, shape, fortran)
+        record.table = reader.table_of(record.dtype)
+        return record
+    except reader.Refused as refusal:
+        return refusal.args[0]
+
+
+def item_number(shape, fortran, index):
+    """The number of the item that an index names, or 13, 22, 26."""
+    if len(shape) > reader.MOST_DIMENSIONS:
+        return 13
+    strides = reader.strides(shape, fortran)
+    if reader.product(shape) > reader.MOST or any(stride > reader.MOST for stride in strides):
+        return 22
+    if len(index) != len(shape) or any(i >= n for i, n in zip(index, shape)):
+        return 26
+    return 'item %d' % sum(i * stride for i, stride in zip(index, strides))
+
+
+def element(record, file, index, path, read, room):
+    """"A string element is read after its place: 29, 23." `read` is elements.read_bytes or elements.read_points."""
+    found = place(record, len(file), index, path)
+    if isinstance(found, int):
+        return found
+    start, length, text = found
+    return read(rule.type_string(text.encode()), file[start:start + length], room)

@@ -1,7 +1,6 @@
--- Demand 3, over the answers of `place`: for a record that the check accepts, without an `O`, and a file that is long enough, each index in range and
--- each path is answered with a run inside the data area, all else with 26, and each byte of the data area belongs to exactly one index, path and byte of
--- the run that is answered for them. The answers are document 01's formula, of which the crate dtype shows this. Assumes nothing.
-use Prim.Native.Nat.{ℕ, _+_, _<_, _≤_}
+-- Demand 3 (specs/Demand.antt) holds of every record that the check accepts, without an `O`, in a file that is long enough. The answers are document 01's
+-- formula, of which the crate dtype shows it. Assumes nothing.
+use Prim.Native.Nat.{ℕ, _+_, _≤_}
 use mathlib.Core.Path.{_≡_, refl, ap, sym, _∙_}
 use mathlib.Core.Bool.{Bool, true, false, not}
 use mathlib.Core.List.{List}
@@ -23,27 +22,10 @@ use Rattle.dtype.proofs.Places.{run-inside, owned, owned-once}
 use Rattle.table.specs.Checked.{checkedRecord}
 use Rattle.places.specs.declared.Run.{Run}
 use Rattle.places.specs.Place.{runFrom, placed, placeOf}
+use Rattle.places.specs.Demand.{Named-by, Demand-3, Demanded}
 use Rattle.places.proofs.Sums.{range-of}
 use Rattle.places.proofs.Walks.{path-or-none, plain-path}
 use Rattle.places.proofs.Placing.{place-given}
-
--- the byte at b is named by an index, a path, and a byte of the run that is answered for them
-pub record Named-by (file start : ℕ) (t ns s : List ℕ) (o : Order) (b : ℕ) (a : Ask) : Type 0 where
-  pub answered-run : Run
-  pub answered : placeOf file start t ns s o (a .index) (a .path) ≡ gives answered-run
-  pub in-run : a .byte < answered-run .len .0
-  pub is-byte : answered-run .first .0 + a .byte ≡ b
-
-pub record Demand-3 (file start : ℕ) (t ns s : List ℕ) (o : Order) (r : Record) : Type 0 where
-  -- an index in range and a path are answered with a run inside the data area
-  pub inside : (x p : List ℕ) → In-range (r .shape) x → Path-to (r .dtype) p
-      → (u : Run) × (placeOf file start t ns s o x p ≡ gives u) × (start ≤ u .first .0) × (u .first .0 + u .len .0 ≤ start + dataBytes r)
-  -- all else with 26
-  pub nowhere : (x p : List ℕ) → (In-range (r .shape) x × Path-to (r .dtype) p → ⊥) → placeOf file start t ns s o x p ≡ refused 26
-  -- each byte of the data area is named
-  pub each-byte : (b : ℕ) → b < dataBytes r → (a : Ask) × Named-by file start t ns s o (start + b) a
-  -- and only once
-  pub once : (b : ℕ) (a a′ : Ask) → Named-by file start t ns s o b a → Named-by file start t ns s o b a′ → a ≡ a′
 
 module _ (file start : ℕ) (t ns s : List ℕ) (o : Order) (r : Record) (h : checkedRecord t ns s o ≡ gives r) (n : hasObject (r .dtype) ≡ false)
     (l : start + dataBytes r ≤ file) where
@@ -113,11 +95,14 @@ module _ (file start : ℕ) (t ns s : List ℕ) (o : Order) (r : Record) (h : ch
         is-byte = w .is-byte;
       }
 
-  pub demand-3 : Demand-3 file start t ns s o r
-  demand-3 =
+  holds : Demand-3 file start t ns s o r
+  holds =
       record {
         inside = all-inside;
         nowhere = all-nowhere;
         each-byte = λ b g. let a = owned start r b g in (a .0, named (start + b) (a .0) (a .1));
         once = λ b a a′ w w′. owned-once start r b a a′ (belongs b a w) (belongs b a′ w′);
       }
+
+pub demand-3 : Demanded
+demand-3 = holds

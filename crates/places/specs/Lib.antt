@@ -1,3 +1,4 @@
 pub mod Place
 pub mod Answer
 pub mod Walk
+pub mod Demand

@@ -16,7 +16,7 @@ use Rattle.slice.specs.declared.PointsRead.{PointsRead}
 use Rattle.slice.specs.declared.Wrote.{Wrote}
 
 -- an outcome is the answer and the room's final content
-owes-one : {A : Type 0} (answer : A → Outcome ℕ) (back : Outcome ℕ → A) → ((x : A) → back (answer x) ≡ x) → (put : Outcome (List ℕ)) (room : List ℕ)
+pub owes-one : {A : Type 0} (answer : A → Outcome ℕ) (back : Outcome ℕ → A) → ((x : A) → back (answer x) ≡ x) → (put : Outcome (List ℕ)) (room : List ℕ)
     → OneOutcome {A = A × List ℕ} (λ r. Owes put room (answer (r .0)) (r .1))
 owes-one answer back same put room x y p q =
     beside (by-inverse answer back same (each length put)) (by-equation (after room put)) x y (p .answered, p .room-after) (q .answered, q .room-after)

@@ -1,0 +1,24 @@
+-- Document 01, "The refusal numbers": "A string element is read after its place: 29, 23." The element's bytes are those of its place; what they stand for, 26 for
+-- another type, 29 and 23 are Rooms.antt of the crate slice, and all refusals before them Place.antt of the crate places. Definitions only. Assumes nothing.
+use Prim.Native.Nat.{ℕ}
+use mathlib.Core.List.{List}
+use lib.ListN.{length, take, drop}
+use Rattle.counts.specs.Outcome.{Outcome, then}
+use Rattle.dtype.specs.declared.Order.{Order}
+use Rattle.places.specs.declared.Run.{Run}
+use Rattle.places.specs.Place.{placeOf}
+use Rattle.slice.specs.Rooms.{readBytes, readPoints}
+
+-- the bytes of a place
+abbrev pub bytesOf : (file : List ℕ) → Run → List ℕ
+bytesOf file u = take (u .len .0) (drop (u .first .0) file)
+
+-- ---- what goes to the room, or the first refusal
+
+-- of an element of S or V
+unfoldable pub elementBytes : (file : List ℕ) (start : ℕ) (table names shape : List ℕ) → Order → (index path room : List ℕ) → Outcome (List ℕ)
+elementBytes file start t ns s o x p room = then (placeOf (length file) start t ns s o x p) (λ u. readBytes (u .kind) (bytesOf file u) room)
+
+-- of an element of U
+unfoldable pub elementPoints : (file : List ℕ) (start : ℕ) (table names shape : List ℕ) → Order → (index path room : List ℕ) → Outcome (List ℕ)
+elementPoints file start t ns s o x p room = then (placeOf (length file) start t ns s o x p) (λ u. readPoints (u .kind) (bytesOf file u) room)
