@@ -14,7 +14,7 @@ use libc::STDOUT_FILENO;
 use places::ItemNumber;
 use places::Placed;
 use places::Run;
-use type_str::Endianness;
+use spelling::Endianness;
 use type_str::TypePrint;
 use type_str::TypeStr;
 ghost use Prim.Native.Nat.{_≤_};

@@ -1,0 +1,3 @@
+pub mod Housing
+pub mod Whole
+pub mod Outcomes

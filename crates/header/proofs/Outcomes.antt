@@ -1,0 +1,70 @@
+-- No second outcome satisfies the statements of `read` and `read_text`: an outcome is the answer and what the three rooms then hold. And which reading of
+-- literals is meant does not matter, if it keeps the promise of crate grammar. Assumes nothing.
+use Prim.Native.Nat.{ℕ}
+use native.Mathlib.Omega.{arith}
+use mathlib.Core.Path.{_≡_, refl, sym, ap, _∙_}
+use mathlib.Core.List.{List}
+use Rattle.counts.specs.Outcome.{Outcome, gives, refused}
+use Rattle.counts.specs.OneOutcome.{OneOutcome}
+use Rattle.counts.specs.declared.Bytes.{Bytes}
+use Rattle.refusal.specs.declared.Refusal.{Refusal}
+use Rattle.refusal.specs.Numbers.{numberOf}
+use Rattle.refusal.proofs.Names.{number-apart}
+use Rattle.record.specs.Version as version
+use Rattle.record.specs.Rooms.{Rooms, Lent}
+use Rattle.record.specs.Header.{Reading, Keeps, headerBy}
+use Rattle.record.proofs.OneHeader.{header-same}
+use Rattle.prefix.specs.declared.Version.{Version}
+use Rattle.prefix.specs.Answer.{versionIs}
+use Rattle.prefix.proofs.Outcomes.{version-apart}
+use Rattle.judge.specs.Judged.{reading}
+use Rattle.judge.proofs.Top.{reading-keeps}
+use Rattle.header.specs.declared.Said.{Said}
+use Rattle.header.specs.declared.TextRead.{TextRead}
+use Rattle.header.specs.declared.Header.{Header}
+use Rattle.header.specs.declared.HeaderRead.{HeaderRead}
+use Rattle.header.specs.Answer.{textAnswer, ReadsText, Told, headerIs, answer, Reads}
+
+module _ {A : Type 0} where
+  gives-apart : (a b : A) → _≡_ {A = Outcome A} (gives a) (gives b) → a ≡ b
+  gives-apart a b e = cc
+
+  refused-apart : (m n : ℕ) → _≡_ {A = Outcome A} (refused m) (refused n) → m ≡ n
+  refused-apart m n e = cc
+
+  never : {X : Type 0} (a : A) (n : ℕ) → _≡_ {A = Outcome A} (gives a) (refused n) → X
+  never a n e = absurd (let z : _≡_ {A = ℕ} 0 1 = cc in omega arith)
+
+-- ---- no two answers stand for the same
+text-apart : (x y : TextRead) → textAnswer x ≡ textAnswer y → x ≡ y
+text-apart (TextRead.Read s) (TextRead.Read u) e = ap TextRead.Read (gives-apart s u e)
+text-apart (TextRead.Read s) (TextRead.Refused g) e = never s (numberOf g) e
+text-apart (TextRead.Refused f) (TextRead.Read u) e = never u (numberOf f) (sym e)
+text-apart (TextRead.Refused f) (TextRead.Refused g) e = ap TextRead.Refused (number-apart f g (refused-apart {A = Said} (numberOf f) (numberOf g) e))
+
+header-eq : {v w : Version} {s u : Said} {a b : ℕ} → v ≡ w → s ≡ u → a ≡ b → _≡_ {A = Header} (record { version = v; said = s; start = record { 0 = a } }) (record { version = w; said = u; start = record { 0 = b } })
+header-eq hv hs ha = cc
+
+header-apart : (h k : Header) → headerIs h ≡ headerIs k → h ≡ k
+header-apart h k e =
+    header-eq (version-apart (h .version) (k .version) (ap (λ (t : Told). t .version) e)) (ap (λ (t : Told). t .said) e) (ap (λ (t : Told). t .data-start) e)
+
+apart : (x y : HeaderRead) → answer x ≡ answer y → x ≡ y
+apart (HeaderRead.Read h) (HeaderRead.Read k) e = ap HeaderRead.Read (header-apart h k (gives-apart (headerIs h) (headerIs k) e))
+apart (HeaderRead.Read h) (HeaderRead.Refused g) e = never (headerIs h) (numberOf g) e
+apart (HeaderRead.Refused f) (HeaderRead.Read k) e = never (headerIs k) (numberOf f) (sym e)
+apart (HeaderRead.Refused f) (HeaderRead.Refused g) e = ap HeaderRead.Refused (number-apart f g (refused-apart {A = Told} (numberOf f) (numberOf g) e))
+
+-- ---- the outcomes
+pair-eq : {A : Type 0} {x y : A} {l m : Lent} → x ≡ y → l ≡ m → _≡_ {A = A × Lent} (x, l) (y, m)
+pair-eq hx hl = cc
+
+pub read-one : (file : List ℕ) (l : Lent) → OneOutcome {A = HeaderRead × Lent} (λ o. Reads file l (o .0) (o .1))
+read-one file l x y p q = pair-eq (apart (x .0) (y .0) (p .answered ∙ sym (q .answered))) (p .after ∙ sym (q .after))
+
+pub read-text-one : (text : List ℕ) (l : Lent) → OneOutcome {A = TextRead × Lent} (λ o. ReadsText text l (o .0) (o .1))
+read-text-one text l x y p q = pair-eq (text-apart (x .0) (y .0) (p .answered ∙ sym (q .answered))) (p .after ∙ sym (q .after))
+
+-- ---- any reading that keeps the promise
+pub any-reading : (other : Reading) → Keeps other → (file : List ℕ) (rooms : Rooms) → headerBy reading file rooms ≡ headerBy other file rooms
+any-reading other k file rooms = header-same reading other reading-keeps k file rooms

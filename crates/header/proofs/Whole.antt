@@ -1,0 +1,149 @@
+-- From the judged text to the text read with lent rooms, from there to what stands behind a prefix, and to the whole file. Assumes nothing.
+use Prim.Native.Nat.{ℕ, _+_, _-_, _<_, _≤_}
+use native.Mathlib.Omega.{arith}
+use mathlib.Core.Path.{_≡_, refl, sym, ap, subst, _∙_}
+use mathlib.Core.List.{List}
+use mathlib.Core.Bool.{Bool, true, false}
+use lib.Dec.{ltb}
+use lib.ListN.{length, take, drop}
+use borrow.Author.Tests.{lt-ltb, le-ltb}
+use Rattle.counts.specs.Outcome.{Outcome, gives, refused, then, each, unless}
+use Rattle.refusal.specs.declared.Refusal.{Refusal}
+use Rattle.refusal.specs.Numbers.{numberOf}
+use Rattle.dtype.specs.Record.{Record}
+use Rattle.record.specs.Version.{Version, textStart, one-zero, two-zero, three-zero}
+use Rattle.record.specs.Prefix.{Prefix, dataStart, prefix, textOf}
+use Rattle.record.specs.Rooms.{Rooms, needs, tooSmall, Lent, roomsOf}
+use Rattle.record.specs.Header as header
+use Rattle.literal.specs.Text.{skip}
+use Rattle.prefix.specs.declared.Version as declared
+use Rattle.prefix.specs.declared.Prefix as before
+use Rattle.prefix.specs.declared.PrefixRead.{PrefixRead}
+use Rattle.prefix.specs.Answer as prefixes
+use Rattle.prefix.specs.Answer.{versionIs, prefixIs}
+use Rattle.judge.specs.declared.Plan.{Plan}
+use Rattle.judge.specs.declared.Judged.{Judged}
+use Rattle.judge.specs.Judged.{reading, PlanOf, JudgedIs}
+use Rattle.header.specs.declared.Said.{Said}
+use Rattle.header.specs.declared.TextRead.{TextRead}
+use Rattle.header.specs.declared.HeaderRead.{HeaderRead}
+use Rattle.header.specs.Answer.{saidOf, textAnswer, roomed, textInto, filled, Houses, ReadsText, Told, told, answer, behind, ReadsBehind, Reads}
+
+-- ---- the text
+module _ (text : List ℕ) (j : Judged) (h : JudgedIs text (skip text 0) j (header.recordIn reading text)) where
+  plan-of : (plan : Plan) (o : Outcome Record) → JudgedIs text (skip text 0) (Judged.Fits plan) o → (r : Record) × PlanOf text (skip text 0) plan r × (o ≡ gives r)
+  plan-of plan (gives r) k = (r, k, refl)
+  plan-of plan (refused n) k = absurd k
+
+  fits : (plan : Plan) → j ≡ Judged.Fits plan → (r : Record) × PlanOf text (skip text 0) plan r × (header.recordIn reading text ≡ gives r)
+  fits plan e = plan-of plan (header.recordIn reading text) (subst (λ (x : Judged). JudgedIs text (skip text 0) x (header.recordIn reading text)) e h)
+
+  pub text-plan : (plan : Plan) → j ≡ Judged.Fits plan → (r : Record) × PlanOf text (skip text 0) plan r
+  text-plan plan e = let x = fits plan e in (x .0, x .1)
+
+  pub text-housed : (plan : Plan) (l : Lent) (x : TextRead) (l′ : Lent) → j ≡ Judged.Fits plan → ((r : Record) → PlanOf text (skip text 0) plan r → Houses r l x l′) → ReadsText text l x l′
+  text-housed plan l x l′ e k =
+      let y = fits plan e in
+      let a = k (y .0) (y .1) in
+      let same : textInto text l ≡ roomed (roomsOf l) (y .0) = ap (λ (o : Outcome Record). then o (roomed (roomsOf l))) (y .2) in
+      record { answered = a .answered ∙ ap (each saidOf) (sym same); after = a .after ∙ ap (λ (o : Outcome Record). filled o l) (sym same) }
+
+  none-of : (f : Refusal) (o : Outcome Record) → JudgedIs text (skip text 0) (Judged.Refused f) o → o ≡ refused (numberOf f)
+  none-of f (gives r) k = absurd k
+  none-of f (refused n) k = ap refused (sym k)
+
+  pub text-refused : (f : Refusal) (l : Lent) → j ≡ Judged.Refused f → ReadsText text l (TextRead.Refused f) l
+  text-refused f l e =
+      let z = none-of f (header.recordIn reading text) (subst (λ (x : Judged). JudgedIs text (skip text 0) x (header.recordIn reading text)) e h) in
+      let same : textInto text l ≡ refused (numberOf f) = ap (λ (o : Outcome Record). then o (roomed (roomsOf l))) z in
+      record { answered = sym (ap (each saidOf) same); after = sym (ap (λ (o : Outcome Record). filled o l) same) }
+
+-- ---- behind the prefix
+pub start-small : (v : Version) → textStart v ≤ 12
+start-small one-zero = omega arith
+start-small two-zero = omega arith
+start-small three-zero = omega arith
+
+-- a record behind its prefix
+abbrev headed : Prefix → Record → header.Header
+headed p r = record { version = p .version; says = r; data-start = dataStart p }
+
+abbrev told-so : Prefix → Said → Told
+told-so p s = record { version = p .version; said = s; data-start = dataStart p }
+
+housed-is : (rooms : Rooms) (p : Prefix) (r : Record) → header.housed rooms p r ≡ each (headed p) (roomed rooms r)
+unfolding header.housed
+housed-is rooms p r = go (tooSmall rooms (needs r))
+  where
+    go : (b : Bool) → unless b 23 (gives (headed p r)) ≡ each (headed p) (unless b 23 (gives r))
+    go true = refl
+    go false = refl
+
+module _ (file : List ℕ) (p : Prefix) (l : Lent) where
+  abbrev words : List ℕ
+  words = take (p .text-length) (drop (textStart (p .version)) file)
+
+  record-then : (o : Outcome Record) → then o (header.housed (roomsOf l) p) ≡ each (headed p) (then o (roomed (roomsOf l)))
+  record-then (gives r) = housed-is (roomsOf l) p r
+  record-then (refused n) = refl
+
+  behind-is : dataStart p ≤ length file → behind file p l ≡ each (headed p) (textInto words l)
+  unfolding textOf
+  behind-is le = rw (le-ltb (length file) (dataStart p) le) (record-then (header.recordIn reading words))
+
+  told-each : (o : Outcome Record) → each told (each (headed p) o) ≡ each (told-so p) (each saidOf o)
+  told-each (gives r) = refl
+  told-each (refused n) = refl
+
+  filled-each : (o : Outcome Record) → header.filled (each (headed p) o) l ≡ filled o l
+  filled-each (gives r) = refl
+  filled-each (refused n) = refl
+
+  pub behind-3 : length file < dataStart p → ReadsBehind file p l (HeaderRead.Refused Refusal.Incomplete) l
+  unfolding textOf
+  behind-3 lt = let z = lt-ltb (length file) (dataStart p) lt in record { answered = rw z refl; after = rw z refl }
+
+  behind-by : dataStart p ≤ length file → (x : TextRead) (l′ : Lent) (y : HeaderRead) → ReadsText words l x l′ → answer y ≡ each (told-so p) (textAnswer x) → ReadsBehind file p l y l′
+  behind-by le x l′ y h e =
+      let o = textInto words l in
+      record {
+        answered = e ∙ ap (each (told-so p)) (h .answered) ∙ sym (told-each o) ∙ ap (each told) (sym (behind-is le));
+        after = h .after ∙ sym (filled-each o) ∙ ap (λ (z : Outcome header.Header). header.filled z l) (sym (behind-is le));
+      }
+
+-- the same, of what the code has in hand
+module _ (file : List ℕ) (p : before.Prefix) (l l′ : Lent) (start : ℕ) (at : start ≡ textStart (versionIs (p .version))) (le : start + p .length ≤ length file) (x : TextRead) (h : ReadsText (take (start + p .length - start) (drop start file)) l x l′) where
+  start-is : start + p .length ≡ dataStart (prefixIs p)
+  start-is = ap (λ (n : ℕ). n + p .length) at
+
+  words-read : ReadsText (words file (prefixIs p) l) l x l′
+  words-read =
+      let len : start + p .length - start ≡ p .length = omega arith in
+      subst (λ (s : List ℕ). ReadsText s l x l′) (ap (λ (n : ℕ). take n (drop start file)) len ∙ ap (λ (n : ℕ). take (p .length) (drop n file)) at) h
+
+  reaches : dataStart (prefixIs p) ≤ length file
+  reaches = subst (λ (n : ℕ). n ≤ length file) start-is le
+
+  pub behind-read : (s : Said) → x ≡ TextRead.Read s → ReadsBehind file (prefixIs p) l (HeaderRead.Read (record { version = p .version; said = s; start = record { 0 = start + p .length } })) l′
+  behind-read s e =
+      behind-by file (prefixIs p) l reaches x l′ _ words-read
+      (ap (λ (n : ℕ). gives (record { version = versionIs (p .version); said = s; data-start = n })) start-is ∙ sym (ap (λ (y : TextRead). each (told-so (prefixIs p)) (textAnswer y)) e))
+
+  pub behind-refused : (f : Refusal) → x ≡ TextRead.Refused f → ReadsBehind file (prefixIs p) l (HeaderRead.Refused f) l′
+  behind-refused f e = behind-by file (prefixIs p) l reaches x l′ (HeaderRead.Refused f) words-read (sym (ap (λ (y : TextRead). each (told-so (prefixIs p)) (textAnswer y)) e))
+
+-- ---- the file
+module _ (file : List ℕ) (l : Lent) where
+  header-then : (o : Outcome Prefix) → prefix file ≡ o → header.headerInto reading file l ≡ then o (λ p. behind file p l)
+  unfolding header.headerBy
+  header-then o e = ap (λ (x : Outcome Prefix). then x (λ p. behind file p l)) e
+
+  pub file-read : (p : Prefix) (x : HeaderRead) (l′ : Lent) → gives p ≡ prefix file → ReadsBehind file p l x l′ → Reads file l x l′
+  file-read p x l′ e h =
+      let z = header-then (gives p) (sym e) in
+      record { answered = h .answered ∙ ap (each told) (sym z); after = h .after ∙ ap (λ (o : Outcome header.Header). header.filled o l) (sym z) }
+
+  pub file-refused : (f : Refusal) → refused (numberOf f) ≡ prefix file → Reads file l (HeaderRead.Refused f) l
+  file-refused f e =
+      let z = header-then (refused (numberOf f)) (sym e) in
+      record { answered = ap (each told) (sym z); after = ap (λ (o : Outcome header.Header). header.filled o l) (sym z) }

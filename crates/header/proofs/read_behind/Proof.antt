@@ -1,0 +1,92 @@
+-- The text that the prefix says, or 3. Assumes nothing.
+use Prim.Native.Nat.{_+_, _<_}
+use native.Mathlib.Omega.{arith}
+use mathlib.Core.Path.{subst}
+use lib.ListN.{length}
+use Rattle.prefix.specs.Answer.{versionIs, prefixIs}
+use Rattle.header.specs.Answer.{lent}
+use Rattle.header.proofs.Whole.{start-small, behind-3, behind-read, behind-refused}
+use borrow.Author.Needs.{needs}
+use Rattle.header.proofs.read_behind.Statement.{statement}
+use Rattle.header.proofs.read_behind.Tie as tie
+
+text-start-requires : tie.Need-text-start-requires
+text-start-requires c κs = search needs
+
+add-end : tie.Need-add-end
+add-end c =
+    let v = c .before .before .before .before .before .before .args .p .version in
+    omega (arith, c .before .text-start .ensures, start-small (versionIs v), c .before .before .before .before .before .before .pre)
+
+returns : tie.Need-returns
+returns c =
+    let a = c .before .before .before .before .before .before .before .args in
+    behind-3 (a .file .now) (prefixIs (a .p)) (lent (a .table .now) (a .names .now) (a .shape .now)) (subst (λ n. length (a .file .now) < n + a .p .length) (c .before .before .text-start .ensures) (c .if1 .taken))
+
+sub-read-text : tie.Need-sub-read-text
+sub-read-text c = search needs
+
+part-read-text-start : tie.Need-part-read-text-start
+part-read-text-start c = search needs
+
+part-read-text-end : tie.Need-part-read-text-end
+part-read-text-end c = search needs
+
+read-text-requires : tie.Need-read-text-requires
+read-text-requires c κs = search needs
+
+enum-known-said : tie.Need-enum-known-said
+enum-known-said c = search needs
+
+enum-known-r : tie.Need-enum-known-r
+enum-known-r c = search needs
+
+same-length : tie.Need-same-length
+same-length c = search needs
+
+same-length-2 : tie.Need-same-length-2
+same-length-2 c = search needs
+
+same-length-3 : tie.Need-same-length-3
+same-length-3 c = search needs
+
+returns-2 : tie.Need-returns-2
+returns-2 c =
+    let a = c .before .before .before .before .before .before .before .before .before .before .before .before .before .before .before .before .before .before .before .before .before .args in
+    behind-read (a .file .now) (a .p) (lent (a .table .now) (a .names .now) (a .shape .now)) _ (c .before .before .before .before .before .before .before .before .before .before .before .before .before .before .before .before .text-start .result) (c .before .before .before .before .before .before .before .before .before .before .before .before .before .before .before .before .text-start .ensures) (c .before .before .before .before .before .before .before .before .before .before .before .before .before .before .if1 .left) (c .before .before .before .before .before .before .before .before .before .read-text .result) (c .before .before .before .before .before .before .before .before .before .read-text .ensures) _ (c .before .said .given .1)
+
+same-length-4 : tie.Need-same-length-4
+same-length-4 c = search needs
+
+same-length-5 : tie.Need-same-length-5
+same-length-5 c = search needs
+
+same-length-6 : tie.Need-same-length-6
+same-length-6 c = search needs
+
+returns-3 : tie.Need-returns-3
+returns-3 c =
+    let a = c .before .before .before .before .before .before .before .before .before .before .before .before .before .before .before .before .before .before .before .before .before .args in
+    behind-refused (a .file .now) (a .p) (lent (a .table .now) (a .names .now) (a .shape .now)) _ (c .before .before .before .before .before .before .before .before .before .before .before .before .before .before .before .before .text-start .result) (c .before .before .before .before .before .before .before .before .before .before .before .before .before .before .before .before .text-start .ensures) (c .before .before .before .before .before .before .before .before .before .before .before .before .before .before .if1 .left) (c .before .before .before .before .before .before .before .before .before .read-text .result) (c .before .before .before .before .before .before .before .before .before .read-text .ensures) _ (c .before .r .given .1)
+
+pub read-behind-spec : {M : Type 1} → statement M
+read-behind-spec =
+    tie.close
+    (tie.spec
+    text-start-requires
+    add-end
+    returns
+    sub-read-text
+    part-read-text-start
+    part-read-text-end
+    read-text-requires
+    enum-known-said
+    enum-known-r
+    same-length
+    same-length-2
+    same-length-3
+    returns-2
+    same-length-4
+    same-length-5
+    same-length-6
+    returns-3)

@@ -1,0 +1,87 @@
+-- What each answer of this crate stands for, and what the lent rooms then hold. Document 01, "The refusal numbers": "Each returns its number only; every
+-- lent buffer stays unchanged. On success, room beyond what was needed is unchanged." What a file and a text give is `headerInto` and `recordIn` of
+-- crate record, with the literal's own reading. Definitions only. Assumes nothing.
+use Prim.Native.Nat.{ℕ}
+use mathlib.Core.Path.{_≡_}
+use mathlib.Core.List.{List}
+use lib.ListN.{length}
+use Rattle.counts.specs.Outcome.{Outcome, gives, refused, then, each, unless}
+use Rattle.refusal.specs.Numbers.{numberOf}
+use Rattle.dtype.specs.Entries.{entriesOf}
+use Rattle.dtype.specs.Names.{nameBytes}
+use Rattle.dtype.specs.Record.{Record}
+use Rattle.record.specs.Version.{Version}
+use Rattle.record.specs.Prefix.{Prefix, textOf}
+use Rattle.record.specs.Rooms.{Rooms, needs, tooSmall, Lent, roomsOf, holding}
+use Rattle.record.specs.Header as header
+use Rattle.prefix.specs.Answer.{versionIs}
+use Rattle.judge.specs.Judged.{reading}
+use Rattle.header.specs.declared.Said.{Said}
+use Rattle.header.specs.declared.TextRead.{TextRead}
+use Rattle.header.specs.declared.Header.{Header}
+use Rattle.header.specs.declared.HeaderRead.{HeaderRead}
+
+-- the three lent rooms
+abbrev pub lent : (table names shape : List ℕ) → Lent
+lent t ns s = record { table = t; names = ns; shape = s }
+
+-- ---- a text
+-- what is said of a record beside the rooms
+abbrev pub saidOf : Record → Said
+saidOf r = record { order = r .order; rank = length (r .shape); entries = entriesOf (r .dtype); names = nameBytes (r .dtype) }
+
+abbrev pub textAnswer : TextRead → Outcome Said
+textAnswer (TextRead.Read s) = gives s
+textAnswer (TextRead.Refused r) = refused (numberOf r)
+
+-- 23, the last
+abbrev pub roomed : Rooms → Record → Outcome Record
+roomed rooms r = unless (tooSmall rooms (needs r)) 23 (gives r)
+
+-- the record of a text, read with three lent rooms
+abbrev pub textInto : (text : List ℕ) → Lent → Outcome Record
+textInto text l = then (header.recordIn reading text) (roomed (roomsOf l))
+
+-- the rooms then
+abbrev pub filled : Outcome Record → Lent → Lent
+filled (gives r) l = holding r l
+filled (refused n) l = l
+
+-- an accepted record and its rooms
+pub record Houses (r : Record) (l : Lent) (x : TextRead) (l′ : Lent) : Type 0 where
+  pub answered : textAnswer x ≡ each saidOf (roomed (roomsOf l) r)
+  pub after : l′ ≡ filled (roomed (roomsOf l) r) l
+
+pub record ReadsText (text : List ℕ) (l : Lent) (x : TextRead) (l′ : Lent) : Type 0 where
+  pub answered : textAnswer x ≡ each saidOf (textInto text l)
+  pub after : l′ ≡ filled (textInto text l) l
+
+-- ---- a file
+-- what is told of a header beside the rooms
+pub record Told : Type 0 where
+  pub version : Version
+  pub said : Said
+  pub data-start : ℕ
+
+abbrev pub told : header.Header → Told
+told h = record { version = h .version; said = saidOf (h .says); data-start = h .data-start }
+
+abbrev pub headerIs : Header → Told
+headerIs h = record { version = versionIs (h .version); said = h .said; data-start = h .start .0 }
+
+abbrev pub answer : HeaderRead → Outcome Told
+answer (HeaderRead.Read h) = gives (headerIs h)
+answer (HeaderRead.Refused r) = refused (numberOf r)
+
+-- what is behind the prefix
+abbrev pub behind : (file : List ℕ) → Prefix → Lent → Outcome header.Header
+behind file p l = then (textOf p file) (λ text. then (header.recordIn reading text) (header.housed (roomsOf l) p))
+
+pub record ReadsBehind (file : List ℕ) (p : Prefix) (l : Lent) (x : HeaderRead) (l′ : Lent) : Type 0 where
+  pub answered : answer x ≡ each told (behind file p l)
+  pub after : l′ ≡ header.filled (behind file p l) l
+
+-- the header that a file begins with
+pub record Reads (file : List ℕ) (l : Lent) (x : HeaderRead) (l′ : Lent) : Type 0 where
+  pub answered : answer x ≡ each told (header.headerInto reading file l)
+  pub after : l′ ≡ header.lentAfter reading file l

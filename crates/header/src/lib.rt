@@ -1,0 +1,123 @@
+// The header reader (document 01, "From first byte to text" and "The record"): any bytes and three lent rooms in, the header or one number out. Nothing is
+// written before the last refusal is ruled out. No public function here has a `requires`. What each answer stands for is in specs/Answer.antt.
+use counts::Bytes;
+use dtype::Order;
+use grammar::OPEN;
+use judge::Judged;
+use judge::Plan;
+use prefix::Prefix;
+use prefix::PrefixRead;
+use prefix::Version;
+use prefix::text_start;
+use refusal::Refusal;
+ghost use Prim.Native.Nat.{ℕ, _≤_};
+ghost use Rattle.dtype.specs.Record.{Record};
+ghost use Rattle.record.specs.Prefix.{most-text};
+ghost use Rattle.literal.specs.Text.{skip};
+ghost use Rattle.prefix.specs.Answer.{prefixIs};
+ghost use Rattle.judge.specs.Judged.{PlanOf};
+ghost use Rattle.header.specs.Answer.{lent, Reads, ReadsBehind, ReadsText, Houses};
+
+// What a record has beside its table, names and shape, which are in the lent rooms: its order, and how much of each room it takes.
+pub struct Said {
+    pub order: Order,
+    pub rank: usize,
+    pub entries: usize,
+    pub names: usize,
+}
+
+pub enum TextRead {
+    Read(Said),
+    Refused(Refusal),
+}
+
+// A file's header: its version, what its record has beside the lent rooms, and where the data starts.
+pub struct Header {
+    pub version: Version,
+    pub said: Said,
+    pub start: Bytes,
+}
+
+pub enum HeaderRead {
+    Read(Header),
+    Refused(Refusal),
+}
+
+// The header that a file begins with. Its record's table, names and shape are written to the front of the lent rooms.
+pub fn read(file: &[u8], table: &mut [u64], names: &mut [u8], shape: &mut [u64]) -> HeaderRead
+    ensures { λ r. ⌜ Reads (now (file .entry)) (lent (now (table .entry)) (now (names .entry)) (now (shape .entry))) r (lent (now (table .exit)) (now (names .exit)) (now (shape .exit))) ⌝ }
+{
+    match prefix::read(file) {
+        PrefixRead::Read(p) => read_behind(file, p, table, names, shape),
+        PrefixRead::Refused(r) => HeaderRead::Refused(r),
+    }
+}
+
+// The header behind its prefix.
+fn read_behind(
+    file: &[u8],
+    p: Prefix,
+    table: &mut [u64],
+    names: &mut [u8],
+    shape: &mut [u64],
+) -> HeaderRead
+    requires { ⌜ p .length ≤ most-text ⌝ }
+    ensures { λ r. ⌜ ReadsBehind (now (file .entry)) (prefixIs p) (lent (now (table .entry)) (now (names .entry)) (now (shape .entry))) r (lent (now (table .exit)) (now (names .exit)) (now (shape .exit))) ⌝ }
+{
+    let version = p.version;
+    let start = text_start(version);
+    let end = start + p.length;
+    if file.len() < end {
+        return HeaderRead::Refused(Refusal::Incomplete);
+    }
+    match read_text(&file[start..end], table, names, shape) {
+        TextRead::Read(said) => HeaderRead::Read(Header {
+            version: version,
+            said: said,
+            start: Bytes(end as u64),
+        }),
+        TextRead::Refused(r) => HeaderRead::Refused(r),
+    }
+}
+
+// The record of a header's text.
+pub fn read_text(text: &[u8], table: &mut [u64], names: &mut [u8], shape: &mut [u64]) -> TextRead
+    ensures { λ r. ⌜ ReadsText (now (text .entry)) (lent (now (table .entry)) (now (names .entry)) (now (shape .entry))) r (lent (now (table .exit)) (now (names .exit)) (now (shape .exit))) ⌝ }
+{
+    match judge::judge(text) {
+        Judged::Fits(plan) => house(text, plan, table, names, shape),
+        Judged::Refused(r) => TextRead::Refused(r),
+    }
+}
+
+// The parts of an accepted record, written to the lent rooms; or 23.
+fn house(
+    text: &[u8],
+    plan: Plan,
+    table: &mut [u64],
+    names: &mut [u8],
+    shape: &mut [u64],
+) -> TextRead
+    requires { ⌜ ((r : Record) × PlanOf (now text) (skip (now text) 0) plan r) ⌝ }
+    ensures { λ x. ⌜ ((r : Record) → PlanOf (now (text .entry)) (skip (now (text .entry)) 0) plan r → Houses r (lent (now (table .entry)) (now (names .entry)) (now (shape .entry))) x (lent (now (table .exit)) (now (names .exit)) (now (shape .exit)))) ⌝ }
+{
+    let order = plan.order;
+    let shaped = plan.shape;
+    let outline = shaped.outline;
+    let rank = outline.rank;
+    let descr = plan.descr;
+    let totals = descr.totals;
+    let entries = totals.entries as usize;
+    let bytes = totals.names as usize;
+    if (table.len() / dtype::ENTRY < entries) | (names.len() < bytes) | (shape.len() < rank) {
+        return TextRead::Refused(Refusal::Room);
+    }
+    fill::inner::fill(text, descr.at, OPEN - 1, table, 0, 0, 0, names, 0);
+    dims::inner::fill(text, shaped.at, OPEN - 1, shape);
+    TextRead::Read(Said {
+        order: order,
+        rank: rank,
+        entries: entries,
+        names: bytes,
+    })
+}

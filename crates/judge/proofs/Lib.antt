@@ -1,0 +1,4 @@
+pub mod Found
+pub mod Tests
+pub mod Top
+pub mod Outcomes

@@ -1,0 +1,122 @@
+-- What each answer of this crate stands for: document 01's number, or the record, of which the answer tells where its parts stand in the text. The record
+-- of a text is `recordIn` of crate record, with the literal's own reading. Definitions only. Assumes nothing.
+use Prim.Native.Nat.{ℕ, _-_}
+use mathlib.Core.Path.{_≡_}
+use mathlib.Core.List.{List}
+use mathlib.Core.Bool.{false}
+use Rattle.counts.specs.Outcome.{Outcome, gives, refused, then}
+use Rattle.grammar.specs.Value.{Value}
+use Rattle.refusal.specs.Numbers.{numberOf}
+use Rattle.dtype.specs.declared.Order.{Order}
+use Rattle.dtype.specs.Dtype.{Dtype}
+use Rattle.dtype.specs.Record.{Record}
+use Rattle.dtype.specs.Limits.{overDimensions, limited}
+use Rattle.record.specs.Parts.{itemsOr}
+use Rattle.record.specs.Dict.{key-order, key-shape, key-descr, needed}
+use Rattle.record.specs.Dimensions.{subShape, ranked, shapeOf}
+use Rattle.record.specs.Descr.{descrOf}
+use Rattle.record.specs.FromValue.{orderOf}
+use Rattle.record.specs.Header.{Reading}
+use Rattle.literal.specs.Node.{Node}
+use Rattle.literal.specs.Got.{Got, got}
+use Rattle.literal.specs.Forget.{forget, forgot}
+use Rattle.literal.specs.Literal.{value, literalOf, most-open}
+use Rattle.dims.specs.Answer.{valueOr}
+use Rattle.dims.specs.Outline.{outlineOf}
+use Rattle.dims.specs.declared.Outline.{Outline}
+use Rattle.keys.specs.Pairs.{nodeFor}
+use Rattle.descr.specs.Totals.{totalsOf}
+use Rattle.judge.specs.declared.Shape.{Shape}
+use Rattle.judge.specs.declared.Descr.{Descr}
+use Rattle.judge.specs.declared.Plan.{Plan}
+use Rattle.judge.specs.declared.Judged.{Judged}
+use Rattle.judge.specs.declared.OrderRead.{OrderRead}
+use Rattle.judge.specs.declared.ShapeRead.{ShapeRead}
+use Rattle.judge.specs.declared.DescrRead.{DescrRead}
+
+-- the literal's own reading; it keeps the promise of crate grammar (proofs/Top.antt)
+abbrev pub reading : Reading
+reading s = forgot (literalOf s)
+
+-- how many brackets may open inside the dict
+abbrev pub inside : ℕ
+inside = most-open - 1
+
+-- the value of the key w in the dict that was read, or 9
+abbrev pub neededAt : (w : List ℕ) → Got Node → Outcome Value
+neededAt w g = then (then (valueOr 9 g) (itemsOr 9)) (needed w)
+
+-- the order, the shape and the dtype of the dict that stands at a position, each or its refusal
+abbrev pub orderAt : (text : List ℕ) (at : ℕ) → Outcome Order
+orderAt text at = then (neededAt key-order (value most-open text at)) orderOf
+
+abbrev pub shapeAt : (text : List ℕ) (at : ℕ) → Outcome (List ℕ)
+shapeAt text at = then (neededAt key-shape (value most-open text at)) shapeOf
+
+abbrev pub dtypeAt : (text : List ℕ) (at : ℕ) → Outcome Dtype
+dtypeAt text at = then (neededAt key-descr (value most-open text at)) descrOf
+
+-- what is left of the order of reading behind the shape, and behind the order
+abbrev pub behindShape : (text : List ℕ) (at : ℕ) → Order → (shape : List ℕ) → Outcome Record
+behindShape text at o s = then (dtypeAt text at) (λ d. limited (record { dtype = d; shape = s; order = o }))
+
+abbrev pub behindOrder : (text : List ℕ) (at : ℕ) → Order → Outcome Record
+behindOrder text at o = then (shapeAt text at) (behindShape text at o)
+
+abbrev pub orderAnswer : OrderRead → Outcome Order
+orderAnswer (OrderRead.Is o) = gives o
+orderAnswer (OrderRead.Refused r) = refused (numberOf r)
+
+-- the place is that of the value that counts for the key w in the dict at `at`
+pub record Counts (text : List ℕ) (at : ℕ) (w : List ℕ) (place : ℕ) : Type 0 where
+  pub node : Node
+  pub end : ℕ
+  pub found : nodeFor w (value most-open text at) ≡ gives node
+  pub stands : value inside text place ≡ got node end
+
+-- the shape s stands at the place, and has this outline
+pub record ShapeOf (text : List ℕ) (at : ℕ) (p : Shape) (s : List ℕ) : Type 0 where
+  pub counts : Counts text at key-shape (p .at)
+  pub is : subShape (forget (counts .node)) ≡ gives s
+  pub few : overDimensions s ≡ false
+  pub outlined : p .outline ≡ outlineOf s
+
+-- the dtype d stands at the place, and has these totals
+pub record DescrOf (text : List ℕ) (at : ℕ) (p : Descr) (d : Dtype) : Type 0 where
+  pub counts : Counts text at key-descr (p .at)
+  pub is : descrOf (forget (counts .node)) ≡ gives d
+  pub totalled : p .totals ≡ totalsOf d
+
+pub record PlanOf (text : List ℕ) (at : ℕ) (p : Plan) (r : Record) : Type 0 where
+  pub ordered : p .order ≡ r .order
+  pub shaped : ShapeOf text at (p .shape) (r .shape)
+  pub typed : DescrOf text at (p .descr) (r .dtype)
+  pub within : limited r ≡ gives r
+
+-- ---- the answers
+abbrev pub ShapeIs : (text : List ℕ) (at : ℕ) → ShapeRead → Outcome (List ℕ) → Type 0
+ShapeIs text at (ShapeRead.Is p) (gives s) = ShapeOf text at p s
+ShapeIs text at (ShapeRead.Is p) (refused n) = ⊥
+ShapeIs text at (ShapeRead.Refused r) (gives s) = ⊥
+ShapeIs text at (ShapeRead.Refused r) (refused n) = numberOf r ≡ n
+
+abbrev pub DescrIs : (text : List ℕ) (at : ℕ) → DescrRead → Outcome Dtype → Type 0
+DescrIs text at (DescrRead.Is p) (gives d) = DescrOf text at p d
+DescrIs text at (DescrRead.Is p) (refused n) = ⊥
+DescrIs text at (DescrRead.Refused r) (gives d) = ⊥
+DescrIs text at (DescrRead.Refused r) (refused n) = numberOf r ≡ n
+
+abbrev pub JudgedIs : (text : List ℕ) (at : ℕ) → Judged → Outcome Record → Type 0
+JudgedIs text at (Judged.Fits p) (gives r) = PlanOf text at p r
+JudgedIs text at (Judged.Fits p) (refused n) = ⊥
+JudgedIs text at (Judged.Refused f) (gives r) = ⊥
+JudgedIs text at (Judged.Refused f) (refused n) = numberOf f ≡ n
+
+-- 13 for the shape, whichever shape has this outline
+abbrev pub RankedOf : (place : ℕ) → Outline → ShapeRead → Type 0
+RankedOf place o r = (text : List ℕ) (at : ℕ) (c : Counts text at key-shape place) (s : List ℕ) → o ≡ outlineOf s → subShape (forget (c .node)) ≡ gives s → ShapeIs text at r (ranked s)
+
+-- 13 for sub-shapes, 20, 21, 22, whichever text and record they are read from
+abbrev pub LimitsOf : Order → Shape → Descr → Judged → Type 0
+LimitsOf o p q r =
+    (text : List ℕ) (at : ℕ) (s : List ℕ) (d : Dtype) → ShapeOf text at p s → DescrOf text at q d → JudgedIs text at r (limited (record { dtype = d; shape = s; order = o }))

@@ -1,0 +1,71 @@
+-- No second outcome satisfies a statement of this crate's public functions; and a text that was said to be no longer than document 01 allows. Assumes nothing.
+use Prim.Native.Nat.{ℕ, _≤_}
+use mathlib.Core.Path.{_≡_, refl, sym, ap, _∙_}
+use mathlib.Core.List.{List}
+use mathlib.Core.Bool.{not, _||_}
+use lib.Dec.{ltb}
+use lib.ListN.{length, getD, take, drop}
+use borrow.Author.Tests.{ltb-false}
+use Rattle.counts.specs.Outcome.{Outcome, gives, refused, then, unless}
+use Rattle.counts.specs.OneOutcome.{OneOutcome}
+use Rattle.counts.specs.Same.{same}
+use Rattle.counts.proofs.OneOutcome.{by-equation, by-inverse}
+use Rattle.counts.proofs.Holds.{Holds, then-holds, unless-holds, holds-of}
+use Rattle.refusal.proofs.Names.{refusalOf, refusal-back}
+use Rattle.record.specs.Version as version
+use Rattle.record.specs.Prefix as before
+use Rattle.prefix.specs.declared.Version.{Version}
+use Rattle.prefix.specs.declared.Prefix.{Prefix}
+use Rattle.prefix.specs.declared.PrefixRead.{PrefixRead}
+use Rattle.prefix.specs.Answer.{versionIs, answer}
+
+versionBack : version.Version → Version
+versionBack version.one-zero = Version.OneZero
+versionBack version.two-zero = Version.TwoZero
+versionBack version.three-zero = Version.ThreeZero
+
+version-back : (v : Version) → versionBack (versionIs v) ≡ v
+unfolding versionBack
+version-back Version.OneZero = refl
+version-back Version.TwoZero = refl
+version-back Version.ThreeZero = refl
+
+back : Outcome before.Prefix → PrefixRead
+back (gives p) = PrefixRead.Read (record { version = versionBack (p .version); length = p .text-length })
+back (refused n) = PrefixRead.Refused (refusalOf n)
+
+same-back : (r : PrefixRead) → back (answer r) ≡ r
+unfolding back
+same-back (PrefixRead.Read p) = ap (λ (v : Version). PrefixRead.Read (record { version = v; length = p .length })) (version-back (p .version))
+same-back (PrefixRead.Refused r) = ap PrefixRead.Refused (refusal-back r)
+
+pub read-one : (file : List ℕ) → OneOutcome {A = PrefixRead} (λ r. answer r ≡ before.prefix file)
+read-one file = by-inverse answer back same-back (before.prefix file)
+
+pub text-start-one : (v : Version) → OneOutcome {A = ℕ} (λ r. r ≡ version.textStart (versionIs v))
+text-start-one v = by-equation (version.textStart (versionIs v))
+
+-- no version is told twice
+pub version-apart : (v w : Version) → versionIs v ≡ versionIs w → v ≡ w
+version-apart v w e = sym (version-back v) ∙ ap versionBack e ∙ version-back w
+
+-- 4 was not given
+abbrev Short : before.Prefix → Type 0
+Short p = p .text-length ≤ before.most-text
+
+length-holds : (v : version.Version) (file : List ℕ) → Holds Short (before.lengthRead v file)
+length-holds v file =
+    let n = before.little (take (version.lengthWidth v) (drop 8 file)) in
+    unless-holds Short (ltb (length file) (version.textStart v)) 3 _
+    (λ h. unless-holds Short (ltb before.most-text n) 4 _ (λ k. ltb-false before.most-text n k))
+
+any-version : (o : Outcome version.Version) → Holds (λ _. Unit {0}) o
+any-version (gives v) = tt
+any-version (refused n) = tt
+
+pub prefix-short : (file : List ℕ) (p : before.Prefix) → before.prefix file ≡ gives p → p .text-length ≤ before.most-text
+unfolding before.prefix
+prefix-short file p e =
+    holds-of Short (before.prefix file) p e
+    (unless-holds Short (ltb (length file) 8 || not (same (take 6 file) before.magic)) 1 _
+    (λ h. then-holds (λ _. Unit {0}) Short (version.versionOf (getD file 6 0) (getD file 7 0)) (λ v. before.lengthRead v file) (any-version (version.versionOf (getD file 6 0) (getD file 7 0))) (λ v u. length-holds v file)))
