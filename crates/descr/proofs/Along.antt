@@ -10,8 +10,8 @@ use denote.Enum.Declared.{tagOf}
 use types.Run.{OneOf, miss}
 use Rattle.counts.specs.Outcome.{Outcome, gives, refused, then, each}
 use Rattle.grammar.specs.Value.{Values, end-of-values, value-then}
-use Rattle.literal.specs.Node.{Node, nodes}
-use Rattle.literal.specs.Got.{Got, got, pos}
+use Rattle.tokens.specs.Node.{Node, nodes}
+use Rattle.tokens.specs.Got.{Got, got, pos}
 use Rattle.literal.specs.Literal.{value}
 use Rattle.literal.specs.Brackets.{gapAt, thenAt}
 use Rattle.literal.specs.Rows.{Stands, Row}
@@ -19,8 +19,8 @@ use Rattle.literal.specs.Forget.{forget, forgetAll}
 use Rattle.literal.specs.declared.gaps.Gap.{Gap}
 use Rattle.literal.specs.declared.gaps.Gap.the-variants.{Shut, Item, Stray}
 use Rattle.literal.proofs.gaps.Gap.{the-type}
-use Rattle.literal.specs.declared.Parsed.{Parsed}
-use Rattle.literal.specs.declared.Parsed.the-variants.{Value}
+use Rattle.tokens.specs.declared.Parsed.{Parsed}
+use Rattle.tokens.specs.declared.Parsed.the-variants.{Value}
 use Rattle.literal.proofs.Ends.{Ahead, value-ahead, then-ahead}
 use Rattle.literal.proofs.Rows.{row-step, row-shut, row-stray}
 use Rattle.literal.proofs.Steps.{gapLeft, gap-falls}

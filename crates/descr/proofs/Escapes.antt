@@ -14,13 +14,13 @@ use Rattle.counts.specs.Outcome.{Outcome, gives, refused, then, unless}
 use Rattle.counts.specs.Same.{same}
 use Rattle.grammar.specs.Bytes.{isBreak, isEscape, unescape}
 use Rattle.decimal.specs.Decimal.{isDigit, digitsOf, afterDigits}
-use Rattle.literal.specs.Text.{byteAt}
-use Rattle.literal.specs.Strings.{Spelled, escapeAt, pieceAt, ends, heard, pieces, spelled, scanned}
-use Rattle.literal.specs.declared.Parsed.the-variants.{Value, Fault}
-use Rattle.literal.specs.declared.strings.Scan.{Scan}
-use Rattle.literal.proofs.Positions.{getD-any}
-use Rattle.literal.specs.declared.strings.Piece.{Piece}
-use Rattle.literal.specs.declared.strings.Piece.the-variants.{Close, Byte, Bad}
+use Rattle.tokens.specs.Text.{byteAt}
+use Rattle.tokens.specs.Strings.{Spelled, escapeAt, pieceAt, ends, heard, pieces, spelled, scanned}
+use Rattle.tokens.specs.declared.Parsed.the-variants.{Value, Fault}
+use Rattle.tokens.specs.declared.strings.Scan.{Scan}
+use Rattle.tokens.proofs.Positions.{getD-any}
+use Rattle.tokens.specs.declared.strings.Piece.{Piece}
+use Rattle.tokens.specs.declared.strings.Piece.the-variants.{Close, Byte, Bad}
 use Rattle.spelling.specs.declared.Endianness.{Endianness}
 use Rattle.spelling.specs.declared.TypeChar.{TypeChar}
 use Rattle.type_str.specs.declared.TypeStr.{TypeStr}

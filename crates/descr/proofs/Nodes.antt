@@ -12,18 +12,18 @@ use Rattle.type_str.specs.TypeString.{typeString}
 use Rattle.dtype.specs.Dtype.{plain}
 use Rattle.grammar.specs.Value as value
 use Rattle.dims.specs.Walk.{closingOf}
-use Rattle.literal.specs.Node.{Node, string, integer, True, False, None, list, tuple, dict}
-use Rattle.literal.specs.Got.{Got, got, pos}
+use Rattle.tokens.specs.Node.{Node, string, integer, True, False, None, list, tuple, dict}
+use Rattle.tokens.specs.Got.{Got, got, pos}
 use Rattle.literal.specs.Answer.{place}
-use Rattle.literal.specs.Text.{byteAt, kindOf}
-use Rattle.literal.specs.Strings.{spelled}
+use Rattle.tokens.specs.Text.{byteAt, kindOf}
+use Rattle.tokens.specs.Strings.{spelled}
 use Rattle.literal.specs.Literal.{value as valueOf}
 use Rattle.literal.specs.Brackets.{gapAt}
 use Rattle.literal.specs.Rows.{Row, kindOfNode}
 use Rattle.literal.specs.Forget.{forget}
-use Rattle.literal.specs.declared.bytes.Kind.{Kind}
-use Rattle.literal.specs.declared.bytes.Kind.the-variants.{Square, Round, Curly, Quote, Minus, Digit, TrueWord, FalseWord, NoneWord, Other}
-use Rattle.literal.proofs.Positions.{kind-in}
+use Rattle.tokens.specs.declared.bytes.Kind.{Kind}
+use Rattle.tokens.specs.declared.bytes.Kind.the-variants.{Square, Round, Curly, Quote, Minus, Digit, TrueWord, FalseWord, NoneWord, Other}
+use Rattle.tokens.proofs.Positions.{kind-in}
 use Rattle.literal.proofs.View.{view, value-kind}
 use Rattle.descr.specs.Totals.{totalsOf, oneEntry, nameTotals}
 use Rattle.descr.specs.Verdict.{both}

@@ -10,16 +10,16 @@ use Rattle.grammar.specs.Value.{Value, Values}
 use Rattle.type_str.specs.TypeString.{typeString}
 use Rattle.dtype.specs.Dtype.{plain}
 use Rattle.record.specs.Descr.{twoOrThree, namedOf}
-use Rattle.literal.specs.Node.{Node, nodes}
-use Rattle.literal.specs.Got.{got}
-use Rattle.literal.specs.Text.{byteAt, kindOf}
-use Rattle.literal.specs.Strings.{spelled}
+use Rattle.tokens.specs.Node.{Node, nodes}
+use Rattle.tokens.specs.Got.{got}
+use Rattle.tokens.specs.Text.{byteAt, kindOf}
+use Rattle.tokens.specs.Strings.{spelled}
 use Rattle.literal.specs.Literal.{value}
 use Rattle.literal.specs.Brackets.{gapAt}
 use Rattle.literal.specs.Rows.{Row}
 use Rattle.literal.specs.Forget.{forget, forgetAll}
-use Rattle.literal.specs.declared.bytes.Kind.{Kind}
-use Rattle.literal.specs.declared.bytes.Kind.the-variants.{Square, Round, Curly, Quote, Minus, Digit, TrueWord, FalseWord, NoneWord, Other}
+use Rattle.tokens.specs.declared.bytes.Kind.{Kind}
+use Rattle.tokens.specs.declared.bytes.Kind.the-variants.{Square, Round, Curly, Quote, Minus, Digit, TrueWord, FalseWord, NoneWord, Other}
 use Rattle.literal.specs.declared.gaps.Gap.{Gap}
 use Rattle.literal.specs.declared.gaps.Gap.the-variants.{Shut, Item, Stray}
 use Rattle.descr.specs.declared.Totals.{Totals}

@@ -7,14 +7,14 @@ use mathlib.Core.Path.{_≡_, sym, ap, subst, _∙_}
 use mathlib.Core.List.{List, [], _∷_}
 use denote.Enum.Declared.{tagOf}
 use types.Run.{OneOf, miss}
-use Rattle.literal.specs.Got.{Got, got, pos}
+use Rattle.tokens.specs.Got.{Got, got, pos}
 use Rattle.literal.specs.Brackets.{gapAt, thenAt}
 use Rattle.literal.specs.Rows.{Row}
-use Rattle.literal.specs.declared.Parsed.{Parsed}
-use Rattle.literal.specs.declared.Parsed.the-variants.{Value}
+use Rattle.tokens.specs.declared.Parsed.{Parsed}
+use Rattle.tokens.specs.declared.Parsed.the-variants.{Value}
 use Rattle.literal.specs.declared.gaps.Gap.{Gap}
 use Rattle.literal.specs.declared.gaps.Gap.the-variants.{Shut, Item, Stray}
-use Rattle.literal.proofs.Parsed.{the-type}
+use Rattle.tokens.proofs.Parsed.{the-type}
 use Rattle.literal.proofs.gaps.Gap as gap
 use Rattle.literal.proofs.Ends.{GapAhead}
 use Rattle.literal.proofs.Steps.{Stops, stops}

@@ -11,17 +11,17 @@ use Rattle.counts.specs.declared.Number.the-variants.{Is}
 use Rattle.counts.proofs.Fits.{number-is}
 use Rattle.record.specs.Parts.{membersOr}
 use Rattle.record.specs.Dimensions.{dimension, subShape}
-use Rattle.literal.specs.Node.{Node, nodes}
-use Rattle.literal.specs.Got.{Got, got, fault, deep, pos}
+use Rattle.tokens.specs.Node.{Node, nodes}
+use Rattle.tokens.specs.Got.{Got, got, fault, deep, pos}
 use Rattle.literal.specs.Forget.{forget, forgetAll}
-use Rattle.literal.specs.Text.{byteAt, kindOf}
+use Rattle.tokens.specs.Text.{byteAt, kindOf}
 use Rattle.literal.specs.Brackets.{gapAt}
 use Rattle.literal.specs.Literal.{value}
 use Rattle.literal.specs.Rows.{Row}
-use Rattle.literal.specs.declared.Parsed.the-variants.{Value}
-use Rattle.literal.specs.declared.bytes.Kind.{Kind}
-use Rattle.literal.specs.declared.bytes.Kind.the-variants.{Square, Round, Curly, Quote, Minus, Digit, TrueWord, FalseWord, NoneWord, Other}
-use Rattle.literal.proofs.Positions.{kind-in}
+use Rattle.tokens.specs.declared.Parsed.the-variants.{Value}
+use Rattle.tokens.specs.declared.bytes.Kind.{Kind}
+use Rattle.tokens.specs.declared.bytes.Kind.the-variants.{Square, Round, Curly, Quote, Minus, Digit, TrueWord, FalseWord, NoneWord, Other}
+use Rattle.tokens.proofs.Positions.{kind-in}
 use Rattle.literal.proofs.Steps.{Stops, thing}
 use Rattle.literal.proofs.View.{view}
 use Rattle.dims.specs.declared.Outline.{Outline}

@@ -16,20 +16,20 @@ use Rattle.counts.specs.declared.Number.the-variants.{Is, Over}
 use Rattle.counts.proofs.Fits.{number-is-back, number-over-back}
 use Rattle.decimal.specs.Decimal.{isDigit, digitsOf, decimal}
 use Rattle.record.specs.Dimensions.{signed, dimension}
-use Rattle.literal.specs.Node.{Node}
-use Rattle.literal.specs.Got.{got}
+use Rattle.tokens.specs.Node.{Node}
+use Rattle.tokens.specs.Got.{got}
 use Rattle.literal.specs.Forget.{forget}
-use Rattle.literal.specs.Text.{byteAt, part, kindOf, past}
-use Rattle.literal.specs.Tokens.{naturalAt}
+use Rattle.tokens.specs.Text.{byteAt, part, kindOf, past}
+use Rattle.tokens.specs.Tokens.{naturalAt}
 use Rattle.literal.specs.Literal.{value}
 use Rattle.literal.specs.Rows.{View}
-use Rattle.literal.specs.declared.Parsed.{Parsed}
-use Rattle.literal.specs.declared.Parsed.the-variants.{Value, Fault, Deep}
-use Rattle.literal.specs.declared.bytes.Kind.{Kind}
-use Rattle.literal.specs.declared.bytes.Kind.the-variants.{Square, Round, Curly, Quote, Minus, Digit, TrueWord, FalseWord, NoneWord, Other}
-use Rattle.literal.proofs.bytes.Kind.{the-type}
-use Rattle.literal.proofs.Parsed as parsed
-use Rattle.literal.proofs.Positions.{byte-in, digit-in, past-more, past-from}
+use Rattle.tokens.specs.declared.Parsed.{Parsed}
+use Rattle.tokens.specs.declared.Parsed.the-variants.{Value, Fault, Deep}
+use Rattle.tokens.specs.declared.bytes.Kind.{Kind}
+use Rattle.tokens.specs.declared.bytes.Kind.the-variants.{Square, Round, Curly, Quote, Minus, Digit, TrueWord, FalseWord, NoneWord, Other}
+use Rattle.tokens.proofs.bytes.Kind.{the-type}
+use Rattle.tokens.proofs.Parsed as parsed
+use Rattle.tokens.proofs.Positions.{byte-in, digit-in, past-more, past-from}
 use Rattle.literal.proofs.Ends.{past-within}
 use Rattle.literal.proofs.Steps.{Stops, stops}
 use Rattle.literal.proofs.Left.{drop-left, digits-part}

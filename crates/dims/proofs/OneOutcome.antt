@@ -9,9 +9,9 @@ use Rattle.counts.specs.OneOutcome.{OneOutcome}
 use Rattle.counts.proofs.OneOutcome.{by-equation, by-inverse}
 use Rattle.counts.specs.declared.Number.{Number}
 use Rattle.dtype.specs.declared.Order.{Order}
-use Rattle.literal.specs.Node.{Node}
-use Rattle.literal.specs.Got.{Got}
-use Rattle.literal.specs.declared.bytes.Kind.{Kind}
+use Rattle.tokens.specs.Node.{Node}
+use Rattle.tokens.specs.Got.{Got}
+use Rattle.tokens.specs.declared.bytes.Kind.{Kind}
 use Rattle.dims.specs.declared.Outline.{Outline}
 use Rattle.dims.specs.declared.Judged.{Judged}
 use Rattle.dims.specs.declared.Verdict.{Verdict}

@@ -17,18 +17,18 @@ use Rattle.grammar.specs.Value.{Values}
 use Rattle.record.specs.Parts.{membersOr}
 use Rattle.record.specs.Dimensions.{dimension, dimensions}
 use Rattle.record.specs.Rooms.{atFront}
-use Rattle.literal.specs.Node.{Node}
-use Rattle.literal.specs.Got.{Got, got, fault, deep, pos}
+use Rattle.tokens.specs.Node.{Node}
+use Rattle.tokens.specs.Got.{Got, got, fault, deep, pos}
 use Rattle.literal.specs.Forget.{forget, forgetAll}
-use Rattle.literal.specs.Text.{byteAt, kindOf}
+use Rattle.tokens.specs.Text.{byteAt, kindOf}
 use Rattle.literal.specs.Literal.{value}
 use Rattle.literal.specs.Brackets.{gapAt, thenAt}
-use Rattle.literal.specs.declared.bytes.Kind.{Kind}
-use Rattle.literal.specs.declared.Parsed.{Parsed}
-use Rattle.literal.specs.declared.Parsed.the-variants.{Value}
+use Rattle.tokens.specs.declared.bytes.Kind.{Kind}
+use Rattle.tokens.specs.declared.Parsed.{Parsed}
+use Rattle.tokens.specs.declared.Parsed.the-variants.{Value}
 use Rattle.literal.specs.declared.gaps.Gap.{Gap}
 use Rattle.literal.specs.declared.gaps.Gap.the-variants.{Item}
-use Rattle.literal.proofs.Parsed as parsed
+use Rattle.tokens.proofs.Parsed as parsed
 use Rattle.literal.proofs.gaps.Gap as gap
 use Rattle.literal.proofs.Ends.{GapAhead, value-ahead, then-ahead}
 use Rattle.literal.proofs.Steps.{read-ahead}

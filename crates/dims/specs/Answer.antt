@@ -7,8 +7,8 @@ use mathlib.Core.List.{List}
 use Rattle.counts.specs.Outcome.{Outcome, gives, refused, then, each}
 use Rattle.grammar.specs.Value.{Value}
 use Rattle.record.specs.Dimensions.{subShape}
-use Rattle.literal.specs.Node.{Node}
-use Rattle.literal.specs.Got.{Got, got, fault, deep}
+use Rattle.tokens.specs.Node.{Node}
+use Rattle.tokens.specs.Got.{Got, got, fault, deep}
 use Rattle.literal.specs.Forget.{forget}
 use Rattle.dims.specs.declared.Outline.{Outline}
 use Rattle.dims.specs.declared.Verdict.{Verdict}

@@ -6,8 +6,8 @@ use mathlib.Core.List.{List}
 use lib.ListN.{length}
 use lib.Seq.{sets}
 use Rattle.counts.specs.Outcome.{gives}
-use Rattle.literal.specs.Node.{Node}
-use Rattle.literal.specs.Got.{Got}
+use Rattle.tokens.specs.Node.{Node}
+use Rattle.tokens.specs.Got.{Got}
 use Rattle.literal.specs.Literal.{value}
 use Rattle.literal.specs.Brackets.{gapAt}
 use Rattle.literal.specs.Rows.{Row}

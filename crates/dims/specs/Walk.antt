@@ -4,14 +4,14 @@ use mathlib.Core.Path.{_≡_}
 use mathlib.Core.List.{List}
 use Rattle.counts.specs.Outcome.{Outcome, each}
 use Rattle.record.specs.Dimensions.{dimension, dimensions}
-use Rattle.literal.specs.Node.{Node, nodes}
-use Rattle.literal.specs.Got.{got}
+use Rattle.tokens.specs.Node.{Node, nodes}
+use Rattle.tokens.specs.Got.{got}
 use Rattle.literal.specs.Forget.{forget, forgetAll}
 use Rattle.literal.specs.Literal.{value}
 use Rattle.literal.specs.Brackets.{gapAt}
 use Rattle.literal.specs.Rows.{Row}
-use Rattle.literal.specs.declared.bytes.Kind.{Kind}
-use Rattle.literal.specs.declared.bytes.Kind.the-variants.{Square, Round, Curly, Quote, Minus, Digit, TrueWord, FalseWord, NoneWord, Other}
+use Rattle.tokens.specs.declared.bytes.Kind.{Kind}
+use Rattle.tokens.specs.declared.bytes.Kind.the-variants.{Square, Round, Curly, Quote, Minus, Digit, TrueWord, FalseWord, NoneWord, Other}
 use Rattle.dims.specs.declared.Verdict.{Verdict}
 use Rattle.dims.specs.declared.Verdict.the-variants.{Good, Form, Large}
 use Rattle.dims.specs.declared.Member.{Member}

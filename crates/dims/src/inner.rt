@@ -2,13 +2,13 @@
 use super::Member;
 use super::closing;
 use super::dimension;
-use literal::Parsed;
-use literal::bytes::kind_of;
-use literal::bytes::peek;
 use literal::gaps::Gap;
 use literal::gaps::gap_at;
 use literal::gaps::then_at;
 use literal::value;
+use tokens::Parsed;
+use tokens::bytes::kind_of;
+use tokens::bytes::peek;
 ghost use mathlib.Core.Path.{_≡_};
 ghost use lib.ListN.{set};
 ghost use Rattle.literal.specs.Literal.{value as valueOf};

@@ -1,56 +1,50 @@
--- An element's reading after its place: a refused place refuses it, and leaves the room as it was; a place that is given leaves the element's own reading. Assumes
+-- An element's reading after its place: a refused place refuses it, and leaves the room as it was; a place that is given leaves the reading of its bytes. Assumes
 -- nothing.
 use Prim.Native.Nat.{ℕ}
-use mathlib.Core.Path.{_≡_, ap, subst}
+use mathlib.Core.Path.{_≡_, sym, ap, subst}
 use mathlib.Core.List.{List}
 use lib.ListN.{length}
-use Rattle.counts.specs.Outcome.{Outcome, gives, refused, then}
+use Rattle.counts.specs.Outcome.{Outcome, refused, then}
+use Rattle.type_str.specs.declared.TypeStr.{TypeStr}
 use Rattle.dtype.specs.declared.Order.{Order}
 use Rattle.places.specs.declared.Run.{Run}
+use Rattle.places.specs.declared.Placed.{Placed}
 use Rattle.places.specs.Place.{placeOf}
-use Rattle.slice.specs.Rooms.{readBytes, readPoints, bytesAnswer as bytesRead, pointsAnswer as pointsRead, Owes}
+use Rattle.places.specs.Answer.{answer}
 use Rattle.slice.specs.declared.BytesRead.{BytesRead}
 use Rattle.slice.specs.declared.PointsRead.{PointsRead}
+use Rattle.slice.specs.Rooms.{readBytes, readPoints, bytesAnswer, pointsAnswer, Owes}
 use Rattle.slice.proofs.Places.{owes-refused, owes-same}
 use Rattle.element.specs.Element.{bytesOf, elementBytes, elementPoints}
 
-module _ (reading : Run → Outcome (List ℕ)) (place : Outcome Run) (room : List ℕ) where
-  no-place : (n : ℕ) → refused n ≡ place → Owes (then place reading) room (refused n) room
-  no-place n e = owes-same (refused n) (then place reading) room (refused n) room (ap (λ (c : Outcome Run). then c reading) e) (owes-refused n room)
+pub no-place : (n : ℕ) (reading : Run → Outcome (List ℕ)) (room : List ℕ) {place : Outcome Run} → place ≡ refused n → Owes (then place reading) room (refused n) room
+no-place n reading room {place} e =
+    owes-same (refused n) (then place reading) room (refused n) room (ap (λ (c : Outcome Run). then c reading) (sym e)) (owes-refused n room)
 
-  at-place : (u : Run) → gives u ≡ place → (answer : Outcome ℕ) (room′ : List ℕ) → Owes (reading u) room answer room′ → Owes (then place reading) room answer room′
-  at-place u e answer room′ h = owes-same (reading u) (then place reading) room answer room′ (ap (λ (c : Outcome Run). then c reading) e) h
+-- the part of the file is the run's bytes, and patterns have told the place and the answer
+at-place : {A : Type 0} (read : TypeStr → List ℕ → Outcome (List ℕ)) (answers : A → Outcome ℕ) (file room : List ℕ) {place : Placed} {u : Run} {part room′ : List ℕ} {r r′ : A}
+    → place ≡ Placed.At u → part ≡ bytesOf file u → r ≡ r′ → Owes (read (u .kind) part) room (answers r) room′
+    → Owes (then (answer place) (λ u. read (u .kind) (bytesOf file u))) room (answers r′) room′
+at-place {A} read answers file room {place} {u} {part} {room′} {r} {r′} e f g h =
+    subst (λ (p : Placed). Owes (then (answer p) (λ u. read (u .kind) (bytesOf file u))) room (answers r′) room′) (sym e)
+    (subst (λ (l : List ℕ). Owes (read (u .kind) l) room (answers r′) room′) f
+    (subst (λ (a : A). Owes (read (u .kind) part) room (answers a) room′) g h))
 
-module _ (file : List ℕ) (start : ℕ) (t ns s : List ℕ) (o : Order) (x p room : List ℕ) where
-  pub bytes-refused : (n : ℕ) → refused n ≡ placeOf (length file) start t ns s o x p → Owes (elementBytes file start t ns s o x p room) room (refused n) room
+module _ (file room : List ℕ) {place : Placed} {u : Run} {part room′ : List ℕ} (e : place ≡ Placed.At u) (f : part ≡ bytesOf file u) where
+  pub bytes-placed : {r r′ : BytesRead} → r ≡ r′ → Owes (readBytes (u .kind) part room) room (bytesAnswer r) room′
+      → Owes (then (answer place) (λ u. readBytes (u .kind) (bytesOf file u) room)) room (bytesAnswer r′) room′
+  bytes-placed g h = at-place (λ t l. readBytes t l room) bytesAnswer file room e f g h
+
+  pub points-placed : {r r′ : PointsRead} → r ≡ r′ → Owes (readPoints (u .kind) part room) room (pointsAnswer r) room′
+      → Owes (then (answer place) (λ u. readPoints (u .kind) (bytesOf file u) room)) room (pointsAnswer r′) room′
+  points-placed g h = at-place (λ t l. readPoints t l room) pointsAnswer file room e f g h
+
+module _ (file : List ℕ) (start : ℕ) (t ns s : List ℕ) (o : Order) (x p room : List ℕ) {place : Outcome Run} (e : place ≡ placeOf (length file) start t ns s o x p)
+    {a : Outcome ℕ} {room′ : List ℕ} where
+  pub bytes-whole : Owes (then place (λ u. readBytes (u .kind) (bytesOf file u) room)) room a room′ → Owes (elementBytes file start t ns s o x p room) room a room′
   unfolding elementBytes
-  bytes-refused n e = no-place _ (placeOf (length file) start t ns s o x p) room n e
+  bytes-whole h = subst (λ (c : Outcome Run). Owes (then c (λ u. readBytes (u .kind) (bytesOf file u) room)) room a room′) e h
 
-  pub bytes-placed : (u : Run) → gives u ≡ placeOf (length file) start t ns s o x p → (answer : Outcome ℕ) (room′ : List ℕ)
-      → Owes (readBytes (u .kind) (bytesOf file u) room) room answer room′ → Owes (elementBytes file start t ns s o x p room) room answer room′
-  unfolding elementBytes
-  bytes-placed u e = at-place (λ u. readBytes (u .kind) (bytesOf file u) room) (placeOf (length file) start t ns s o x p) room u e
-
-  pub points-refused : (n : ℕ) → refused n ≡ placeOf (length file) start t ns s o x p → Owes (elementPoints file start t ns s o x p room) room (refused n) room
+  pub points-whole : Owes (then place (λ u. readPoints (u .kind) (bytesOf file u) room)) room a room′ → Owes (elementPoints file start t ns s o x p room) room a room′
   unfolding elementPoints
-  points-refused n e = no-place _ (placeOf (length file) start t ns s o x p) room n e
-
-  pub points-placed : (u : Run) → gives u ≡ placeOf (length file) start t ns s o x p → (answer : Outcome ℕ) (room′ : List ℕ)
-      → Owes (readPoints (u .kind) (bytesOf file u) room) room answer room′ → Owes (elementPoints file start t ns s o x p room) room answer room′
-  unfolding elementPoints
-  points-placed u e = at-place (λ u. readPoints (u .kind) (bytesOf file u) room) (placeOf (length file) start t ns s o x p) room u e
-
--- the part of the file is the run's bytes, and a pattern has told the answer
-told-of : {A : Type 0} (reading : List ℕ → Outcome (List ℕ)) (answer : A → Outcome ℕ) (room : List ℕ) {part part′ room′ : List ℕ} {r r′ : A} → part ≡ part′ → r ≡ r′
-    → Owes (reading part) room (answer r) room′ → Owes (reading part′) room (answer r′) room′
-told-of {A} reading answer room {part} {part′} {room′} {r} {r′} e f h =
-    subst (λ (l : List ℕ). Owes (reading l) room (answer r′) room′) e (subst (λ (a : A). Owes (reading part) room (answer a) room′) f h)
-
-module _ (u : Run) (file room : List ℕ) where
-  pub bytes-told : {part room′ : List ℕ} {r r′ : BytesRead} → part ≡ bytesOf file u → r ≡ r′
-      → Owes (readBytes (u .kind) part room) room (bytesRead r) room′ → Owes (readBytes (u .kind) (bytesOf file u) room) room (bytesRead r′) room′
-  bytes-told e f h = told-of (λ l. readBytes (u .kind) l room) bytesRead room e f h
-
-  pub points-told : {part room′ : List ℕ} {r r′ : PointsRead} → part ≡ bytesOf file u → r ≡ r′
-      → Owes (readPoints (u .kind) part room) room (pointsRead r) room′ → Owes (readPoints (u .kind) (bytesOf file u) room) room (pointsRead r′) room′
-  points-told e f h = told-of (λ l. readPoints (u .kind) l room) pointsRead room e f h
+  points-whole h = subst (λ (c : Outcome Run). Owes (then c (λ u. readPoints (u .kind) (bytesOf file u) room)) room a room′) e h

@@ -4,9 +4,10 @@ use counts::Bytes;
 use counts::Points;
 use dtype::Order;
 use places::Placed;
-use places::Run;
 use slice::BytesRead;
 use slice::PointsRead;
+ghost use Rattle.counts.specs.Outcome.{then};
+ghost use Rattle.places.specs.Answer.{answer};
 ghost use Rattle.slice.specs.Rooms.{readBytes, readPoints, Owes};
 ghost use Rattle.element.specs.Element.{bytesOf, elementBytes, elementPoints};
 ghost use Rattle.element.specs.Answer.{bytesAnswer, pointsAnswer};
@@ -55,8 +56,26 @@ pub fn read_bytes(
     ensures { λ r. ⌜ Owes (elementBytes (now (file .entry)) (start .0) (now (table .entry)) (now (names .entry)) (now (shape .entry)) order (now (index .entry)) (now (path .entry)) (now (out .entry))) (now (out .entry)) (bytesAnswer r) (now (out .exit)) ⌝ }
 {
     let length = Bytes(file.len() as u64);
-    match places::place(length, start, table, names, shape, order, index, path) {
-        Placed::At(run) => bytes_of(file, run, out),
+    bytes_at(
+        file,
+        places::place(length, start, table, names, shape, order, index, path),
+        out,
+    )
+}
+
+// The element of S or V in a place, or the place's refusal.
+fn bytes_at(file: &[u8], place: Placed, out: &mut [u8]) -> BytesElement
+    ensures { λ r. ⌜ Owes (then (answer place) (λ u. readBytes (u .kind) (bytesOf (now (file .entry)) u) (now (out .entry)))) (now (out .entry)) (bytesAnswer r) (now (out .exit)) ⌝ }
+{
+    match place {
+        Placed::At(run) => {
+            let kind = run.kind;
+            match slice::read_bytes(places::part(file, run), kind, out) {
+                BytesRead::Read(count) => BytesElement::Read(count),
+                BytesRead::NoString => BytesElement::NoElement,
+                BytesRead::Room => BytesElement::Room,
+            }
+        }
         Placed::NoReading => BytesElement::NoReading,
         Placed::Dimensions => BytesElement::Dimensions,
         Placed::Entries => BytesElement::Entries,
@@ -65,18 +84,6 @@ pub fn read_bytes(
         Placed::Object => BytesElement::Object,
         Placed::Short => BytesElement::Short,
         Placed::Nowhere => BytesElement::NoElement,
-    }
-}
-
-// The element of S or V in a run of a file.
-fn bytes_of(file: &[u8], run: Run, out: &mut [u8]) -> BytesElement
-    ensures { λ r. ⌜ Owes (readBytes (run .kind) (bytesOf (now (file .entry)) run) (now (out .entry))) (now (out .entry)) (bytesAnswer r) (now (out .exit)) ⌝ }
-{
-    let kind = run.kind;
-    match slice::read_bytes(places::part(file, run), kind, out) {
-        BytesRead::Read(count) => BytesElement::Read(count),
-        BytesRead::NoString => BytesElement::NoElement,
-        BytesRead::Room => BytesElement::Room,
     }
 }
 
@@ -95,8 +102,27 @@ pub fn read_points(
     ensures { λ r. ⌜ Owes (elementPoints (now (file .entry)) (start .0) (now (table .entry)) (now (names .entry)) (now (shape .entry)) order (now (index .entry)) (now (path .entry)) (now (out .entry))) (now (out .entry)) (pointsAnswer r) (now (out .exit)) ⌝ }
 {
     let length = Bytes(file.len() as u64);
-    match places::place(length, start, table, names, shape, order, index, path) {
-        Placed::At(run) => points_of(file, run, out),
+    points_at(
+        file,
+        places::place(length, start, table, names, shape, order, index, path),
+        out,
+    )
+}
+
+// The element of U in a place, or the place's refusal.
+fn points_at(file: &[u8], place: Placed, out: &mut [u32]) -> PointsElement
+    ensures { λ r. ⌜ Owes (then (answer place) (λ u. readPoints (u .kind) (bytesOf (now (file .entry)) u) (now (out .entry)))) (now (out .entry)) (pointsAnswer r) (now (out .exit)) ⌝ }
+{
+    match place {
+        Placed::At(run) => {
+            let kind = run.kind;
+            match slice::read_points(places::part(file, run), kind, out) {
+                PointsRead::Read(count) => PointsElement::Read(count),
+                PointsRead::NoString => PointsElement::NoElement,
+                PointsRead::BadScalar => PointsElement::BadScalar,
+                PointsRead::Room => PointsElement::Room,
+            }
+        }
         Placed::NoReading => PointsElement::NoReading,
         Placed::Dimensions => PointsElement::Dimensions,
         Placed::Entries => PointsElement::Entries,
@@ -105,18 +131,5 @@ pub fn read_points(
         Placed::Object => PointsElement::Object,
         Placed::Short => PointsElement::Short,
         Placed::Nowhere => PointsElement::NoElement,
-    }
-}
-
-// The element of U in a run of a file.
-fn points_of(file: &[u8], run: Run, out: &mut [u32]) -> PointsElement
-    ensures { λ r. ⌜ Owes (readPoints (run .kind) (bytesOf (now (file .entry)) run) (now (out .entry))) (now (out .entry)) (pointsAnswer r) (now (out .exit)) ⌝ }
-{
-    let kind = run.kind;
-    match slice::read_points(places::part(file, run), kind, out) {
-        PointsRead::Read(count) => PointsElement::Read(count),
-        PointsRead::NoString => PointsElement::NoElement,
-        PointsRead::BadScalar => PointsElement::BadScalar,
-        PointsRead::Room => PointsElement::Room,
     }
 }

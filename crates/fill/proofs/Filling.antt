@@ -19,18 +19,18 @@ use Rattle.dtype.proofs.Flat.{some-entry, flat-length, names-length}
 use Rattle.type_str.specs.declared.TypeStr.{TypeStr}
 use Rattle.type_str.specs.TypeString.{typeString}
 use Rattle.record.specs.Descr.{Field, arrays, descrOf, fieldOf, fieldsOf}
-use Rattle.literal.specs.Node.{Node, nodes, string, integer, True, False, None, list, tuple, dict}
-use Rattle.literal.specs.Got.{Got, got, pos}
+use Rattle.tokens.specs.Node.{Node, nodes, string, integer, True, False, None, list, tuple, dict}
+use Rattle.tokens.specs.Got.{Got, got, pos}
 use Rattle.literal.specs.Forget.{forget, forgetAll}
-use Rattle.literal.specs.Text.{byteAt, kindOf}
-use Rattle.literal.specs.Strings.{spelled}
+use Rattle.tokens.specs.Text.{byteAt, kindOf}
+use Rattle.tokens.specs.Strings.{spelled}
 use Rattle.literal.specs.Literal.{value}
 use Rattle.literal.specs.Brackets.{gapAt, thenAt}
 use Rattle.literal.specs.Rows.{Row}
 use Rattle.literal.specs.declared.gaps.Gap.{Gap}
 use Rattle.literal.specs.declared.gaps.Gap.the-variants.{Item}
 use Rattle.literal.proofs.gaps.Gap.{the-type}
-use Rattle.literal.proofs.Positions.{kind-in}
+use Rattle.tokens.proofs.Positions.{kind-in}
 use Rattle.literal.proofs.View.{view, value-kind}
 use Rattle.literal.proofs.Rows.{row-step}
 use Rattle.literal.proofs.Ends.{Ahead, value-ahead, then-ahead}

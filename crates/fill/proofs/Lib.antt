@@ -3,3 +3,4 @@ pub mod Parted
 pub mod Levels
 pub mod Filling
 pub mod Whole
+mod Told

@@ -13,16 +13,16 @@ use Rattle.dtype.specs.Entries.{entriesOf, entriesIn, fieldCount, levels}
 use Rattle.dtype.specs.Names.{nameBytes, nameBytesIn, namesOf, namesIn}
 use Rattle.dtype.specs.Flat.{entry-width, saturated, flat, flats}
 use Rattle.record.specs.Descr.{Field, arrays, descrOf, fieldOf, fieldsOf}
-use Rattle.literal.specs.Node.{Node, nodes}
-use Rattle.literal.specs.Got.{got}
-use Rattle.literal.specs.Text.{byteAt}
-use Rattle.literal.specs.Strings.{spelled}
+use Rattle.tokens.specs.Node.{Node, nodes}
+use Rattle.tokens.specs.Got.{got}
+use Rattle.tokens.specs.Text.{byteAt}
+use Rattle.tokens.specs.Strings.{spelled}
 use Rattle.literal.specs.Literal.{value}
 use Rattle.literal.specs.Brackets.{gapAt}
 use Rattle.literal.specs.Rows.{Row}
 use Rattle.literal.specs.Forget.{forget, forgetAll}
-use Rattle.literal.specs.declared.bytes.Kind.{Kind}
-use Rattle.literal.specs.declared.bytes.Kind.the-variants.{Square, Round, Curly, Quote, Minus, Digit, TrueWord, FalseWord, NoneWord, Other}
+use Rattle.tokens.specs.declared.bytes.Kind.{Kind}
+use Rattle.tokens.specs.declared.bytes.Kind.the-variants.{Square, Round, Curly, Quote, Minus, Digit, TrueWord, FalseWord, NoneWord, Other}
 use Rattle.literal.specs.declared.gaps.Gap.{Gap}
 use Rattle.literal.specs.declared.gaps.Gap.the-variants.{Shut, Item, Stray}
 use Rattle.dims.specs.declared.Verdict.{Verdict}

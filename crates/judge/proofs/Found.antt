@@ -11,8 +11,8 @@ use Rattle.record.specs.Dict.{key-order, key-shape, key-descr}
 use Rattle.record.specs.Dimensions.{subShape, ranked, shapeOf}
 use Rattle.record.specs.Descr.{descrOf}
 use Rattle.record.specs.FromValue.{orderOf}
-use Rattle.literal.specs.Node.{Node}
-use Rattle.literal.specs.Got.{Got, got}
+use Rattle.tokens.specs.Node.{Node}
+use Rattle.tokens.specs.Got.{Got, got}
 use Rattle.literal.specs.Forget.{forget}
 use Rattle.literal.specs.Literal.{value, most-open}
 use Rattle.literal.specs.Rows.{Stands}

@@ -11,9 +11,9 @@ use Rattle.dtype.specs.Dtype.{Dtype}
 use Rattle.dtype.specs.Record.{Record}
 use Rattle.record.specs.Dict.{key-shape, key-descr}
 use Rattle.record.specs.Header.{recordIn}
-use Rattle.literal.specs.Node.{Node, Span, spanOf}
-use Rattle.literal.specs.Got.{got}
-use Rattle.literal.specs.Text.{skip}
+use Rattle.tokens.specs.Node.{Node, Span, spanOf}
+use Rattle.tokens.specs.Got.{got}
+use Rattle.tokens.specs.Text.{skip}
 use Rattle.literal.specs.Literal.{value}
 use Rattle.literal.proofs.View.{value-span}
 use Rattle.dims.specs.declared.Outline.{Outline}

@@ -23,12 +23,12 @@ use Rattle.record.specs.Dimensions.{shapeOf}
 use Rattle.record.specs.Descr.{descrOf}
 use Rattle.record.specs.FromValue.{orderOf, recordFrom, recordOf}
 use Rattle.record.specs.Header.{Keeps, valueRead, recordIn}
-use Rattle.literal.specs.Node.{Node}
-use Rattle.literal.specs.Got.{Got, got, fault, deep, pos}
+use Rattle.tokens.specs.Node.{Node}
+use Rattle.tokens.specs.Got.{Got, got, fault, deep, pos}
 use Rattle.literal.specs.Forget.{forget, forgot}
-use Rattle.literal.specs.Text.{skip}
+use Rattle.tokens.specs.Text.{skip}
 use Rattle.literal.specs.Literal.{value, alone, literalOf, most-open}
-use Rattle.literal.specs.declared.Parsed as parsed
+use Rattle.tokens.specs.declared.Parsed as parsed
 use Rattle.literal.proofs.Meaning.{literal-means}
 use Rattle.dims.specs.Answer.{valueOr}
 use Rattle.keys.specs.Pairs.{keyed, keyedAt}

@@ -17,8 +17,8 @@ use Rattle.record.specs.Dimensions.{subShape, ranked, shapeOf}
 use Rattle.record.specs.Descr.{descrOf}
 use Rattle.record.specs.FromValue.{orderOf}
 use Rattle.record.specs.Header.{Reading}
-use Rattle.literal.specs.Node.{Node}
-use Rattle.literal.specs.Got.{Got, got}
+use Rattle.tokens.specs.Node.{Node}
+use Rattle.tokens.specs.Got.{Got, got}
 use Rattle.literal.specs.Forget.{forget, forgot}
 use Rattle.literal.specs.Literal.{value, literalOf, most-open}
 use Rattle.dims.specs.Answer.{valueOr}

@@ -12,19 +12,19 @@ use Rattle.dtype.specs.declared.Order.the-variants.{C, Fortran}
 use Rattle.record.specs.Parts.{stringOr}
 use Rattle.record.specs.Dict.{isString, isThe}
 use Rattle.record.specs.FromValue.{orderOf}
-use Rattle.literal.specs.Node.{Node, Pair, pairs}
-use Rattle.literal.specs.Got.{Got, got, fault, deep, pos}
+use Rattle.tokens.specs.Node.{Node, Pair, pairs}
+use Rattle.tokens.specs.Got.{Got, got, fault, deep, pos}
 use Rattle.literal.specs.Forget.{forget}
-use Rattle.literal.specs.Text.{byteAt, kindOf}
-use Rattle.literal.specs.Strings.{spelled}
+use Rattle.tokens.specs.Text.{byteAt, kindOf}
+use Rattle.tokens.specs.Strings.{spelled}
 use Rattle.counts.specs.Same.{same}
 use Rattle.literal.specs.Brackets.{gapAt, pairBy}
 use Rattle.literal.specs.Literal.{value}
 use Rattle.literal.specs.Rows.{Row, View}
-use Rattle.literal.specs.declared.bytes.Kind.{Kind}
-use Rattle.literal.specs.declared.bytes.Kind.the-variants.{Square, Round, Curly, Quote, Minus, Digit, TrueWord, FalseWord, NoneWord, Other}
-use Rattle.literal.proofs.bytes.Kind.{the-type}
-use Rattle.literal.proofs.Positions.{kind-in}
+use Rattle.tokens.specs.declared.bytes.Kind.{Kind}
+use Rattle.tokens.specs.declared.bytes.Kind.the-variants.{Square, Round, Curly, Quote, Minus, Digit, TrueWord, FalseWord, NoneWord, Other}
+use Rattle.tokens.proofs.bytes.Kind.{the-type}
+use Rattle.tokens.proofs.Positions.{kind-in}
 use Rattle.literal.proofs.Steps.{Stops}
 use Rattle.literal.proofs.View.{view}
 use Rattle.dims.specs.Answer.{valueOr}

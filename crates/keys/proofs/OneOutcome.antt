@@ -8,8 +8,8 @@ use Rattle.counts.specs.OneOutcome.{OneOutcome}
 use Rattle.counts.proofs.OneOutcome.{by-equation, by-inverse}
 use Rattle.dtype.specs.declared.Order.{Order}
 use Rattle.record.specs.FromValue.{orderOf}
-use Rattle.literal.specs.Node.{Node, Span}
-use Rattle.literal.specs.Got.{Got}
+use Rattle.tokens.specs.Node.{Node, Span}
+use Rattle.tokens.specs.Got.{Got}
 use Rattle.literal.proofs.View.{value-span}
 use Rattle.dims.specs.Answer.{valueOr}
 use Rattle.keys.specs.declared.Found as found

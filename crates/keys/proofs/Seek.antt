@@ -7,16 +7,16 @@ use mathlib.Core.List.{List, [], _∷_}
 use mathlib.Core.Bool.{Bool, true, false, cond, _&&_}
 use Rattle.counts.specs.Outcome.{Outcome, gives, refused, then, each}
 use Rattle.record.specs.Dict.{isString, allStrings}
-use Rattle.literal.specs.Node.{Node, Pair, Pairs, pair, pairs}
-use Rattle.literal.specs.Got.{Got, got, fault, deep, pos, with}
+use Rattle.tokens.specs.Node.{Node, Pair, Pairs, pair, pairs}
+use Rattle.tokens.specs.Got.{Got, got, fault, deep, pos, with}
 use Rattle.literal.specs.Forget.{forgetPairs}
-use Rattle.literal.specs.Text.{byteAt, kindOf, skip}
+use Rattle.tokens.specs.Text.{byteAt, kindOf, skip}
 use Rattle.literal.specs.Brackets.{needAt, keyBy, pairBy}
 use Rattle.literal.specs.Literal.{value}
-use Rattle.literal.specs.declared.Parsed.{Parsed}
-use Rattle.literal.specs.declared.Parsed.the-variants.{Value as Ends, Fault, Deep}
-use Rattle.literal.specs.declared.bytes.Kind.{Kind}
-use Rattle.literal.specs.declared.bytes.Kind.the-variants.{Curly, Quote}
+use Rattle.tokens.specs.declared.Parsed.{Parsed}
+use Rattle.tokens.specs.declared.Parsed.the-variants.{Value as Ends, Fault, Deep}
+use Rattle.tokens.specs.declared.bytes.Kind.{Kind}
+use Rattle.tokens.specs.declared.bytes.Kind.the-variants.{Curly, Quote}
 use Rattle.literal.proofs.Steps.{Stops, thing}
 use Rattle.keys.specs.declared.Found as found
 use Rattle.keys.specs.declared.Found.{Found}

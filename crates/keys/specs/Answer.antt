@@ -6,8 +6,8 @@ use mathlib.Core.Bool.{Bool}
 use Rattle.counts.specs.Outcome.{Outcome, gives, refused}
 use Rattle.dtype.specs.declared.Order.{Order}
 use Rattle.record.specs.Dict.{allStrings}
-use Rattle.literal.specs.Node.{Node, Pair, pairs}
-use Rattle.literal.specs.Got.{got}
+use Rattle.tokens.specs.Node.{Node, Pair, pairs}
+use Rattle.tokens.specs.Got.{got}
 use Rattle.literal.specs.Forget.{forgetPairs}
 use Rattle.literal.specs.Literal.{value}
 use Rattle.literal.specs.Brackets.{gapAt, pairBy}

@@ -8,8 +8,8 @@ use Rattle.counts.specs.Outcome.{Outcome, gives, refused, then}
 use Rattle.grammar.specs.Value.{Items}
 use Rattle.record.specs.Parts.{stringOr, itemsOr}
 use Rattle.record.specs.Dict.{isThe, allStrings}
-use Rattle.literal.specs.Node.{Node, Pairs, string, integer, True, False, None, list, tuple, dict, end-of-pairs, pair-then}
-use Rattle.literal.specs.Got.{Got, got, fault, deep}
+use Rattle.tokens.specs.Node.{Node, Pairs, string, integer, True, False, None, list, tuple, dict, end-of-pairs, pair-then}
+use Rattle.tokens.specs.Got.{Got, got, fault, deep}
 use Rattle.literal.specs.Forget.{forget}
 use Rattle.dims.specs.Answer.{valueOr}
 

@@ -2,15 +2,15 @@
 // is in specs/Answer.antt.
 use dtype::Order;
 use grammar::OPEN;
-use literal::Parsed;
-use literal::bytes::Kind;
-use literal::bytes::kind_of;
-use literal::bytes::peek;
 use literal::gaps::Gap;
 use literal::gaps::gap_at;
 use literal::gaps::then_at;
-use literal::strings::is_text;
 use literal::value;
+use tokens::Parsed;
+use tokens::bytes::Kind;
+use tokens::bytes::kind_of;
+use tokens::bytes::peek;
+use tokens::strings::is_text;
 ghost use mathlib.Core.Path.{_≡_};
 ghost use mathlib.Core.Bool.{cond};
 ghost use Prim.Native.Nat.{_-_};

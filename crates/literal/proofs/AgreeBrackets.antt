@@ -15,15 +15,15 @@ use Rattle.grammar.proofs.Layers.{item}
 use Rattle.grammar.proofs.Texts.{headOf, tailOf}
 use Rattle.grammar.proofs.Reading as reading
 use Rattle.grammar.proofs.Reading.{Read, parted, upTo, paired}
-use Rattle.literal.proofs.Positions.{byte-in, past-from}
+use Rattle.tokens.proofs.Positions.{byte-in, past-from}
 use Rattle.literal.proofs.Ends.{Ahead, past-within}
 use Rattle.literal.proofs.Left.{skip-left, tail-left, head-skipped, Agrees, agrees-with, here-skip, here-skipped}
-use Rattle.literal.specs.Node.{Node, Pair, pair}
+use Rattle.tokens.specs.Node.{Node, Pair, pair}
 use Rattle.literal.specs.Forget.{forget}
-use Rattle.literal.specs.Got.{Got, got, fault, deep, pos, with}
-use Rattle.literal.specs.Text.{byteAt, skip}
+use Rattle.tokens.specs.Got.{Got, got, fault, deep, pos, with}
+use Rattle.tokens.specs.Text.{byteAt, skip}
 use Rattle.literal.specs.Brackets.{gapAt, thenAt, needAt, items, listBy, tupleBy, keyBy, pairBy}
-use Rattle.literal.specs.declared.Parsed.the-variants.{Value as Ends, Fault, Deep}
+use Rattle.tokens.specs.declared.Parsed.the-variants.{Value as Ends, Fault, Deep}
 
 -- the byte behind blanks, as both readings ask for it
 head-test : (s : List ℕ) (p c : ℕ) {t : Bool} → eqb (byteAt s (skip s p)) c ≡ t → eqb (headOf (reading.skip (drop p s))) c ≡ t

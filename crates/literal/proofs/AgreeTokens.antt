@@ -14,18 +14,17 @@ use Rattle.grammar.specs.Value.{Value}
 use Rattle.grammar.proofs.Texts.{headOf}
 use Rattle.grammar.proofs.Reading.{natural, word, quoted}
 use Rattle.decimal.specs.Decimal.{isDigit, decimal, decimalFrom}
-use Rattle.literal.proofs.Positions.{byte-in, class-in, past-more}
+use Rattle.tokens.proofs.Positions.{byte-in, digit-in, past-more}
 use Rattle.literal.proofs.Ends.{Bytes, past-within}
 use Rattle.literal.proofs.Left.{head-left, tail-left, drop-left, digits-left, digits-part, Agrees, agrees-with, here-next}
-use Rattle.literal.specs.Node.{Node}
+use Rattle.tokens.specs.Node.{Node}
 use Rattle.literal.specs.Forget.{forget}
-use Rattle.literal.specs.Got.{Got, with, giving}
-use Rattle.literal.specs.Text.{byteAt, part, past}
-use Rattle.literal.specs.Strings.{escapeAt, pieceAt, Spelled, heard, pieces, spelled, stringAt}
-use Rattle.literal.specs.Tokens.{naturalAt, wordAt}
-use Rattle.literal.specs.declared.Parsed.{Parsed}
-use Rattle.literal.specs.declared.Parsed.the-variants.{Value as Ends, Fault, Deep}
-use Rattle.literal.specs.declared.bytes.Class.the-variants.{Digits}
+use Rattle.tokens.specs.Got.{Got, with, giving}
+use Rattle.tokens.specs.Text.{byteAt, part, past}
+use Rattle.tokens.specs.Strings.{escapeAt, pieceAt, Spelled, heard, pieces, spelled, stringAt}
+use Rattle.tokens.specs.Tokens.{naturalAt, wordAt}
+use Rattle.tokens.specs.declared.Parsed.{Parsed}
+use Rattle.tokens.specs.declared.Parsed.the-variants.{Value as Ends, Fault, Deep}
 
 abbrev pub as-read : {A : Type 0} → A → A
 as-read a = a
@@ -43,7 +42,7 @@ module _ (s : List ℕ) (p : ℕ) (le : p ≤ length s) where
   by-digit other true h =
       let other′ : eqb (headOf (drop p s)) 48 ≡ false = ap (λ (b : ℕ). eqb b 48) (sym (head-left s p)) ∙ other in
       let h′ : isDigit (headOf (drop p s)) ≡ true = ap isDigit (sym (head-left s p)) ∙ h in
-      let lt = class-in Digits s p h in
+      let lt = digit-in s p h in
       let on : past isDigit s p ≡ past isDigit s (p + 1) = past-more isDigit s p lt h in
       rw (naturalAt, other, h, natural, other′, h′)
       ((past-within isDigit s (p + 1) (omega arith), digits-left s p ∙ ap (λ (e : ℕ). drop e s) on), ap (λ (e : ℕ). decimal (part s p e)) (sym on) ∙ ap decimal (sym (digits-part s p)))

@@ -7,15 +7,15 @@ use mathlib.Core.List.{List, [], _∷_}
 use lib.ListN.{length}
 use denote.Enum.Declared.{tagOf}
 use types.Run.{OneOf, miss}
-use Rattle.literal.proofs.Parsed.{the-type}
+use Rattle.tokens.proofs.Parsed.{the-type}
 use Rattle.literal.proofs.gaps.Gap as gap
 use Rattle.literal.proofs.Ends.{Ahead, GapAhead, gap-from, gap-ahead, then-ahead}
 use Rattle.literal.proofs.Steps.{Stops, stops, thing, gapLeft, gap-enough, gap-falls, read-ahead}
-use Rattle.literal.specs.Got.{Got, got, fault, deep, pos, with}
+use Rattle.tokens.specs.Got.{Got, got, fault, deep, pos, with}
 use Rattle.literal.specs.Brackets.{gapAt, thenAt, items, listBy}
 use Rattle.literal.specs.Walks.{countOf, countAt}
-use Rattle.literal.specs.declared.Parsed.{Parsed}
-use Rattle.literal.specs.declared.Parsed.the-variants.{Value}
+use Rattle.tokens.specs.declared.Parsed.{Parsed}
+use Rattle.tokens.specs.declared.Parsed.the-variants.{Value}
 use Rattle.literal.specs.declared.gaps.Gap.{Gap}
 use Rattle.literal.specs.declared.gaps.Gap.the-variants.{Shut, Item, Stray}
 use Rattle.literal.specs.declared.walks.Count.{Count}

@@ -11,14 +11,14 @@ use lib.Dec.{eqb, ltb}
 use borrow.Author.Tests.{eqb-true}
 use Rattle.grammar.specs.Bytes.{isBreak, isEscape, unescape}
 use Rattle.grammar.proofs.Texts.{true-false}
-use Rattle.literal.proofs.Positions.{by-test}
-use Rattle.literal.proofs.Spelling.{PieceAhead, piece-ahead}
+use Rattle.tokens.proofs.Positions.{by-test}
+use Rattle.tokens.proofs.Spelling.{PieceAhead, piece-ahead}
 use Rattle.literal.proofs.Left.{drop-left}
-use Rattle.literal.specs.Text.{byteAt, part}
-use Rattle.literal.specs.Strings.{escapeAt, pieceBy, pieceAt, Spelled, ends, heard, pieces, spelled}
-use Rattle.literal.specs.declared.Parsed.the-variants.{Value, Fault}
-use Rattle.literal.specs.declared.strings.Piece.{Piece}
-use Rattle.literal.specs.declared.strings.Piece.the-variants.{Close, Byte, Bad}
+use Rattle.tokens.specs.Text.{byteAt, part}
+use Rattle.tokens.specs.Strings.{escapeAt, pieceBy, pieceAt, Spelled, ends, heard, pieces, spelled}
+use Rattle.tokens.specs.declared.Parsed.the-variants.{Value, Fault}
+use Rattle.tokens.specs.declared.strings.Piece.{Piece}
+use Rattle.tokens.specs.declared.strings.Piece.the-variants.{Close, Byte, Bad}
 
 -- what an escape stands for: backslash, the two quotes, LF, CR, TAB
 unfoldable pub isMeant : ℕ → Bool

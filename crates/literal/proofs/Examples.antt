@@ -6,11 +6,11 @@ use mathlib.Core.List.{List, [], _∷_}
 use mathlib.Core.Bool.{true}
 use Rattle.grammar.specs.Bytes.{isBlank, isQuote, isBreak, isEscape, unescape, isOpen}
 use Rattle.decimal.specs.Decimal.{isDigit, decimalFrom}
-use Rattle.literal.specs.Node.{Node, span, string, integer, tuple, dict, end-of-nodes, node-then, end-of-pairs, pair-then}
-use Rattle.literal.specs.Got.{got, fault, deep, with, giving}
-use Rattle.literal.specs.Text.{kindOf, run, past}
-use Rattle.literal.specs.Strings.{escapeAt, pieceAt, pieces, spelled}
-use Rattle.literal.specs.Tokens.{naturalAt, wordAt, tokenAt}
+use Rattle.tokens.specs.Node.{Node, span, string, integer, tuple, dict, end-of-nodes, node-then, end-of-pairs, pair-then}
+use Rattle.tokens.specs.Got.{got, fault, deep, with, giving}
+use Rattle.tokens.specs.Text.{kindOf, run, past}
+use Rattle.tokens.specs.Strings.{escapeAt, pieceAt, pieces, spelled}
+use Rattle.tokens.specs.Tokens.{naturalAt, wordAt, tokenAt}
 use Rattle.literal.specs.Brackets.{gapAt, thenAt, needAt, items, listBy, tupleBy, keyBy, pairBy}
 use Rattle.literal.specs.Literal.{bracketBy, value, alone, literalOf}
 

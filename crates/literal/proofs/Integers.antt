@@ -10,21 +10,20 @@ use borrow.Author.Tests.{eqb-true}
 use denote.Enum.Declared.{tagOf}
 use types.Run.{OneOf, miss}
 use Rattle.decimal.specs.Decimal.{isDigit, digitsOf}
-use Rattle.literal.proofs.bytes.Kind.{the-type}
-use Rattle.literal.proofs.Positions.{byte-in, class-in, past-more}
+use Rattle.tokens.proofs.bytes.Kind.{the-type}
+use Rattle.tokens.proofs.Positions.{byte-in, digit-in, past-more}
 use Rattle.literal.proofs.Left.{drop-left, digits-part}
 use Rattle.literal.proofs.View.{view}
-use Rattle.literal.specs.Node.{Node}
-use Rattle.literal.specs.Got.{got}
-use Rattle.literal.specs.Text.{byteAt, part, kindOf, past}
-use Rattle.literal.specs.Tokens.{naturalAt}
+use Rattle.tokens.specs.Node.{Node}
+use Rattle.tokens.specs.Got.{got}
+use Rattle.tokens.specs.Text.{byteAt, part, kindOf, past}
+use Rattle.tokens.specs.Tokens.{naturalAt}
 use Rattle.literal.specs.Literal.{value}
 use Rattle.literal.specs.Rows.{View}
 use Rattle.literal.specs.Walks.{digitsTo, integerBy, integerAt, integerOf}
-use Rattle.literal.specs.declared.Parsed.the-variants.{Value, Fault}
-use Rattle.literal.specs.declared.bytes.Class.the-variants.{Digits as DigitClass}
-use Rattle.literal.specs.declared.bytes.Kind.{Kind}
-use Rattle.literal.specs.declared.bytes.Kind.the-variants.{Square, Round, Curly, Quote, Minus, Digit, TrueWord, FalseWord, NoneWord, Other}
+use Rattle.tokens.specs.declared.Parsed.the-variants.{Value, Fault}
+use Rattle.tokens.specs.declared.bytes.Kind.{Kind}
+use Rattle.tokens.specs.declared.bytes.Kind.the-variants.{Square, Round, Curly, Quote, Minus, Digit, TrueWord, FalseWord, NoneWord, Other}
 use Rattle.literal.specs.declared.walks.Integer.the-variants.{NoInteger}
 
 -- what the last arm of the code's match knows
@@ -83,7 +82,7 @@ module _ (s : List ℕ) (at e : ℕ) (h : naturalAt s at ≡ Value e) where
   run z true d =
       let n : naturalAt s at ≡ Value (past isDigit s (at + 1)) = rw (naturalAt, z, d) in
       let there : e ≡ past isDigit s (at + 1) = cc in
-      let all : part s at e ≡ digitsOf (drop at s) = ap (part s at) (there ∙ sym (past-more isDigit s at (class-in DigitClass s at d) d)) ∙ sym (digits-part s at) in
+      let all : part s at e ≡ digitsOf (drop at s) = ap (part s at) (there ∙ sym (past-more isDigit s at (digit-in s at d) d)) ∙ sym (digits-part s at) in
       ap digitsOf all ∙ digits-again (drop at s) ∙ sym all
   run z false d =
       let n : naturalAt s at ≡ Fault at = rw (naturalAt, z, d) in

@@ -14,8 +14,8 @@ use Rattle.grammar.proofs.Reading as reading
 use Rattle.grammar.proofs.Reading.{afterDigits}
 use Rattle.decimal.specs.Decimal.{isDigit, digitsOf}
 use Rattle.literal.proofs.Ends.{past-within}
-use Rattle.literal.specs.Got.{with}
-use Rattle.literal.specs.Text.{byteAt, part, run, past, skip}
+use Rattle.tokens.specs.Got.{with}
+use Rattle.tokens.specs.Text.{byteAt, part, run, past, skip}
 
 pub head-left : (s : List ℕ) (p : ℕ) → byteAt s p ≡ headOf (drop p s)
 head-left [] zero = refl

@@ -1,7 +1,3 @@
-pub mod Positions
-pub mod Spelling
-pub mod Matching
-pub mod Words
 pub mod Ends
 pub mod Steps
 pub mod Rows

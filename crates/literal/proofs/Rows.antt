@@ -11,13 +11,13 @@ use lib.Dec.{eqb}
 use borrow.Author.Tests.{eqb-true}
 use Rattle.literal.proofs.Ends.{Ahead, then-ahead}
 use Rattle.literal.proofs.Steps.{Stops, gapLeft, gap-enough, gap-falls}
-use Rattle.literal.specs.Node.{Node, Pair, pair}
-use Rattle.literal.specs.Got.{Got, got, fault, deep, pos, with}
-use Rattle.literal.specs.Text.{byteAt, skip}
+use Rattle.tokens.specs.Node.{Node, Pair, pair}
+use Rattle.tokens.specs.Got.{Got, got, fault, deep, pos, with}
+use Rattle.tokens.specs.Text.{byteAt, skip}
 use Rattle.literal.specs.Brackets.{gapAt, thenAt, needAt, items, listBy, tupleBy, keyBy, pairBy}
 use Rattle.literal.specs.Rows.{Row}
-use Rattle.literal.specs.declared.Parsed.{Parsed}
-use Rattle.literal.specs.declared.Parsed.the-variants.{Value, Fault, Deep}
+use Rattle.tokens.specs.declared.Parsed.{Parsed}
+use Rattle.tokens.specs.declared.Parsed.the-variants.{Value, Fault, Deep}
 use Rattle.literal.specs.declared.gaps.Gap.{Gap}
 use Rattle.literal.specs.declared.gaps.Gap.the-variants.{Shut, Item, Stray}
 

@@ -11,17 +11,17 @@ use borrow.Author.Tests.{eq-eqb, ne-eqb}
 use denote.Enum.Declared.{tagOf}
 use types.Run.{OneOf, miss}
 use Rattle.grammar.specs.Bytes.{isOpen}
-use Rattle.literal.proofs.Parsed.{the-type}
+use Rattle.tokens.proofs.Parsed.{the-type}
 use Rattle.literal.proofs.gaps.Gap as gap
 use Rattle.literal.proofs.Ends.{pos-with, Ahead, GapAhead, gap-from, gap-ahead, then-ahead}
-use Rattle.literal.specs.Node.{Node}
-use Rattle.literal.specs.Got.{Got, got, fault, deep, pos}
-use Rattle.literal.specs.Text.{byteAt, skip}
-use Rattle.literal.specs.Tokens.{tokenAt}
+use Rattle.tokens.specs.Node.{Node}
+use Rattle.tokens.specs.Got.{Got, got, fault, deep, pos}
+use Rattle.tokens.specs.Text.{byteAt, skip}
+use Rattle.tokens.specs.Tokens.{tokenAt}
 use Rattle.literal.specs.Brackets.{gapAt, thenAt, needAt, endedAt, items, listBy, tupleBy, keyBy, pairBy}
 use Rattle.literal.specs.Literal.{bracketBy, value, alone, literalOf, most-open}
-use Rattle.literal.specs.declared.Parsed.{Parsed}
-use Rattle.literal.specs.declared.Parsed.the-variants.{Value, Fault, Deep}
+use Rattle.tokens.specs.declared.Parsed.{Parsed}
+use Rattle.tokens.specs.declared.Parsed.the-variants.{Value, Fault, Deep}
 use Rattle.literal.specs.declared.gaps.Gap.{Gap}
 use Rattle.literal.specs.declared.gaps.Gap.the-variants.{Shut, Item, Stray}
 

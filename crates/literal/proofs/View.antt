@@ -9,18 +9,18 @@ use lib.Dec.{eqb}
 use Rattle.grammar.specs.Bytes.{isOpen}
 use Rattle.decimal.specs.Decimal.{decimal}
 use Rattle.literal.proofs.Rows.{RowGot, row-list, row-tuple}
-use Rattle.literal.specs.Node.{Node, span, spanOf, string, integer, True, False, None, list, tuple, dict, nodes, pairs}
-use Rattle.literal.specs.Got.{Got, got, fault, deep, with, giving}
-use Rattle.literal.specs.Text.{byteAt, part, kindOf}
-use Rattle.literal.specs.Strings.{Spelled, spelled}
-use Rattle.literal.specs.Tokens.{naturalAt, wordAt, word-true, word-false, word-none, tokenAt}
+use Rattle.tokens.specs.Node.{Node, span, spanOf, string, integer, True, False, None, list, tuple, dict, nodes, pairs}
+use Rattle.tokens.specs.Got.{Got, got, fault, deep, with, giving}
+use Rattle.tokens.specs.Text.{byteAt, part, kindOf}
+use Rattle.tokens.specs.Strings.{Spelled, spelled}
+use Rattle.tokens.specs.Tokens.{naturalAt, wordAt, word-true, word-false, word-none, tokenAt}
 use Rattle.literal.specs.Brackets.{gapAt, listBy, tupleBy, pairBy}
 use Rattle.literal.specs.Literal.{bracketBy, value}
 use Rattle.literal.specs.Rows.{Row, View, kindOfNode}
-use Rattle.literal.specs.declared.Parsed.{Parsed}
-use Rattle.literal.specs.declared.Parsed.the-variants.{Value, Fault, Deep}
-use Rattle.literal.specs.declared.bytes.Kind.{Kind}
-use Rattle.literal.specs.declared.bytes.Kind.the-variants.{Square, Round, Curly, Quote, Minus, Digit, TrueWord, FalseWord, NoneWord, Other}
+use Rattle.tokens.specs.declared.Parsed.{Parsed}
+use Rattle.tokens.specs.declared.Parsed.the-variants.{Value, Fault, Deep}
+use Rattle.tokens.specs.declared.bytes.Kind.{Kind}
+use Rattle.tokens.specs.declared.bytes.Kind.the-variants.{Square, Round, Curly, Quote, Minus, Digit, TrueWord, FalseWord, NoneWord, Other}
 
 abbrev ViewGot : Kind → ℕ → List ℕ → ℕ → Got Node → Type 0
 ViewGot c k s at (got n e) = View c k s at n e

@@ -6,11 +6,11 @@ use mathlib.Core.List.{List, [], _∷_}
 use mathlib.Core.Bool.{cond}
 use lib.ListN.{length}
 use lib.Dec.{eqb}
-use Rattle.literal.specs.Node.{Node, Pair, pair}
-use Rattle.literal.specs.Got.{Got, got, fault, deep, with}
-use Rattle.literal.specs.Text.{byteAt, skip}
-use Rattle.literal.specs.declared.Parsed.{Parsed}
-use Rattle.literal.specs.declared.Parsed.the-variants.{Value, Fault, Deep}
+use Rattle.tokens.specs.Node.{Node, Pair, pair}
+use Rattle.tokens.specs.Got.{Got, got, fault, deep, with}
+use Rattle.tokens.specs.Text.{byteAt, skip}
+use Rattle.tokens.specs.declared.Parsed.{Parsed}
+use Rattle.tokens.specs.declared.Parsed.the-variants.{Value, Fault, Deep}
 use Rattle.literal.specs.declared.gaps.Gap.{Gap}
 use Rattle.literal.specs.declared.gaps.Gap.the-variants.{Shut, Item, Stray}
 

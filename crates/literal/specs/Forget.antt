@@ -1,8 +1,8 @@
 -- The value that was read, without its places in the text: what document 01's grammar (crate grammar) speaks of. Definitions only. Assumes nothing.
 use Rattle.grammar.specs.Value as value
 use Rattle.grammar.specs.Value.{Value, Values, Items}
-use Rattle.literal.specs.Got.{Got, got, fault, deep}
-use Rattle.literal.specs.Node.{Node, Nodes, Pairs, string, integer, True, False, None, list, tuple, dict, end-of-nodes, node-then, end-of-pairs, pair-then}
+use Rattle.tokens.specs.Got.{Got, got, fault, deep}
+use Rattle.tokens.specs.Node.{Node, Nodes, Pairs, string, integer, True, False, None, list, tuple, dict, end-of-nodes, node-then, end-of-pairs, pair-then}
 
 unfoldable mutual
   pub forget : Node → Value

@@ -7,10 +7,10 @@ use mathlib.Core.Bool.{true, false}
 use lib.ListN.{length}
 use lib.Dec.{eqb}
 use Rattle.grammar.specs.Bytes.{isOpen}
-use Rattle.literal.specs.Node.{Node, span, list, tuple, dict, nodes, pairs}
-use Rattle.literal.specs.Got.{Got, got, fault, deep, with}
-use Rattle.literal.specs.Text.{byteAt, skip}
-use Rattle.literal.specs.Tokens.{tokenAt}
+use Rattle.tokens.specs.Node.{Node, span, list, tuple, dict, nodes, pairs}
+use Rattle.tokens.specs.Got.{Got, got, fault, deep, with}
+use Rattle.tokens.specs.Text.{byteAt, skip}
+use Rattle.tokens.specs.Tokens.{tokenAt}
 use Rattle.literal.specs.Brackets.{listBy, tupleBy, pairBy}
 
 -- a bracket at `at`, by a reader of the values in it

@@ -5,16 +5,16 @@ use mathlib.Core.List.{List, [], _∷_}
 use mathlib.Core.Bool.{true, false}
 use mathlib.Core.Path.{_≡_}
 use Rattle.decimal.specs.Decimal.{decimal}
-use Rattle.literal.specs.Node.{Node, Pair, span, string, integer, True, False, None, list, tuple, dict, nodes, pairs}
-use Rattle.literal.specs.Got.{Got, got}
-use Rattle.literal.specs.Text.{byteAt, part}
-use Rattle.literal.specs.Strings.{spelled}
-use Rattle.literal.specs.Tokens.{naturalAt}
+use Rattle.tokens.specs.Node.{Node, Pair, span, string, integer, True, False, None, list, tuple, dict, nodes, pairs}
+use Rattle.tokens.specs.Got.{Got, got}
+use Rattle.tokens.specs.Text.{byteAt, part}
+use Rattle.tokens.specs.Strings.{spelled}
+use Rattle.tokens.specs.Tokens.{naturalAt}
 use Rattle.literal.specs.Brackets.{gapAt, thenAt, pairBy}
 use Rattle.literal.specs.Literal.{value}
-use Rattle.literal.specs.declared.Parsed.the-variants.{Value}
-use Rattle.literal.specs.declared.bytes.Kind.{Kind}
-use Rattle.literal.specs.declared.bytes.Kind.the-variants.{Square, Round, Curly, Quote, Minus, Digit, TrueWord, FalseWord, NoneWord, Other}
+use Rattle.tokens.specs.declared.Parsed.the-variants.{Value}
+use Rattle.tokens.specs.declared.bytes.Kind.{Kind}
+use Rattle.tokens.specs.declared.bytes.Kind.the-variants.{Square, Round, Curly, Quote, Minus, Digit, TrueWord, FalseWord, NoneWord, Other}
 use Rattle.literal.specs.declared.gaps.Gap.{Gap}
 use Rattle.literal.specs.declared.gaps.Gap.the-variants.{Shut, Item, Stray}
 

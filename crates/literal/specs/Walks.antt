@@ -4,14 +4,14 @@ use Prim.Native.Nat.{ℕ, _+_}
 use mathlib.Core.List.{List}
 use mathlib.Core.Bool.{Bool, true, false}
 use lib.ListN.{length}
-use Rattle.literal.specs.Node.{Node, string, integer, True, False, None, list, tuple, dict}
-use Rattle.literal.specs.Got.{Got, got, fault, deep}
-use Rattle.literal.specs.Text.{byteAt, kindOf}
-use Rattle.literal.specs.Tokens.{naturalAt}
-use Rattle.literal.specs.declared.Parsed.{Parsed}
-use Rattle.literal.specs.declared.Parsed.the-variants.{Value, Fault, Deep}
-use Rattle.literal.specs.declared.bytes.Kind.{Kind}
-use Rattle.literal.specs.declared.bytes.Kind.the-variants.{Square, Round, Curly, Quote, Minus, Digit, TrueWord, FalseWord, NoneWord, Other}
+use Rattle.tokens.specs.Node.{Node, string, integer, True, False, None, list, tuple, dict}
+use Rattle.tokens.specs.Got.{Got, got, fault, deep}
+use Rattle.tokens.specs.Text.{byteAt, kindOf}
+use Rattle.tokens.specs.Tokens.{naturalAt}
+use Rattle.tokens.specs.declared.Parsed.{Parsed}
+use Rattle.tokens.specs.declared.Parsed.the-variants.{Value, Fault, Deep}
+use Rattle.tokens.specs.declared.bytes.Kind.{Kind}
+use Rattle.tokens.specs.declared.bytes.Kind.the-variants.{Square, Round, Curly, Quote, Minus, Digit, TrueWord, FalseWord, NoneWord, Other}
 use Rattle.literal.specs.declared.gaps.Gap.{Gap}
 use Rattle.literal.specs.declared.gaps.Gap.the-variants.{Shut, Item, Stray}
 use Rattle.literal.specs.declared.walks.Count.{Count}

@@ -1,9 +1,9 @@
 // What stands between the items of a bracket. No function here has a `requires`. `close` is the closing bracket.
 ghost use mathlib.Core.Path.{_≡_};
 ghost use Rattle.literal.specs.Brackets.{gapAt, thenAt, needAt, endedAt};
-use super::Parsed;
-use super::bytes::blanks;
-use super::bytes::peek;
+use tokens::Parsed;
+use tokens::bytes::blanks;
+use tokens::bytes::peek;
 
 // Where an item may stand: the closing bracket, which ends before the position; an item that begins there; or a fault there.
 pub enum Gap {

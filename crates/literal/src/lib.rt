@@ -1,32 +1,23 @@
 // Reads a Python literal (document 01, "The literal"). Positions are indices of the text. No function here has a `requires`.
-pub mod bytes;
 pub mod gaps;
-pub mod strings;
-pub mod tokens;
 pub mod walks;
 
 ghost use mathlib.Core.Path.{_≡_};
-ghost use Rattle.literal.specs.Got.{pos};
+ghost use Rattle.tokens.specs.Got.{pos};
 ghost use Rattle.literal.specs.Answer.{Reads};
 ghost use Rattle.literal.specs.Brackets.{listBy, tupleBy, keyBy, pairBy};
 ghost use Rattle.literal.specs.Literal.{value as valueOf};
-use bytes::blanks;
-use bytes::is_open;
-use bytes::peek;
 use gaps::Gap;
 use gaps::ended;
 use gaps::gap_at;
 use gaps::need;
 use gaps::then_at;
 use grammar::OPEN;
-use tokens::token;
-
-// What reading finds: a value that ends before the position; refusal 6 at the position; refusal 7 there.
-pub enum Parsed {
-    Value(usize),
-    Fault(usize),
-    Deep(usize),
-}
+use tokens::Parsed;
+use tokens::bytes::blanks;
+use tokens::bytes::is_open;
+use tokens::bytes::peek;
+use tokens::tokens::token;
 
 // A value that begins at `at`, where `room` brackets more may open at once.
 pub fn value(text: &[u8], at: usize, room: usize) -> Parsed

@@ -3,15 +3,15 @@ ghost use mathlib.Core.Path.{_≡_};
 ghost use Rattle.literal.specs.Brackets.{listBy};
 ghost use Rattle.literal.specs.Literal.{value as valueOf};
 ghost use Rattle.literal.specs.Walks.{countOf, countAt, digitsTo, integerAt};
-use super::Parsed;
-use super::bytes::Kind;
-use super::bytes::kind_of;
-use super::bytes::peek;
 use super::gaps::Gap;
 use super::gaps::gap_at;
 use super::gaps::then_at;
-use super::tokens::natural;
 use super::value;
+use tokens::Parsed;
+use tokens::bytes::Kind;
+use tokens::bytes::kind_of;
+use tokens::bytes::peek;
+use tokens::tokens::natural;
 
 // How many items a bracket has, or that it has a fault or is too deep.
 pub enum Count {

@@ -2,17 +2,17 @@
 -- Assumes nothing.
 use Prim.Native.Nat.{ℕ, suc, _+_, _*_, _<_, _≤_}
 use native.Mathlib.Omega.{arith}
-use mathlib.Core.Path.{_≡_, refl, sym, ap, _∙_}
-use mathlib.Core.List.{List, [], _∷_}
-use lib.ListN.{length, drop, length-drop}
+use mathlib.Core.Path.{_≡_, refl, ap, _∙_}
+use mathlib.Core.List.{List, _∷_}
+use lib.ListN.{length, length-drop}
 use lib.Seq.{sets}
 use Rattle.decimal.specs.Decimal.{printed}
 use Rattle.emit.specs.Emits.{Emits, capped}
 use Rattle.emit.proofs.Pieces.{emits-length}
 use Rattle.grammar.specs.Print.{printRow}
 use Rattle.dtype.specs.declared.Entry.{Entry}
-use Rattle.dtype.specs.Dtype.{Dtype, Fields, plain, array, record-of, end-of-fields, field-then}
-use Rattle.dtype.specs.Entries.{entriesOf, entriesIn}
+use Rattle.dtype.specs.Dtype.{Dtype, Fields, plain, array, record-of, field-then}
+use Rattle.dtype.specs.Entries.{entriesOf}
 use Rattle.dtype.specs.Flat.{kindOf, numberOf, entryOf, entry-width, flats}
 use Rattle.dtype.specs.Agrees.{entryAt}
 use Rattle.dtype.proofs.Flat.{some-entry, flat-length}

@@ -3,7 +3,7 @@
 use Prim.Native.Nat.{ℕ, zero, suc, _+_, _-_, _<_, _≤_}
 use native.Mathlib.Omega.{arith}
 use mathlib.Core.Path.{_≡_, refl, sym, ap, _∙_}
-use mathlib.Core.Bool.{Bool, true, false, cond, _&&_}
+use mathlib.Core.Bool.{Bool, true, false, cond, _&&_, and-true, and-false}
 use mathlib.Core.List.{List, [], _∷_}
 use lib.Dec.{eqb}
 use lib.ListN.{length}
@@ -11,8 +11,8 @@ use Rattle.grammar.specs.Value.{Value}
 use Rattle.grammar.specs.Print.{valueOf, valuesOf}
 use Rattle.dtype.specs.declared.Entry.{Entry}
 use Rattle.dtype.specs.Dtype.{Dtype, Fields, plain, array, record-of, end-of-fields, field-then}
-use Rattle.dtype.specs.Entries.{fieldCount, entriesOf, entriesIn}
-use Rattle.dtype.specs.Flat.{entryOf, kindOf, entry-width}
+use Rattle.dtype.specs.Entries.{fieldCount, entriesOf}
+use Rattle.dtype.specs.Flat.{entryOf, kindOf}
 use Rattle.dtype.specs.Agrees.{entryAt}
 use Rattle.dtype.proofs.Flat.{some-entry}
 use Rattle.record.specs.Layout.{dimensionRow, shapeLayout, levelsOf, fieldLayout, descrLayout, fieldRow}
@@ -83,14 +83,6 @@ row-within j k (n ∷ s) = row-within j k s
 pub shape-within : (j k : ℕ) (s : List ℕ) → within (valueOf (shapeLayout j s)) (suc k) ≡ true
 shape-within j k [] = refl
 shape-within j k (n ∷ s) = row-within j k s
-
-and-true : (a : Bool) → (a && true) ≡ a
-and-true true = refl
-and-true false = refl
-
-and-false : (a : Bool) → (a && false) ≡ false
-and-false true = refl
-and-false false = refl
 
 -- the value of a field's text
 abbrev fieldOf : List ℕ → Dtype → Value

@@ -16,7 +16,7 @@ use Rattle.spelling.specs.declared.TimeUnits.{TimeUnits}
 use Rattle.spelling.specs.declared.TimeUnits.the-variants.{Absent, Year, Month, Week, Day, Hour, Minute, Second, Millisecond, Microsecond, Nanosecond, Picosecond, Femtosecond, Attosecond}
 use Rattle.type_str.specs.declared.TypeStr.{TypeStr}
 use Rattle.spelling.specs.Spelling.{orderByte, letterByte, unitText}
-use Rattle.type_str.specs.TypeString.{isObject}
+use Rattle.spelling.specs.Classes.{isObject}
 use Rattle.type_str.specs.Text.{typeText}
 use Rattle.grammar.specs.Print.{escapeOf, spelled, escapes, quote, print}
 use Rattle.emit.specs.Emits.{Emits}

@@ -1,10 +1,10 @@
 -- The walk that prints: a sub-shape, a plain type, an array, a record, and the loop over a record's fields, each from what the functions that it calls have
 -- written. Assumes nothing.
-use Prim.Native.Nat.{ℕ, suc, _+_, _-_, _*_, _<_, _≤_}
+use Prim.Native.Nat.{ℕ, _+_, _-_, _<_, _≤_}
 use native.Mathlib.Omega.{arith}
 use mathlib.Core.Path.{_≡_, refl, sym, ap, _∙_, subst}
-use mathlib.Core.Bool.{false, not}
-use mathlib.Core.List.{List, [], _∷_, _++_}
+use mathlib.Core.Bool.{not}
+use mathlib.Core.List.{List, [], _∷_}
 use borrow.Author.Tests.{not-false}
 use lib.ListN.{length, take, drop, length-drop, length-append}
 use lib.Seq.{sets, drop-drop, take-append-seam, drop-append-seam}
@@ -18,7 +18,7 @@ use Rattle.dtype.specs.declared.Entry.{Entry}
 use Rattle.dtype.specs.Dtype.{Dtype, Fields, plain, array, record-of, end-of-fields, field-then}
 use Rattle.dtype.specs.Entries.{fieldCount, entriesOf, entriesIn, someEntryIn, plainOnly}
 use Rattle.dtype.specs.Names.{namesOf, namesIn, nameBytes, nameBytesIn}
-use Rattle.dtype.specs.Flat.{entryOf, entry-width}
+use Rattle.dtype.specs.Flat.{entryOf}
 use Rattle.dtype.specs.Agrees.{entryAt}
 use Rattle.dtype.proofs.Flat.{some-entry, names-drop, names-length}
 use Rattle.dtype.proofs.Seen.{or-left, or-right}
@@ -27,7 +27,7 @@ use Rattle.table.specs.Checked.{untyped}
 use Rattle.table.specs.EntryType.{typeOf}
 use Rattle.table.proofs.Types.{type-of-written}
 use Rattle.print.specs.declared.Spot.{Spot}
-use Rattle.print.specs.Walk.{subText, Listed, ListedIn, Stands, StandsIn, Walked}
+use Rattle.print.specs.Walk.{subText, Listed, Stands, StandsIn, Walked}
 use Rattle.print.proofs.Listing.{listed-entry, listed-room, listed-inner, listed-fields, listed-first, listed-later}
 
 -- ---- `close_field`

@@ -1,9 +1,9 @@
 -- The kind of the first byte decides. Assumes nothing.
 use mathlib.Core.Path.{_≡_, refl, sym, ap, _∙_}
 use native.Mathlib.Omega.{arith}
-use Rattle.literal.specs.Text.{byteAt, kindOf}
-use Rattle.literal.specs.declared.bytes.Kind.the-variants.{Minus, Digit}
-use Rattle.literal.proofs.Positions.{kind-in}
+use Rattle.tokens.specs.Text.{byteAt, kindOf}
+use Rattle.tokens.specs.declared.bytes.Kind.the-variants.{Minus, Digit}
+use Rattle.tokens.proofs.Positions.{kind-in}
 use Rattle.dims.specs.Answer.{sized}
 use Rattle.dims.proofs.Numbers.{dimension-digit, dimension-minus, dimension-other}
 use borrow.Author.Needs.{needs}

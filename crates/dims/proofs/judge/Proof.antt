@@ -3,7 +3,7 @@ use native.Mathlib.Omega.{arith}
 use mathlib.Core.Path.{sym, ap, subst, _∙_}
 use Rattle.literal.specs.Literal as read
 use borrow.Author.Needs.{needs}
-use Rattle.literal.specs.Text.{kindOf}
+use Rattle.tokens.specs.Text.{kindOf}
 use Rattle.literal.proofs.Steps.{Stops, stops}
 use Rattle.dims.proofs.Held.{judged-none, judged-other, judged-bracket, judged-members}
 use Rattle.dims.proofs.judge.Statement.{statement}

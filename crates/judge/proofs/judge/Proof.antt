@@ -1,5 +1,5 @@
 -- 5, then 6 or 7, then the value. Assumes nothing.
-use Rattle.literal.specs.Text.{skip}
+use Rattle.tokens.specs.Text.{skip}
 use Rattle.refusal.specs.declared.Refusal.{Refusal}
 use mathlib.Core.Path.{sym, _∙_}
 use Rattle.counts.proofs.OneOutcome.{told}

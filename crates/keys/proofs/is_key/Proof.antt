@@ -3,11 +3,11 @@ use Prim.Native.Nat.{ℕ, _+_}
 use native.Mathlib.Omega.{arith}
 use mathlib.Core.Path.{refl, sym, ap, _∙_}
 use borrow.Author.Needs.{needs}
-use Rattle.literal.specs.Text.{kindOf}
+use Rattle.tokens.specs.Text.{kindOf}
 use Rattle.record.specs.Dict.{isThe}
-use Rattle.literal.specs.Strings.{spelled}
+use Rattle.tokens.specs.Strings.{spelled}
 use Rattle.counts.specs.Same.{same}
-use Rattle.literal.proofs.Positions.{getD-any, kind-in}
+use Rattle.tokens.proofs.Positions.{getD-any, kind-in}
 use Rattle.keys.proofs.Braces.{key-is, no-string}
 use Rattle.keys.proofs.is_key.Statement.{statement}
 use Rattle.keys.proofs.is_key.Tie as tie

@@ -2,7 +2,7 @@
 use mathlib.Core.Path.{sym, ap, subst, _∙_}
 use Rattle.literal.specs.Literal as read
 use borrow.Author.Needs.{needs}
-use Rattle.literal.specs.Text.{kindOf}
+use Rattle.tokens.specs.Text.{kindOf}
 use Rattle.literal.proofs.Steps.{Stops, stops, thing}
 use Rattle.keys.proofs.Braces.{order-true, order-false, order-other, order-none}
 use Rattle.keys.proofs.order_at.Statement.{statement}

@@ -3,7 +3,7 @@ use lib.ListN.{length}
 use lib.Dec.{lit<}
 use mathlib.Core.Path.{refl, sym, ap, _∙_}
 use borrow.Author.Needs.{needs}
-use Rattle.literal.specs.Text.{kindOf}
+use Rattle.tokens.specs.Text.{kindOf}
 use Rattle.literal.specs.Brackets.{pairBy}
 use Rattle.literal.specs.Literal as read
 use Rattle.literal.proofs.Ends.{value-ahead, pair-ahead}

@@ -1,7 +1,7 @@
 -- The value behind the first blanks, and then nothing but blanks, as in the definition. Assumes nothing.
 use mathlib.Core.Path.{sym, ap, subst, _∙_}
-use Rattle.literal.specs.Got.{pos}
-use Rattle.literal.specs.declared.Parsed.{Parsed}
+use Rattle.tokens.specs.Got.{pos}
+use Rattle.tokens.specs.declared.Parsed.{Parsed}
 use Rattle.literal.proofs.Steps.{Stops, stops, literal-is, alone-done, alone-more, alone-stop}
 use Rattle.literal.proofs.Meaning.{reads}
 use borrow.Author.Needs.{needs}

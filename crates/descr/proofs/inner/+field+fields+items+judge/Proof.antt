@@ -6,7 +6,7 @@ use mathlib.Core.Path.{refl, sym, ap, _∙_}
 use mathlib.Core.List.{[], _∷_}
 use lib.ListN.{length}
 use Rattle.counts.specs.Outcome.{Outcome, gives}
-use Rattle.literal.specs.Text.{kindOf}
+use Rattle.tokens.specs.Text.{kindOf}
 use Rattle.literal.specs.Brackets.{thenAt}
 use Rattle.literal.proofs.Steps.{gapLeft}
 use Rattle.dims.specs.Walk.{closingOf}
@@ -37,10 +37,10 @@ use Rattle.literal.proofs.gaps.gap_at.Reads as gap-at-reads
 use Rattle.descr.proofs.inner.is_string.Reads as is-string-reads
 use Rattle.descr.proofs.join.Reads as join-reads
 use Rattle.dims.proofs.judge.Reads as judge-reads
-use Rattle.literal.proofs.bytes.kind_of.Reads as kind-of-reads
+use Rattle.tokens.proofs.bytes.kind_of.Reads as kind-of-reads
 use Rattle.descr.proofs.inner.misfit.Reads as misfit-reads
 use Rattle.descr.proofs.inner.name_at.Reads as name-at-reads
-use Rattle.literal.proofs.bytes.peek.Reads as peek-reads
+use Rattle.tokens.proofs.bytes.peek.Reads as peek-reads
 use Rattle.descr.proofs.inner.place_of.Reads as place-of-reads
 use Rattle.descr.proofs.inner.rest.Reads as rest-reads
 use Rattle.descr.proofs.shaped.Reads as shaped-reads

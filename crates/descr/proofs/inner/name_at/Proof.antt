@@ -4,10 +4,10 @@ use native.Mathlib.Omega.{arith}
 use mathlib.Core.Path.{sym, ap, _∙_}
 use lib.ListN.{length}
 use Rattle.counts.specs.Outcome.{gives}
-use Rattle.literal.specs.Text.{kindOf}
-use Rattle.literal.specs.Strings.{spelled}
-use Rattle.literal.specs.declared.strings.Scan.{Scan}
-use Rattle.literal.proofs.Positions.{getD-any}
+use Rattle.tokens.specs.Text.{kindOf}
+use Rattle.tokens.specs.Strings.{spelled}
+use Rattle.tokens.specs.declared.strings.Scan.{Scan}
+use Rattle.tokens.proofs.Positions.{getD-any}
 use Rattle.descr.specs.Totals.{nameTotals}
 use Rattle.descr.specs.Judges.{isString}
 use Rattle.descr.proofs.Nodes.{string-in, name-string, name-not}

@@ -3,11 +3,11 @@ use Prim.Native.Nat.{ℕ}
 use mathlib.Core.Path.{ap, subst, _∙_}
 use mathlib.Core.List.{List}
 use lib.ListN.{length}
-use Rattle.literal.specs.Node.{Node}
-use Rattle.literal.specs.Got.{Got, pos}
+use Rattle.tokens.specs.Node.{Node}
+use Rattle.tokens.specs.Got.{Got, pos}
 use Rattle.literal.specs.Literal.{value as valueOf}
 use Rattle.literal.specs.Rows.{Row}
-use Rattle.literal.specs.declared.Parsed.{Parsed}
+use Rattle.tokens.specs.declared.Parsed.{Parsed}
 use Rattle.literal.specs.declared.gaps.Gap.the-variants.{Item}
 use Rattle.literal.proofs.Ends.{value-ahead}
 use Rattle.literal.proofs.Steps.{Stops, stops, gapLeft, turn-less}

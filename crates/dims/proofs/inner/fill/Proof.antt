@@ -2,7 +2,7 @@
 use native.Mathlib.Omega.{arith}
 use mathlib.Core.Path.{ap, _∙_}
 use borrow.Author.Needs.{needs}
-use Rattle.literal.specs.Text.{kindOf}
+use Rattle.tokens.specs.Text.{kindOf}
 use Rattle.dims.proofs.Stored.{shape-at}
 use Rattle.dims.proofs.inner.fill.Statement.{statement}
 use Rattle.dims.proofs.inner.fill.Tie as tie

@@ -8,10 +8,10 @@ use Rattle.type_str.specs.declared.TypeStr.{TypeStr}
 use Rattle.dtype.specs.Dtype.{plain}
 use Rattle.dtype.specs.Flat.{entryOf}
 use Rattle.dtype.proofs.Flat.{some-entry}
-use Rattle.literal.specs.Node.{Node}
-use Rattle.literal.specs.Got.{Got, pos}
+use Rattle.tokens.specs.Node.{Node}
+use Rattle.tokens.specs.Got.{Got, pos}
 use Rattle.literal.specs.Answer.{place}
-use Rattle.literal.specs.Text.{kindOf}
+use Rattle.tokens.specs.Text.{kindOf}
 use Rattle.literal.proofs.Steps.{gapLeft}
 use Rattle.fill.specs.Filled.{isString}
 use Rattle.fill.proofs.Filling.{text-due, list-due, text-filled, record-filled, fields-due, Filling, filling-start, filling-field, filling-more, filling-end, name-fits, rank-fits, inner-due, levels-due, field-filled, filled-long, fields-long, field-long, field-less}
@@ -31,12 +31,12 @@ use Rattle.fill.proofs.inner.end_of.Reads as end-of-reads
 use Rattle.literal.proofs.gaps.gap_at.Reads as gap-at-reads
 use Rattle.held.proofs.held_sum.Reads as held-sum-reads
 use Rattle.fill.proofs.inner.is_string.Reads as is-string-reads
-use Rattle.literal.proofs.bytes.kind_of.Reads as kind-of-reads
+use Rattle.tokens.proofs.bytes.kind_of.Reads as kind-of-reads
 use Rattle.fill.proofs.inner.name_at.Reads as name-at-reads
 use Rattle.fill.proofs.inner.name_of.Reads as name-of-reads
 use Rattle.fill.proofs.inner.parent.Reads as parent-reads
 use Rattle.fill.proofs.inner.parts.Reads as parts-reads
-use Rattle.literal.proofs.bytes.peek.Reads as peek-reads
+use Rattle.tokens.proofs.bytes.peek.Reads as peek-reads
 use Rattle.fill.proofs.inner.place_of.Reads as place-of-reads
 use Rattle.fill.proofs.inner.plain_entry.Reads as plain-entry-reads
 use Rattle.fill.proofs.inner.put_entry.Reads as put-entry-reads

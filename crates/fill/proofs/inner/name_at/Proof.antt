@@ -7,8 +7,8 @@ use borrow.Rule.Slice.PartMut.{putMid}
 use Rattle.fill.proofs.Stores.{part-stored}
 use mathlib.Core.Path.{ap, _∙_}
 use lib.ListN.{length, getD}
-use Rattle.literal.specs.Strings.{spelled}
-use Rattle.literal.proofs.Positions.{getD-any}
+use Rattle.tokens.specs.Strings.{spelled}
+use Rattle.tokens.proofs.Positions.{getD-any}
 use borrow.Author.Needs.{needs}
 use Rattle.fill.proofs.inner.name_at.Statement.{statement}
 use Rattle.fill.proofs.inner.name_at.Tie as tie

@@ -1,7 +1,7 @@
 -- Each part stands where the gap before it says. Assumes nothing.
 use native.Mathlib.Omega.{arith}
 use mathlib.Core.Path.{ap, _∙_}
-use Rattle.literal.specs.Text.{kindOf}
+use Rattle.tokens.specs.Text.{kindOf}
 use Rattle.dims.specs.Walk.{closingOf}
 use Rattle.fill.specs.Filled.{gapPlace}
 use Rattle.fill.proofs.Parted.{field-bracket, parts-two, parts-three}

@@ -1,4 +1,6 @@
 -- Number by number. Assumes nothing.
+use mathlib.Core.Path.{refl}
+use Rattle.table.proofs.Types.{entry-of}
 use borrow.Author.Needs.{needs}
 use Rattle.fill.proofs.inner.plain_entry.Statement.{statement}
 use Rattle.fill.proofs.inner.plain_entry.Tie as tie
@@ -22,7 +24,7 @@ held-bytes-requires : tie.Need-held-bytes-requires
 held-bytes-requires c κs = search needs
 
 returns : tie.Need-returns
-returns c = cc
+returns c = entry-of _ refl refl (c .before .before .before .to-byte .ensures) (c .before .before .to-byte2 .ensures) refl (c .before .units-number .ensures) refl (c .held-bytes .ensures) refl
 
 pub plain-entry-spec : {M : Type 1} → statement M
 plain-entry-spec =

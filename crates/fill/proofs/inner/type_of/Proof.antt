@@ -1,7 +1,6 @@
 -- A type that was read is returned; no other answer is one. Assumes nothing.
-use native.Mathlib.Omega.{arith}
-use Prim.Native.Nat.{ℕ}
-use mathlib.Core.Path.{_≡_}
+use mathlib.Core.Path.{refl}
+use Rattle.fill.proofs.Told.{same-type, no-type}
 use borrow.Author.Needs.{needs}
 use Rattle.fill.proofs.inner.type_of.Statement.{statement}
 use Rattle.fill.proofs.inner.type_of.Tie as tie
@@ -40,22 +39,22 @@ no-type-requires-5 : tie.Need-no-type-requires-5
 no-type-requires-5 c κs = search needs
 
 returns : tie.Need-returns
-returns c = λ u h. cc
+returns c = λ u h. same-type (c .before .r .given .1) h
 
 returns-2 : tie.Need-returns-2
-returns-2 c = λ u h. absurd (let z : _≡_ {A = ℕ} 0 1 = cc in omega arith)
+returns-2 c = λ u h. no-type (c .before .enum-told .given .1) h refl
 
 returns-3 : tie.Need-returns-3
-returns-3 c = λ u h. absurd (let z : _≡_ {A = ℕ} 0 1 = cc in omega arith)
+returns-3 c = λ u h. no-type (c .before .enum-told2 .given .1) h refl
 
 returns-4 : tie.Need-returns-4
-returns-4 c = λ u h. absurd (let z : _≡_ {A = ℕ} 0 1 = cc in omega arith)
+returns-4 c = λ u h. no-type (c .before .enum-told3 .given .1) h refl
 
 returns-5 : tie.Need-returns-5
-returns-5 c = λ u h. absurd (let z : _≡_ {A = ℕ} 0 1 = cc in omega arith)
+returns-5 c = λ u h. no-type (c .before .enum-told4 .given .1) h refl
 
 returns-6 : tie.Need-returns-6
-returns-6 c = λ u h. absurd (let z : _≡_ {A = ℕ} 0 1 = cc in omega arith)
+returns-6 c = λ u h. no-type (c .before .enum-told5 .given .1) h refl
 
 pub type-of-spec : {M : Type 1} → statement M
 type-of-spec =

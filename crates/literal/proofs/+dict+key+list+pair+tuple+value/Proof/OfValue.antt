@@ -6,9 +6,9 @@ use mathlib.Core.Path.{_≡_, sym, ap, _∙_}
 use mathlib.Core.Bool.{true, false}
 use borrow.Author.Tests.{not-true, not-false}
 use Rattle.grammar.specs.Bytes.{isOpen}
-use Rattle.literal.specs.Got.{pos}
-use Rattle.literal.specs.Text.{byteAt}
-use Rattle.literal.proofs.Positions.{open-in}
+use Rattle.tokens.specs.Got.{pos}
+use Rattle.tokens.specs.Text.{byteAt}
+use Rattle.tokens.proofs.Positions.{open-in}
 use Rattle.literal.proofs.Steps.{value-token, value-deep, value-list, value-tuple, value-dict}
 use Prim.Native.Nat.{ℕ}
 use Rattle.literal.proofs.value.Reads as value

@@ -3,11 +3,11 @@ use Prim.Native.Nat.{_+_}
 use mathlib.Core.Path.{_≡_, refl, sym, ap, _∙_}
 use mathlib.Core.Bool.{true, false}
 use native.Mathlib.Omega.{arith}
-use Rattle.literal.proofs.Positions.{kind-in}
+use Rattle.tokens.proofs.Positions.{kind-in}
 use Rattle.literal.proofs.Integers.{no-integer}
-use Rattle.literal.specs.Text.{byteAt, kindOf}
+use Rattle.tokens.specs.Text.{byteAt, kindOf}
 use Rattle.literal.specs.Walks.{digitsTo}
-use Rattle.literal.specs.declared.bytes.Kind.the-variants.{Minus, Digit}
+use Rattle.tokens.specs.declared.bytes.Kind.the-variants.{Minus, Digit}
 use borrow.Author.Needs.{needs}
 use Rattle.literal.proofs.walks.integer_at.Statement.{statement}
 use Rattle.literal.proofs.walks.integer_at.Tie as tie

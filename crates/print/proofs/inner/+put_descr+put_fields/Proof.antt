@@ -2,7 +2,7 @@
 -- record's fields and an array's type stand behind its entry. The loop keeps `Going`. Assumes nothing.
 use Prim.Native.Nat.{_+_, _-_, _*_}
 use native.Mathlib.Omega.{arith}
-use mathlib.Core.Path.{_≡_, _∙_}
+use mathlib.Core.Path.{_≡_}
 use lib.ListN.{length}
 use borrow.Author.Needs.{needs}
 use Rattle.emit.proofs.Pieces.{emits-length}

@@ -1,0 +1,41 @@
+-- `padding::version_for` meets its contract, by its two tests. Assumes nothing.
+use Prim.Native.Nat.{_+_}
+use native.Mathlib.Omega.{arith}
+use borrow.Author.Tests.{not-true, not-false}
+use Rattle.padding.proofs.Plans.{spaces-few, version-three, version-one, version-two}
+use borrow.Author.Needs.{needs}
+use Rattle.padding.proofs.version_for.Statement.{statement}
+use Rattle.padding.proofs.version_for.Tie as tie
+
+returns : tie.Need-returns
+returns c = version-three _ _ (not-true _ (c .if1 .taken))
+
+add-spaces-behind : tie.Need-add-spaces-behind
+add-spaces-behind c = search needs
+
+spaces-behind-requires : tie.Need-spaces-behind-requires
+spaces-behind-requires c κs = search needs
+
+add-if2 : tie.Need-add-if2
+add-if2 c = omega (arith, c .spaces-behind .ensures, spaces-few (10 + c .before .before .args .n))
+
+add-if2-2 : tie.Need-add-if2-2
+add-if2-2 c = omega (arith, c .spaces-behind .ensures, spaces-few (10 + c .before .before .args .n))
+
+returns-2 : tie.Need-returns-2
+returns-2 c = version-one _ _ _ (not-false _ (c .before .before .if1 .left)) (c .before .spaces-behind .ensures) (c .if2 .taken)
+
+returns-3 : tie.Need-returns-3
+returns-3 c = version-two _ _ _ (not-false _ (c .before .before .if1 .left)) (c .before .spaces-behind .ensures) (c .if2 .left)
+
+pub version-for-spec : {M : Type 1} → statement M
+version-for-spec =
+    tie.close
+    (tie.spec
+    returns
+    add-spaces-behind
+    spaces-behind-requires
+    add-if2
+    add-if2-2
+    returns-2
+    returns-3)

@@ -1,0 +1,102 @@
+// How a header's text is padded, and which version it is written as (document 01, "Header bytes out"). No public function here has a `requires`. What each answer
+// stands for is in specs/Plan.antt.
+ghost use mathlib.Core.Path.{_≡_};
+ghost use Prim.Native.Nat.{_≤_};
+ghost use Rattle.record.specs.Version.{major as majorOf, lengthWidth};
+ghost use Rattle.record.specs.Prefix.{most-text};
+ghost use Rattle.record.specs.Padding.{spacesBehind, versionFor};
+ghost use Rattle.padding.specs.Plan.{versionOf, chosen, planned, answer};
+
+// What prefix and text are a multiple of.
+const PADDING_UNIT: usize = 16;
+
+// The longest text.
+const MOST_TEXT: usize = 131072;
+
+// (1,0), (2,0), (3,0)
+pub enum Version {
+    One,
+    Two,
+    Three,
+}
+
+// A header's version, the spaces behind its text, the length of the padded text, and that of the whole header.
+pub struct Plan {
+    pub version: Version,
+    pub spaces: usize,
+    pub text: usize,
+    pub whole: usize,
+}
+
+// A plan, or 4.
+pub enum Planned {
+    Fits(Plan),
+    Long,
+}
+
+impl Version {
+    pub fn major(self) -> u8
+        ensures { λ r. ⌜ r ≡ majorOf (versionOf self) ⌝ }
+    {
+        match self {
+            Version::One => 1,
+            Version::Two => 2,
+            Version::Three => 3,
+        }
+    }
+
+    // How many bytes the text's length takes.
+    pub fn length_width(self) -> usize
+        ensures { λ r. ⌜ r ≡ lengthWidth (versionOf self) ⌝ }
+    {
+        match self {
+            Version::One => 2,
+            Version::Two => 4,
+            Version::Three => 4,
+        }
+    }
+}
+
+// The fewest spaces behind n bytes of prefix and text, so that with one LF they are a multiple.
+fn spaces_behind(n: usize) -> usize
+    ensures { λ r. ⌜ r ≡ spacesBehind n ⌝ }
+{
+    (PADDING_UNIT - (n % PADDING_UNIT + 1) % PADDING_UNIT) % PADDING_UNIT
+}
+
+// The version of a text of n bytes: (1,0) is judged with its own prefix of 10.
+fn version_for(ascii: bool, n: usize) -> Version
+    requires { ⌜ n ≤ most-text ⌝ }
+    ensures { λ r. ⌜ r ≡ chosen (versionFor ascii n) ⌝ }
+{
+    if !ascii {
+        return Version::Three;
+    }
+    if n + (spaces_behind(10 + n) + 1) <= 65535 {
+        Version::One
+    } else {
+        Version::Two
+    }
+}
+
+// How a text of n bytes is written.
+pub fn plan_for(ascii: bool, n: usize) -> Planned
+    ensures { λ r. ⌜ answer r ≡ planned ascii n ⌝ }
+{
+    if MOST_TEXT < n {
+        return Planned::Long;
+    }
+    let version = version_for(ascii, n);
+    let start = 8 + version.length_width();
+    let spaces = spaces_behind(start + n);
+    let text = n + (spaces + 1);
+    if MOST_TEXT < text {
+        return Planned::Long;
+    }
+    Planned::Fits(Plan {
+        version,
+        spaces,
+        text,
+        whole: start + text,
+    })
+}

@@ -1,0 +1,6 @@
+pub mod Positions
+pub mod Spelling
+pub mod Matching
+pub mod Words
+pub mod Ends
+pub mod Outcomes

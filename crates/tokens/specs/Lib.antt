@@ -1,0 +1,5 @@
+pub mod Node
+pub mod Got
+pub mod Text
+pub mod Tokens
+pub mod Strings

@@ -1,0 +1,51 @@
+-- Document 01, "The literal": "Integers are an optional `-`, then `0` or a nonzero digit with more digits. Words are longest runs of ASCII letters,
+-- digits, underscore. Strings stand in `'` or `"`". The values that have no bracket; a string's bytes are Strings.antt. No two words adjoin in a
+-- valid text, so a word is over where it differs from the three that are known. Definitions only. Assumes nothing.
+use Prim.Native.Nat.{ℕ, _+_}
+use mathlib.Core.List.{List, [], _∷_}
+use mathlib.Core.Bool.{true, false}
+use lib.Dec.{eqb}
+use Rattle.decimal.specs.Decimal.{isDigit, decimal}
+use Rattle.tokens.specs.Node.{Node, span, string, integer, True, False, None}
+use Rattle.tokens.specs.Got.{Got, fault, with, giving}
+use Rattle.tokens.specs.Text.{byteAt, part, kindOf, past}
+use Rattle.tokens.specs.Strings.{stringAt}
+use Rattle.tokens.specs.declared.Parsed.{Parsed}
+use Rattle.tokens.specs.declared.Parsed.the-variants.{Value, Fault}
+use Rattle.tokens.specs.declared.bytes.Kind.the-variants.{Square, Round, Curly, Quote, Minus, Digit, TrueWord, FalseWord, NoneWord, Other}
+
+-- "`0` or a nonzero digit with more digits"
+unfoldable pub naturalAt : List ℕ → ℕ → Parsed
+naturalAt s at = elim (eqb (byteAt s at) 48) [
+  | true ↦ Value (at + 1)
+  | false ↦ elim (isDigit (byteAt s at)) [ true ↦ Value (past isDigit s (at + 1)) | false ↦ Fault at ]
+]
+
+-- a given word: the position behind it, or a fault at the first byte that differs
+unfoldable pub wordAt : List ℕ → List ℕ → ℕ → Parsed
+wordAt [] s at = Value at
+wordAt (c ∷ w) s at = elim (eqb (byteAt s at) c) [ true ↦ wordAt w s (at + 1) | false ↦ Fault at ]
+
+abbrev pub word-true : List ℕ
+word-true = 84 ∷ 114 ∷ 117 ∷ 101 ∷ []
+
+abbrev pub word-false : List ℕ
+word-false = 70 ∷ 97 ∷ 108 ∷ 115 ∷ 101 ∷ []
+
+abbrev pub word-none : List ℕ
+word-none = 78 ∷ 111 ∷ 110 ∷ 101 ∷ []
+
+-- a value that is no bracket, or a fault where none begins
+unfoldable pub tokenAt : List ℕ → ℕ → Got Node
+tokenAt s at = elim (kindOf (byteAt s at)) [
+  | Quote ↦ with (λ e. string (span at e)) (stringAt (byteAt s at) s (at + 1))
+  | Minus ↦ giving (λ e. integer (span at e) true (decimal (part s (at + 1) e))) (naturalAt s (at + 1))
+  | Digit ↦ giving (λ e. integer (span at e) false (decimal (part s at e))) (naturalAt s at)
+  | TrueWord ↦ giving (λ e. True (span at e)) (wordAt word-true s at)
+  | FalseWord ↦ giving (λ e. False (span at e)) (wordAt word-false s at)
+  | NoneWord ↦ giving (λ e. None (span at e)) (wordAt word-none s at)
+  | Square ↦ fault at
+  | Round ↦ fault at
+  | Curly ↦ fault at
+  | Other ↦ fault at
+]

@@ -1,0 +1,145 @@
+// A text's bytes by position, and the classes that document 01, "The literal", tells apart. Nothing above this file looks inside a class.
+// No function here has a `requires`.
+ghost use mathlib.Core.Path.{_≡_};
+ghost use Rattle.grammar.specs.Bytes.{isBlank, isQuote, isOpen, isBreak, isEscape, unescape as unescapeOf};
+ghost use Rattle.decimal.specs.Decimal.{isDigit};
+ghost use Rattle.tokens.specs.Text.{byteAt, kindOf, isIn, past, skip};
+
+// The two classes that are passed over in runs.
+enum Class {
+    Blank,
+    Digits,
+}
+
+// What a byte can begin.
+pub enum Kind {
+    Square,
+    Round,
+    Curly,
+    Quote,
+    Minus,
+    Digit,
+    TrueWord,
+    FalseWord,
+    NoneWord,
+    Other,
+}
+
+// The byte at a position, or 256 past the end.
+pub fn peek(text: &[u8], at: usize) -> u16
+    ensures { λ r. ⌜ r ≡ byteAt (now (text .entry)) at ⌝ }
+{
+    if at < text.len() {
+        text[at] as u16
+    } else {
+        256
+    }
+}
+
+pub fn is_blank(b: u16) -> bool
+    ensures { λ r. ⌜ r ≡ isBlank b ⌝ }
+{
+    (b == 32) | (b == 9) | (b == 10) | (b == 13)
+}
+
+pub fn is_digit(b: u16) -> bool
+    ensures { λ r. ⌜ r ≡ isDigit b ⌝ }
+{
+    (48 <= b) & (b <= 57)
+}
+
+pub fn is_quote(b: u16) -> bool
+    ensures { λ r. ⌜ r ≡ isQuote b ⌝ }
+{
+    (b == 39) | (b == 34)
+}
+
+pub fn is_open(b: u16) -> bool
+    ensures { λ r. ⌜ r ≡ isOpen b ⌝ }
+{
+    (b == 91) | (b == 40) | (b == 123)
+}
+
+// No string holds these raw.
+pub fn is_break(b: u8) -> bool
+    ensures { λ r. ⌜ r ≡ isBreak b ⌝ }
+{
+    (b == 10) | (b == 13)
+}
+
+// What may stand behind a backslash.
+pub fn is_escape(b: u8) -> bool
+    ensures { λ r. ⌜ r ≡ isEscape b ⌝ }
+{
+    (b == 92) | (b == 39) | (b == 34) | (b == 110) | (b == 114) | (b == 116)
+}
+
+// The byte that an escape stands for, by the byte behind its backslash.
+pub fn unescape(b: u8) -> u8
+    ensures { λ r. ⌜ r ≡ unescapeOf b ⌝ }
+{
+    match b {
+        110 => 10,
+        114 => 13,
+        116 => 9,
+        _ => b,
+    }
+}
+
+// What a value that begins with the byte is.
+pub fn kind_of(b: u16) -> Kind
+    ensures { λ r. ⌜ r ≡ kindOf b ⌝ }
+{
+    match b {
+        91 => Kind::Square,
+        40 => Kind::Round,
+        123 => Kind::Curly,
+        45 => Kind::Minus,
+        84 => Kind::TrueWord,
+        70 => Kind::FalseWord,
+        78 => Kind::NoneWord,
+        _ => {
+            if is_quote(b) {
+                Kind::Quote
+            } else if is_digit(b) {
+                Kind::Digit
+            } else {
+                Kind::Other
+            }
+        }
+    }
+}
+
+fn is_in(b: u16, class: Class) -> bool
+    ensures { λ r. ⌜ r ≡ isIn class b ⌝ }
+{
+    match class {
+        Class::Blank => is_blank(b),
+        Class::Digits => is_digit(b),
+    }
+}
+
+// The first position from `from` on whose byte is not of the class.
+fn pass(text: &[u8], from: usize, class: Class) -> usize
+    ensures { λ r. ⌜ r ≡ past (isIn class) (now (text .entry)) from ⌝ }
+{
+    let mut at = from;
+    while is_in(peek(text, at), class) {
+        at += 1;
+    }
+    at
+}
+
+// The first position from `from` on that holds no blank.
+pub fn blanks(text: &[u8], from: usize) -> usize
+    ensures { λ r. ⌜ r ≡ skip (now (text .entry)) from ⌝ }
+{
+    pass(text, from, Class::Blank)
+}
+
+// The first position from `from` on that holds no digit.
+pub fn digits(text: &[u8], from: usize) -> usize
+    ensures { λ r. ⌜ r ≡ past isDigit (now (text .entry)) from ⌝ }
+{
+    pass(text, from, Class::Digits)
+}

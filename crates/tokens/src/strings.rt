@@ -1,0 +1,144 @@
+// Strings, decoded in one place: `piece_at`. No function here has a `requires`. A string's `from` is the position behind its opening quote, and
+// `quote` is that quote.
+ghost use mathlib.Core.Path.{_≡_};
+ghost use lib.ListN.{length, set};
+ghost use lib.Seq.{sets};
+ghost use Rattle.tokens.specs.Strings.{escapeAt, pieceAt, spelled, scanned};
+ghost use Rattle.counts.specs.Same.{same};
+use super::Parsed;
+use super::bytes::is_break;
+use super::bytes::is_escape;
+use super::bytes::peek;
+use super::bytes::unescape;
+
+// What stands at a position of a string: its closing quote, which ends before the position; a byte that the string stands for, and where the
+// next piece begins; or a fault there.
+pub enum Piece {
+    Close(usize),
+    Byte(u8, usize),
+    Bad(usize),
+}
+
+// What a scan of a string tells: how it ended, how many bytes it stands for up to there, and whether an escape stands there.
+pub struct Scan {
+    pub ended: Parsed,
+    pub len: usize,
+    pub escape: bool,
+}
+
+// What stands behind a backslash.
+fn escape_at(text: &[u8], at: usize) -> Piece
+    ensures { λ r. ⌜ r ≡ escapeAt (now (text .entry)) at ⌝ }
+{
+    if text.len() <= at {
+        return Piece::Bad(at);
+    }
+    let b = text[at];
+    if is_escape(b) {
+        Piece::Byte(unescape(b), at + 1)
+    } else {
+        Piece::Bad(at)
+    }
+}
+
+// The piece that stands at a position: the closing quote, a byte as it stands, or an escape.
+pub fn piece_at(text: &[u8], at: usize, quote: u8) -> Piece
+    ensures { λ r. ⌜ r ≡ pieceAt quote (now (text .entry)) at ⌝ }
+{
+    if text.len() <= at {
+        return Piece::Bad(at);
+    }
+    let b = text[at];
+    if b == quote {
+        return Piece::Close(at + 1);
+    }
+    if is_break(b) {
+        return Piece::Bad(at);
+    }
+    if b == 92 {
+        return escape_at(text, at + 1);
+    }
+    Piece::Byte(b, at + 1)
+}
+
+// Passes over a string, up to its end or its fault.
+pub fn scan_at(text: &[u8], from: usize, quote: u8) -> Scan
+    ensures { λ r. ⌜ r ≡ scanned (spelled quote (now (text .entry)) from) ⌝ }
+{
+    let mut at = from;
+    let mut len: usize = 0;
+    let mut escape = false;
+    loop {
+        let p = piece_at(text, at, quote);
+        match p {
+            Piece::Close(e) => {
+                return Scan {
+                    ended: Parsed::Value(e),
+                    len,
+                    escape,
+                };
+            }
+            Piece::Bad(e) => {
+                return Scan {
+                    ended: Parsed::Fault(e),
+                    len,
+                    escape,
+                };
+            }
+            Piece::Byte(_, e) => {
+                escape = escape | (peek(text, at) == 92);
+                len += 1;
+                at = e;
+            }
+        }
+    }
+}
+
+// A store where there is room for it.
+fn put(out: &mut [u8], at: usize, b: u8)
+    ensures { λ _. ⌜ now (out .exit) ≡ set (now (out .entry)) at b ⌝ }
+{
+    if at < out.len() {
+        out[at] = b;
+    }
+}
+
+// Writes the bytes that the string stands for to the front of `out`, as many as have room there, and answers how many they are.
+pub fn decode(text: &[u8], from: usize, quote: u8, out: &mut [u8]) -> usize
+    ensures { λ r. ⌜ r ≡ length (spelled quote (now (text .entry)) from .bytes) ⌝ }
+    ensures { λ _. ⌜ now (out .exit) ≡ sets (now (out .entry)) 0 (spelled quote (now (text .entry)) from .bytes) ⌝ }
+{
+    let mut at = from;
+    let mut n: usize = 0;
+    loop {
+        let p = piece_at(text, at, quote);
+        let Piece::Byte(b, e) = p else {
+            return n;
+        };
+        put(out, n, b);
+        n += 1;
+        at = e;
+    }
+}
+
+// Whether the string stands for the bytes of `key`.
+pub fn is_text(text: &[u8], from: usize, quote: u8, key: &[u8]) -> bool
+    ensures { λ r. ⌜ r ≡ same (spelled quote (now (text .entry)) from .bytes) (now (key .entry)) ⌝ }
+{
+    let mut at = from;
+    let mut i: usize = 0;
+    loop {
+        let p = piece_at(text, at, quote);
+        let Piece::Byte(b, e) = p else {
+            return i == key.len();
+        };
+        if key.len() <= i {
+            return false;
+        }
+        if key[i] != b {
+            return false;
+        }
+        i += 1;
+        at = e;
+    }
+}

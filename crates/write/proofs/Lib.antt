@@ -1,0 +1,4 @@
+pub mod Ascii
+pub mod Texts
+pub mod Answers
+pub mod Outcomes
