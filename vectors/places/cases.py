@@ -70,10 +70,10 @@ def file_of(rng, owners, start):
     return bytes(file)
 
 
-def owned():
-    """Every index and path of small records, with the answers of the layout; and behind them what is in no place."""
-    rng, made = random.Random(6), 0
-    while made < LAID_OUT:
+def owned(count=LAID_OUT, seed=6):
+    """Every index and path of so many small records, with the answers of the layout; and behind them what is in no place."""
+    rng, made = random.Random(seed), 0
+    while made < count:
         found, shape, fortran = small(rng, rng.choice((0, 1, 2, 2, 3))), [rng.choice((0, 1, 2, 2, 3, 4)) for _ in range(rng.choice((0, 1, 1, 2, 2, 3)))], rng.random() < 0.5
         start = rng.choice((0, 1, 16, 80))
         owners = list(laid_out(found, shape, fortran, start))
@@ -122,9 +122,9 @@ def nowhere(rng, owners, shape, length):
 
 # ---- near 2^64
 
-def huge():
+def huge(seed=7):
     """Shapes, sizes, data starts and file lengths at the edges of 64 bits. The file itself is not held: only places and item numbers are asked."""
-    rng = random.Random(7)
+    rng = random.Random(seed)
     shapes = [[MOST], [2 ** 32, 2 ** 32 - 1], [2 ** 32, 2 ** 32], [2 ** 32 - 1, 2 ** 32 + 1], [2 ** 63, 1], [2, 2 ** 63], [2, 2 ** 63 - 1], [0, 2 ** 40, 2 ** 40], [2 ** 40, 2 ** 40, 0],
               [MOST, 0], [0, MOST], [MOST, 1, 1], [1] * 32, [1] * 33, [2] * 32, [4] * 32, [2 ** 61], [2 ** 60], [3, 5, 17, 257, 641, 65_537, 6_700_417], [1, MOST, 1], []]
     types = [records.plain(text) for text in (b'|S0', b'|S1', b'<i8', b'|V%d' % MOST, b'|S%d' % (MOST // 2), b'<U%d' % (2 ** 62 - 1), b'<U%d' % 2 ** 62, b'<U1')]
@@ -149,12 +149,12 @@ def huge():
 
 # ---- 27, 13, 20, 21, 22
 
-def refused():
+def refused(seed=8, every=6):
     """Damaged tables of every kind, and records on both sides of each limit; a place and an element are asked of each."""
-    rng = random.Random(8)
+    rng = random.Random(seed)
     for k, (table, names) in enumerate(records.damaged()):
-        # of the tables that give 27, one in six
-        if k % 6 == 0 or places.given(table, names, [3], False, 16) != 27:
+        # of the tables that give 27, one in so many
+        if k % every == 0 or places.given(table, names, [3], False, 16) != 27:
             yield tried(rng, Given(table, names, [3], rng.random() < 0.5, 16, bytes(60)), rng.choice(([], [0], [1, 0, 2], [0, 0])))
     for found, shape, fortran, _, _ in records.EDGES:
         record = given(found, shape, fortran, 16, bytes(60))

@@ -19,9 +19,9 @@ use Rattle.dtype.specs.Flat.{entry-width, flat}
 use Rattle.dtype.specs.Record.{Record, table, names}
 use Rattle.dtype.specs.Limits.{overDimensions, overLevels, overEntries, overSize, overShape, limited}
 use Rattle.record.specs.Rooms.{Rooms, needs, tooSmall, Lent, roomsOf, atFront, holding}
-use Rattle.literal.specs.Node.{Node}
-use Rattle.literal.specs.Got.{Got}
-use Rattle.literal.specs.Text.{skip}
+use Rattle.tokens.specs.Node.{Node}
+use Rattle.tokens.specs.Got.{Got}
+use Rattle.tokens.specs.Text.{skip}
 use Rattle.literal.specs.Literal.{value}
 use Rattle.dims.specs.Answer.{dimensionsAt}
 use Rattle.dims.specs.Outline.{outlineOf}

@@ -1,12 +1,14 @@
--- No second outcome satisfies the statements of `read` and `read_text`: an outcome is the answer and what the three rooms then hold. And which reading of
+-- No second outcome satisfies the statements of `read`, `read_held` and `read_text`: an outcome is the answer and what the three rooms then hold. And which reading of
 -- literals is meant does not matter, if it keeps the promise of crate grammar. Assumes nothing.
 use Prim.Native.Nat.{ℕ}
 use native.Mathlib.Omega.{arith}
 use mathlib.Core.Path.{_≡_, refl, sym, ap, _∙_}
 use mathlib.Core.List.{List}
+use mathlib.Core.Bool.{Bool}
+use lib.ListN.{take}
 use Rattle.counts.specs.Outcome.{Outcome, gives, refused}
 use Rattle.counts.specs.OneOutcome.{OneOutcome}
-use Rattle.counts.specs.declared.Bytes.{Bytes}
+use Rattle.counts.proofs.OneOutcome.{by-equation}
 use Rattle.refusal.specs.declared.Refusal.{Refusal}
 use Rattle.refusal.specs.Numbers.{numberOf}
 use Rattle.refusal.proofs.Names.{number-apart}
@@ -23,7 +25,7 @@ use Rattle.header.specs.declared.Said.{Said}
 use Rattle.header.specs.declared.TextRead.{TextRead}
 use Rattle.header.specs.declared.Header.{Header}
 use Rattle.header.specs.declared.HeaderRead.{HeaderRead}
-use Rattle.header.specs.Answer.{textAnswer, ReadsText, Told, headerIs, answer, Reads}
+use Rattle.header.specs.Answer.{textAnswer, ReadsText, Told, headerIs, answer, ReadsHeld, Reads}
 
 module _ {A : Type 0} where
   gives-apart : (a b : A) → _≡_ {A = Outcome A} (gives a) (gives b) → a ≡ b
@@ -62,8 +64,15 @@ pair-eq hx hl = cc
 pub read-one : (file : List ℕ) (l : Lent) → OneOutcome {A = HeaderRead × Lent} (λ o. Reads file l (o .0) (o .1))
 read-one file l x y p q = pair-eq (apart (x .0) (y .0) (p .answered ∙ sym (q .answered))) (p .after ∙ sym (q .after))
 
+pub read-held-one : (longer : Bool) (file : List ℕ) (l : Lent) → OneOutcome {A = HeaderRead × Lent} (λ o. ReadsHeld longer file l (o .0) (o .1))
+read-held-one longer file l x y p q = pair-eq (apart (x .0) (y .0) (p .answered ∙ sym (q .answered))) (p .after ∙ sym (q .after))
+
 pub read-text-one : (text : List ℕ) (l : Lent) → OneOutcome {A = TextRead × Lent} (λ o. ReadsText text l (o .0) (o .1))
 read-text-one text l x y p q = pair-eq (text-apart (x .0) (y .0) (p .answered ∙ sym (q .answered))) (p .after ∙ sym (q .after))
+
+-- the front of a room
+pub front-one : (room : List ℕ) (n : ℕ) → OneOutcome {A = List ℕ} (λ r. r ≡ take n room)
+front-one room n = by-equation (take n room)
 
 -- ---- any reading that keeps the promise
 pub any-reading : (other : Reading) → Keeps other → (file : List ℕ) (rooms : Rooms) → headerBy reading file rooms ≡ headerBy other file rooms

@@ -15,7 +15,7 @@ use Rattle.record.specs.Version.{Version, textStart, one-zero, two-zero, three-
 use Rattle.record.specs.Prefix.{Prefix, dataStart, prefix, textOf}
 use Rattle.record.specs.Rooms.{Rooms, needs, tooSmall, Lent, roomsOf}
 use Rattle.record.specs.Header as header
-use Rattle.literal.specs.Text.{skip}
+use Rattle.tokens.specs.Text.{skip}
 use Rattle.prefix.specs.declared.Version as declared
 use Rattle.prefix.specs.declared.Prefix as before
 use Rattle.prefix.specs.declared.PrefixRead.{PrefixRead}
@@ -27,7 +27,7 @@ use Rattle.judge.specs.Judged.{reading, PlanOf, JudgedIs}
 use Rattle.header.specs.declared.Said.{Said}
 use Rattle.header.specs.declared.TextRead.{TextRead}
 use Rattle.header.specs.declared.HeaderRead.{HeaderRead}
-use Rattle.header.specs.Answer.{saidOf, textAnswer, roomed, textInto, filled, Houses, ReadsText, Told, told, answer, behind, ReadsBehind, Reads}
+use Rattle.header.specs.Answer.{saidOf, textAnswer, roomed, textInto, filled, Houses, ReadsText, Told, told, answer, missing, behind, heldInto, ReadsBehind, ReadsHeld, Reads}
 
 -- ---- the text
 module _ (text : List ℕ) (j : Judged) (h : JudgedIs text (skip text 0) j (header.recordIn reading text)) where
@@ -79,7 +79,7 @@ housed-is rooms p r = go (tooSmall rooms (needs r))
     go true = refl
     go false = refl
 
-module _ (file : List ℕ) (p : Prefix) (l : Lent) where
+module _ (longer : Bool) (file : List ℕ) (p : Prefix) (l : Lent) where
   abbrev words : List ℕ
   words = take (p .text-length) (drop (textStart (p .version)) file)
 
@@ -87,8 +87,7 @@ module _ (file : List ℕ) (p : Prefix) (l : Lent) where
   record-then (gives r) = housed-is (roomsOf l) p r
   record-then (refused n) = refl
 
-  behind-is : dataStart p ≤ length file → behind file p l ≡ each (headed p) (textInto words l)
-  unfolding textOf
+  behind-is : dataStart p ≤ length file → behind longer file p l ≡ each (headed p) (textInto words l)
   behind-is le = rw (le-ltb (length file) (dataStart p) le) (record-then (header.recordIn reading words))
 
   told-each : (o : Outcome Record) → each told (each (headed p) o) ≡ each (told-so p) (each saidOf o)
@@ -99,11 +98,10 @@ module _ (file : List ℕ) (p : Prefix) (l : Lent) where
   filled-each (gives r) = refl
   filled-each (refused n) = refl
 
-  pub behind-3 : length file < dataStart p → ReadsBehind file p l (HeaderRead.Refused Refusal.Incomplete) l
-  unfolding textOf
-  behind-3 lt = let z = lt-ltb (length file) (dataStart p) lt in record { answered = rw z refl; after = rw z refl }
+  pub behind-missing : (f : Refusal) → numberOf f ≡ missing longer → length file < dataStart p → ReadsBehind longer file p l (HeaderRead.Refused f) l
+  behind-missing f e lt = let z = lt-ltb (length file) (dataStart p) lt in record { answered = rw z (ap refused e); after = rw z refl }
 
-  behind-by : dataStart p ≤ length file → (x : TextRead) (l′ : Lent) (y : HeaderRead) → ReadsText words l x l′ → answer y ≡ each (told-so p) (textAnswer x) → ReadsBehind file p l y l′
+  behind-by : dataStart p ≤ length file → (x : TextRead) (l′ : Lent) (y : HeaderRead) → ReadsText words l x l′ → answer y ≡ each (told-so p) (textAnswer x) → ReadsBehind longer file p l y l′
   behind-by le x l′ y h e =
       let o = textInto words l in
       record {
@@ -112,11 +110,11 @@ module _ (file : List ℕ) (p : Prefix) (l : Lent) where
       }
 
 -- the same, of what the code has in hand
-module _ (file : List ℕ) (p : before.Prefix) (l l′ : Lent) (start : ℕ) (at : start ≡ textStart (versionIs (p .version))) (le : start + p .length ≤ length file) (x : TextRead) (h : ReadsText (take (start + p .length - start) (drop start file)) l x l′) where
+module _ (longer : Bool) (file : List ℕ) (p : before.Prefix) (l l′ : Lent) (start : ℕ) (at : start ≡ textStart (versionIs (p .version))) (le : start + p .length ≤ length file) (x : TextRead) (h : ReadsText (take (start + p .length - start) (drop start file)) l x l′) where
   start-is : start + p .length ≡ dataStart (prefixIs p)
   start-is = ap (λ (n : ℕ). n + p .length) at
 
-  words-read : ReadsText (words file (prefixIs p) l) l x l′
+  words-read : ReadsText (words longer file (prefixIs p) l) l x l′
   words-read =
       let len : start + p .length - start ≡ p .length = omega arith in
       subst (λ (s : List ℕ). ReadsText s l x l′) (ap (λ (n : ℕ). take n (drop start file)) len ∙ ap (λ (n : ℕ). take (p .length) (drop n file)) at) h
@@ -124,26 +122,35 @@ module _ (file : List ℕ) (p : before.Prefix) (l l′ : Lent) (start : ℕ) (at
   reaches : dataStart (prefixIs p) ≤ length file
   reaches = subst (λ (n : ℕ). n ≤ length file) start-is le
 
-  pub behind-read : (s : Said) → x ≡ TextRead.Read s → ReadsBehind file (prefixIs p) l (HeaderRead.Read (record { version = p .version; said = s; start = record { 0 = start + p .length } })) l′
+  pub behind-read : (s : Said) → x ≡ TextRead.Read s → ReadsBehind longer file (prefixIs p) l (HeaderRead.Read (record { version = p .version; said = s; start = record { 0 = start + p .length } })) l′
   behind-read s e =
-      behind-by file (prefixIs p) l reaches x l′ _ words-read
+      behind-by longer file (prefixIs p) l reaches x l′ _ words-read
       (ap (λ (n : ℕ). gives (record { version = versionIs (p .version); said = s; data-start = n })) start-is ∙ sym (ap (λ (y : TextRead). each (told-so (prefixIs p)) (textAnswer y)) e))
 
-  pub behind-refused : (f : Refusal) → x ≡ TextRead.Refused f → ReadsBehind file (prefixIs p) l (HeaderRead.Refused f) l′
-  behind-refused f e = behind-by file (prefixIs p) l reaches x l′ (HeaderRead.Refused f) words-read (sym (ap (λ (y : TextRead). each (told-so (prefixIs p)) (textAnswer y)) e))
+  pub behind-refused : (f : Refusal) → x ≡ TextRead.Refused f → ReadsBehind longer file (prefixIs p) l (HeaderRead.Refused f) l′
+  behind-refused f e = behind-by longer file (prefixIs p) l reaches x l′ (HeaderRead.Refused f) words-read (sym (ap (λ (y : TextRead). each (told-so (prefixIs p)) (textAnswer y)) e))
 
 -- ---- the file
-module _ (file : List ℕ) (l : Lent) where
-  header-then : (o : Outcome Prefix) → prefix file ≡ o → header.headerInto reading file l ≡ then o (λ p. behind file p l)
-  unfolding header.headerBy
-  header-then o e = ap (λ (x : Outcome Prefix). then x (λ p. behind file p l)) e
+module _ (longer : Bool) (file : List ℕ) (l : Lent) where
+  held-then : (o : Outcome Prefix) → prefix file ≡ o → heldInto longer file l ≡ then o (λ p. behind longer file p l)
+  held-then o e = ap (λ (x : Outcome Prefix). then x (λ p. behind longer file p l)) e
 
-  pub file-read : (p : Prefix) (x : HeaderRead) (l′ : Lent) → gives p ≡ prefix file → ReadsBehind file p l x l′ → Reads file l x l′
-  file-read p x l′ e h =
-      let z = header-then (gives p) (sym e) in
+  pub held-read : (p : Prefix) (x : HeaderRead) (l′ : Lent) → gives p ≡ prefix file → ReadsBehind longer file p l x l′ → ReadsHeld longer file l x l′
+  held-read p x l′ e h =
+      let z = held-then (gives p) (sym e) in
       record { answered = h .answered ∙ ap (each told) (sym z); after = h .after ∙ ap (λ (o : Outcome header.Header). header.filled o l) (sym z) }
 
-  pub file-refused : (f : Refusal) → refused (numberOf f) ≡ prefix file → Reads file l (HeaderRead.Refused f) l
-  file-refused f e =
-      let z = header-then (refused (numberOf f)) (sym e) in
+  pub held-refused : (f : Refusal) → refused (numberOf f) ≡ prefix file → ReadsHeld longer file l (HeaderRead.Refused f) l
+  held-refused f e =
+      let z = held-then (refused (numberOf f)) (sym e) in
       record { answered = ap (each told) (sym z); after = ap (λ (o : Outcome header.Header). header.filled o l) (sym z) }
+
+-- a file that is held whole
+whole-held : (file : List ℕ) (l : Lent) → heldInto false file l ≡ header.headerInto reading file l
+unfolding header.headerBy textOf
+whole-held file l = refl
+
+pub whole-read : (file : List ℕ) (l : Lent) (x : HeaderRead) (l′ : Lent) → ReadsHeld false file l x l′ → Reads file l x l′
+whole-read file l x l′ h =
+    let z = whole-held file l in
+    record { answered = h .answered ∙ ap (each told) z; after = h .after ∙ ap (λ (o : Outcome header.Header). header.filled o l) z }

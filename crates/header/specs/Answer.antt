@@ -4,14 +4,16 @@
 use Prim.Native.Nat.{ℕ}
 use mathlib.Core.Path.{_≡_}
 use mathlib.Core.List.{List}
-use lib.ListN.{length}
+use mathlib.Core.Bool.{Bool, true, false}
+use lib.Dec.{ltb}
+use lib.ListN.{length, take, drop}
 use Rattle.counts.specs.Outcome.{Outcome, gives, refused, then, each, unless}
 use Rattle.refusal.specs.Numbers.{numberOf}
 use Rattle.dtype.specs.Entries.{entriesOf}
 use Rattle.dtype.specs.Names.{nameBytes}
 use Rattle.dtype.specs.Record.{Record}
-use Rattle.record.specs.Version.{Version}
-use Rattle.record.specs.Prefix.{Prefix, textOf}
+use Rattle.record.specs.Version.{Version, textStart}
+use Rattle.record.specs.Prefix.{Prefix, dataStart, prefix}
 use Rattle.record.specs.Rooms.{Rooms, needs, tooSmall, Lent, roomsOf, holding}
 use Rattle.record.specs.Header as header
 use Rattle.prefix.specs.Answer.{versionIs}
@@ -73,15 +75,32 @@ abbrev pub answer : HeaderRead → Outcome Told
 answer (HeaderRead.Read h) = gives (headerIs h)
 answer (HeaderRead.Refused r) = refused (numberOf r)
 
+-- Document 01, "What the collector buys": "It holds the file's first 65,536 bytes ..; a longer file whose header ends past those gets 23 right after 4". The
+-- text of a file of which so many bytes are held, and which is longer or is not: 3 is what a file gets that ends there
+abbrev pub missing : (longer : Bool) → ℕ
+missing true = 23
+missing false = 3
+
+abbrev pub textHeld : (longer : Bool) → Prefix → (file : List ℕ) → Outcome (List ℕ)
+textHeld longer p file = unless (ltb (length file) (dataStart p)) (missing longer) (gives (take (p .text-length) (drop (textStart (p .version)) file)))
+
 -- what is behind the prefix
-abbrev pub behind : (file : List ℕ) → Prefix → Lent → Outcome header.Header
-behind file p l = then (textOf p file) (λ text. then (header.recordIn reading text) (header.housed (roomsOf l) p))
+abbrev pub behind : (longer : Bool) (file : List ℕ) → Prefix → Lent → Outcome header.Header
+behind longer file p l = then (textHeld longer p file) (λ text. then (header.recordIn reading text) (header.housed (roomsOf l) p))
 
-pub record ReadsBehind (file : List ℕ) (p : Prefix) (l : Lent) (x : HeaderRead) (l′ : Lent) : Type 0 where
-  pub answered : answer x ≡ each told (behind file p l)
-  pub after : l′ ≡ header.filled (behind file p l) l
+-- the header of a file that is held in part
+abbrev pub heldInto : (longer : Bool) (file : List ℕ) → Lent → Outcome header.Header
+heldInto longer file l = then (prefix file) (λ p. behind longer file p l)
 
--- the header that a file begins with
+pub record ReadsBehind (longer : Bool) (file : List ℕ) (p : Prefix) (l : Lent) (x : HeaderRead) (l′ : Lent) : Type 0 where
+  pub answered : answer x ≡ each told (behind longer file p l)
+  pub after : l′ ≡ header.filled (behind longer file p l) l
+
+pub record ReadsHeld (longer : Bool) (file : List ℕ) (l : Lent) (x : HeaderRead) (l′ : Lent) : Type 0 where
+  pub answered : answer x ≡ each told (heldInto longer file l)
+  pub after : l′ ≡ header.filled (heldInto longer file l) l
+
+-- the header that a whole file begins with
 pub record Reads (file : List ℕ) (l : Lent) (x : HeaderRead) (l′ : Lent) : Type 0 where
   pub answered : answer x ≡ each told (header.headerInto reading file l)
   pub after : l′ ≡ header.lentAfter reading file l

@@ -10,13 +10,17 @@ use prefix::PrefixRead;
 use prefix::Version;
 use prefix::text_start;
 use refusal::Refusal;
-ghost use Prim.Native.Nat.{ℕ, _≤_};
+ghost use mathlib.Core.Path.{_≡_};
+ghost use Prim.Native.Nat.{_*_, _≤_};
+ghost use lib.ListN.{take};
+ghost use Rattle.dtype.specs.Flat.{entry-width};
+ghost use Rattle.refusal.specs.Numbers.{numberOf};
 ghost use Rattle.dtype.specs.Record.{Record};
 ghost use Rattle.record.specs.Prefix.{most-text};
-ghost use Rattle.literal.specs.Text.{skip};
+ghost use Rattle.tokens.specs.Text.{skip};
 ghost use Rattle.prefix.specs.Answer.{prefixIs};
 ghost use Rattle.judge.specs.Judged.{PlanOf};
-ghost use Rattle.header.specs.Answer.{lent, Reads, ReadsBehind, ReadsText, Houses};
+ghost use Rattle.header.specs.Answer.{lent, missing as missingNumber, Reads, ReadsHeld, ReadsBehind, ReadsText, Houses};
 
 // What a record has beside its table, names and shape, which are in the lent rooms: its order, and how much of each room it takes.
 pub struct Said {
@@ -47,8 +51,21 @@ pub enum HeaderRead {
 pub fn read(file: &[u8], table: &mut [u64], names: &mut [u8], shape: &mut [u64]) -> HeaderRead
     ensures { λ r. ⌜ Reads (now (file .entry)) (lent (now (table .entry)) (now (names .entry)) (now (shape .entry))) r (lent (now (table .exit)) (now (names .exit)) (now (shape .exit))) ⌝ }
 {
+    read_held(file, false, table, names, shape)
+}
+
+// The same of a file of which only the first bytes are held, and which is longer or is not.
+pub fn read_held(
+    file: &[u8],
+    longer: bool,
+    table: &mut [u64],
+    names: &mut [u8],
+    shape: &mut [u64],
+) -> HeaderRead
+    ensures { λ r. ⌜ ReadsHeld longer (now (file .entry)) (lent (now (table .entry)) (now (names .entry)) (now (shape .entry))) r (lent (now (table .exit)) (now (names .exit)) (now (shape .exit))) ⌝ }
+{
     match prefix::read(file) {
-        PrefixRead::Read(p) => read_behind(file, p, table, names, shape),
+        PrefixRead::Read(p) => read_behind(file, longer, p, table, names, shape),
         PrefixRead::Refused(r) => HeaderRead::Refused(r),
     }
 }
@@ -56,19 +73,20 @@ pub fn read(file: &[u8], table: &mut [u64], names: &mut [u8], shape: &mut [u64])
 // The header behind its prefix.
 fn read_behind(
     file: &[u8],
+    longer: bool,
     p: Prefix,
     table: &mut [u64],
     names: &mut [u8],
     shape: &mut [u64],
 ) -> HeaderRead
     requires { ⌜ p .length ≤ most-text ⌝ }
-    ensures { λ r. ⌜ ReadsBehind (now (file .entry)) (prefixIs p) (lent (now (table .entry)) (now (names .entry)) (now (shape .entry))) r (lent (now (table .exit)) (now (names .exit)) (now (shape .exit))) ⌝ }
+    ensures { λ r. ⌜ ReadsBehind longer (now (file .entry)) (prefixIs p) (lent (now (table .entry)) (now (names .entry)) (now (shape .entry))) r (lent (now (table .exit)) (now (names .exit)) (now (shape .exit))) ⌝ }
 {
     let version = p.version;
     let start = text_start(version);
     let end = start + p.length;
     if file.len() < end {
-        return HeaderRead::Refused(Refusal::Incomplete);
+        return HeaderRead::Refused(missing(longer));
     }
     match read_text(&file[start..end], table, names, shape) {
         TextRead::Read(said) => HeaderRead::Read(Header {
@@ -77,6 +95,17 @@ fn read_behind(
             start: Bytes(end as u64),
         }),
         TextRead::Refused(r) => HeaderRead::Refused(r),
+    }
+}
+
+// Why a text is not there: it is not held, or the file ends before it does.
+fn missing(longer: bool) -> Refusal
+    ensures { λ r. ⌜ numberOf r ≡ missingNumber longer ⌝ }
+{
+    if longer {
+        Refusal::Room
+    } else {
+        Refusal::Incomplete
     }
 }
 
@@ -120,4 +149,32 @@ fn house(
         entries: entries,
         names: bytes,
     })
+}
+
+// The entries, the name bytes and the dimensions that were written, at the front of their rooms.
+pub fn table_of(table: &[u64], entries: usize) -> &[u64]
+    ensures { λ r. ⌜ now r ≡ take (entry-width * entries) (now (table .entry)) ⌝ }
+{
+    if entries <= table.len() / dtype::ENTRY {
+        return &table[..dtype::ENTRY * entries];
+    }
+    table
+}
+
+pub fn names_of(names: &[u8], bytes: usize) -> &[u8]
+    ensures { λ r. ⌜ now r ≡ take bytes (now (names .entry)) ⌝ }
+{
+    if bytes <= names.len() {
+        return &names[..bytes];
+    }
+    names
+}
+
+pub fn shape_of(shape: &[u64], rank: usize) -> &[u64]
+    ensures { λ r. ⌜ now r ≡ take rank (now (shape .entry)) ⌝ }
+{
+    if rank <= shape.len() {
+        return &shape[..rank];
+    }
+    shape
 }

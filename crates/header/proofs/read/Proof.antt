@@ -1,25 +1,12 @@
--- The prefix, and then what is behind it. Assumes nothing.
-use mathlib.Core.Path.{sym}
-use Rattle.counts.proofs.OneOutcome.{told}
-use Rattle.prefix.specs.Answer.{answer}
-use Rattle.prefix.proofs.Outcomes.{prefix-short}
+-- A file that is held whole. Assumes nothing.
 use Rattle.header.specs.Answer.{lent}
-use Rattle.header.proofs.Whole.{file-read, file-refused}
+use Rattle.header.proofs.Whole.{whole-read}
 use borrow.Author.Needs.{needs}
 use Rattle.header.proofs.read.Statement.{statement}
 use Rattle.header.proofs.read.Tie as tie
 
-read-requires : tie.Need-read-requires
-read-requires c κs = search needs
-
-enum-known-p : tie.Need-enum-known-p
-enum-known-p c = search needs
-
-read-behind-requires : tie.Need-read-behind-requires
-read-behind-requires c κs = prefix-short (c .before .before .before .before .before .before .before .before .before .before .before .args .file .now) _ (sym (told answer (c .before .before .before .before .before .before .read .ensures) (c .before .before .before .before .p .given .1)))
-
-enum-known-r : tie.Need-enum-known-r
-enum-known-r c = search needs
+read-held-requires : tie.Need-read-held-requires
+read-held-requires c κs = search needs
 
 same-length : tie.Need-same-length
 same-length c = search needs
@@ -32,24 +19,8 @@ same-length-3 c = search needs
 
 returns : tie.Need-returns
 returns c =
-    let a = c .before .before .before .before .before .before .before .before .before .before .before .before .before .before .before .before .before .before .args in
-    file-read (a .file .now) (lent (a .table .now) (a .names .now) (a .shape .now)) _ (c .before .before .before .before .before .before .read-behind .result) _ (told answer (c .before .before .before .before .before .before .before .before .before .before .before .before .before .read .ensures) (c .before .before .before .before .before .before .before .before .before .before .before .p .given .1)) (c .before .before .before .before .before .before .read-behind .ensures)
-
-returns-2 : tie.Need-returns-2
-returns-2 c =
-    let a = c .before .before .before .before .before .before .before .before .args in
-    file-refused (a .file .now) (lent (a .table .now) (a .names .now) (a .shape .now)) _ (told answer (c .before .before .before .read .ensures) (c .before .r .given .1))
+    let a = c .before .before .before .before .before .before .before .before .before .before .before .before .before .before .args in
+    whole-read (a .file .now) (lent (a .table .now) (a .names .now) (a .shape .now)) (c .before .before .before .before .before .before .read-held .result) _ (c .before .before .before .before .before .before .read-held .ensures)
 
 pub read-spec : {M : Type 1} → statement M
-read-spec =
-    tie.close
-    (tie.spec
-    read-requires
-    enum-known-p
-    read-behind-requires
-    enum-known-r
-    same-length
-    same-length-2
-    same-length-3
-    returns
-    returns-2)
+read-spec = tie.close (tie.spec read-held-requires same-length same-length-2 same-length-3 returns)

@@ -5,7 +5,7 @@ use mathlib.Core.Path.{subst}
 use lib.ListN.{length}
 use Rattle.prefix.specs.Answer.{versionIs, prefixIs}
 use Rattle.header.specs.Answer.{lent}
-use Rattle.header.proofs.Whole.{start-small, behind-3, behind-read, behind-refused}
+use Rattle.header.proofs.Whole.{start-small, behind-missing, behind-read, behind-refused}
 use borrow.Author.Needs.{needs}
 use Rattle.header.proofs.read_behind.Statement.{statement}
 use Rattle.header.proofs.read_behind.Tie as tie
@@ -20,8 +20,11 @@ add-end c =
 
 returns : tie.Need-returns
 returns c =
-    let a = c .before .before .before .before .before .before .before .args in
-    behind-3 (a .file .now) (prefixIs (a .p)) (lent (a .table .now) (a .names .now) (a .shape .now)) (subst (λ n. length (a .file .now) < n + a .p .length) (c .before .before .text-start .ensures) (c .if1 .taken))
+    let a = c .before .before .before .before .before .before .before .before .args in
+    behind-missing (a .longer) (a .file .now) (prefixIs (a .p)) (lent (a .table .now) (a .names .now) (a .shape .now)) (c .missing .result) (c .missing .ensures) (subst (λ n. length (a .file .now) < n + a .p .length) (c .before .before .before .text-start .ensures) (c .before .if1 .taken))
+
+missing-requires : tie.Need-missing-requires
+missing-requires c κs = search needs
 
 sub-read-text : tie.Need-sub-read-text
 sub-read-text c = search needs
@@ -53,7 +56,7 @@ same-length-3 c = search needs
 returns-2 : tie.Need-returns-2
 returns-2 c =
     let a = c .before .before .before .before .before .before .before .before .before .before .before .before .before .before .before .before .before .before .before .before .before .args in
-    behind-read (a .file .now) (a .p) (lent (a .table .now) (a .names .now) (a .shape .now)) _ (c .before .before .before .before .before .before .before .before .before .before .before .before .before .before .before .before .text-start .result) (c .before .before .before .before .before .before .before .before .before .before .before .before .before .before .before .before .text-start .ensures) (c .before .before .before .before .before .before .before .before .before .before .before .before .before .before .if1 .left) (c .before .before .before .before .before .before .before .before .before .read-text .result) (c .before .before .before .before .before .before .before .before .before .read-text .ensures) _ (c .before .said .given .1)
+    behind-read (a .longer) (a .file .now) (a .p) (lent (a .table .now) (a .names .now) (a .shape .now)) _ (c .before .before .before .before .before .before .before .before .before .before .before .before .before .before .before .before .text-start .result) (c .before .before .before .before .before .before .before .before .before .before .before .before .before .before .before .before .text-start .ensures) (c .before .before .before .before .before .before .before .before .before .before .before .before .before .before .if1 .left) (c .before .before .before .before .before .before .before .before .before .read-text .result) (c .before .before .before .before .before .before .before .before .before .read-text .ensures) _ (c .before .said .given .1)
 
 same-length-4 : tie.Need-same-length-4
 same-length-4 c = search needs
@@ -67,7 +70,7 @@ same-length-6 c = search needs
 returns-3 : tie.Need-returns-3
 returns-3 c =
     let a = c .before .before .before .before .before .before .before .before .before .before .before .before .before .before .before .before .before .before .before .before .before .args in
-    behind-refused (a .file .now) (a .p) (lent (a .table .now) (a .names .now) (a .shape .now)) _ (c .before .before .before .before .before .before .before .before .before .before .before .before .before .before .before .before .text-start .result) (c .before .before .before .before .before .before .before .before .before .before .before .before .before .before .before .before .text-start .ensures) (c .before .before .before .before .before .before .before .before .before .before .before .before .before .before .if1 .left) (c .before .before .before .before .before .before .before .before .before .read-text .result) (c .before .before .before .before .before .before .before .before .before .read-text .ensures) _ (c .before .r .given .1)
+    behind-refused (a .longer) (a .file .now) (a .p) (lent (a .table .now) (a .names .now) (a .shape .now)) _ (c .before .before .before .before .before .before .before .before .before .before .before .before .before .before .before .before .text-start .result) (c .before .before .before .before .before .before .before .before .before .before .before .before .before .before .before .before .text-start .ensures) (c .before .before .before .before .before .before .before .before .before .before .before .before .before .before .if1 .left) (c .before .before .before .before .before .before .before .before .before .read-text .result) (c .before .before .before .before .before .before .before .before .before .read-text .ensures) _ (c .before .r .given .1)
 
 pub read-behind-spec : {M : Type 1} → statement M
 read-behind-spec =
@@ -75,6 +78,7 @@ read-behind-spec =
     (tie.spec
     text-start-requires
     add-end
+    missing-requires
     returns
     sub-read-text
     part-read-text-start

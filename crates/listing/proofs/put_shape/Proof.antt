@@ -1,0 +1,34 @@
+-- A word, the numbers, the line's end. Assumes nothing.
+use Rattle.listing.proofs.Pieces.{three}
+use borrow.Author.Needs.{needs}
+use Rattle.listing.proofs.put_shape.Statement.{statement}
+use Rattle.listing.proofs.put_shape.Tie as tie
+
+slice-aggregate-put-bytes : tie.Need-slice-aggregate-put-bytes
+slice-aggregate-put-bytes c = search needs
+
+put-bytes-requires : tie.Need-put-bytes-requires
+put-bytes-requires c κs = search needs
+
+put-numbers-requires : tie.Need-put-numbers-requires
+put-numbers-requires c κs = search needs
+
+put-requires : tie.Need-put-requires
+put-requires c κs = search needs
+
+same-length : tie.Need-same-length
+same-length c = search needs
+
+returns : tie.Need-returns
+returns c = three _ _ _ _ _ _ _ _ _ _ _ (c .before .before .before .before .before .before .before .before .before .before .put-bytes .ensures) (c .before .before .before .before .before .before .put-numbers .ensures) (c .before .before .put .ensures)
+
+pub put-shape-spec : {M : Type 1} → statement M
+put-shape-spec =
+    tie.close
+    (tie.spec
+    slice-aggregate-put-bytes
+    put-bytes-requires
+    put-numbers-requires
+    put-requires
+    same-length
+    returns)
