@@ -1,6 +1,6 @@
 -- What each answer of this crate stands for, and what the lent rooms then hold. Document 01, "The refusal numbers": "Each returns its number only; every
 -- lent buffer stays unchanged. On success, room beyond what was needed is unchanged." What a file and a text give is `headerInto` and `recordIn` of
--- crate record, with the literal's own reading. Definitions only. Assumes nothing.
+-- crate record, with the literal's own reading; every other that keeps the grammar's promise gives the same (`any-reading` in proofs/Outcomes.antt). Definitions only. Assumes nothing.
 use Prim.Native.Nat.{ℕ}
 use mathlib.Core.Path.{_≡_}
 use mathlib.Core.List.{List}
@@ -76,7 +76,7 @@ answer (HeaderRead.Read h) = gives (headerIs h)
 answer (HeaderRead.Refused r) = refused (numberOf r)
 
 -- Document 01, "What the collector buys": "It holds the file's first 65,536 bytes ..; a longer file whose header ends past those gets 23 right after 4". The
--- text of a file of which so many bytes are held, and which is longer or is not: 3 is what a file gets that ends there
+-- text of a file of which so many bytes are held, at least a whole prefix, and which is longer or is not: 3 is what a file gets that ends there
 abbrev pub missing : (longer : Bool) → ℕ
 missing true = 23
 missing false = 3
