@@ -1,3 +1,4 @@
 pub mod Housing
 pub mod Whole
+pub mod Held
 pub mod Outcomes

@@ -92,6 +92,10 @@ behind longer file p l = then (textHeld longer p file) (λ text. then (header.re
 abbrev pub heldInto : (longer : Bool) (file : List ℕ) → Lent → Outcome header.Header
 heldInto longer file l = then (prefix file) (λ p. behind longer file p l)
 
+-- the header of a file by its first k bytes, of the file itself: that the bytes held tell it is proofs/Held.antt
+abbrev pub heldOf : (k : ℕ) (file : List ℕ) → Lent → Outcome header.Header
+heldOf k file l = then (prefix file) (λ p. unless (ltb k (dataStart p)) 23 (behind false file p l))
+
 pub record ReadsBehind (longer : Bool) (file : List ℕ) (p : Prefix) (l : Lent) (x : HeaderRead) (l′ : Lent) : Type 0 where
   pub answered : answer x ≡ each told (behind longer file p l)
   pub after : l′ ≡ header.filled (behind longer file p l) l
