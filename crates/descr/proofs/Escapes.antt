@@ -24,9 +24,10 @@ use Rattle.tokens.specs.declared.strings.Piece.the-variants.{Close, Byte, Bad}
 use Rattle.spelling.specs.declared.Endianness.{Endianness}
 use Rattle.spelling.specs.declared.TypeChar.{TypeChar}
 use Rattle.type_str.specs.declared.TypeStr.{TypeStr}
-use Rattle.spelling.specs.declared.TimeUnits.{TimeUnits}
-use Rattle.spelling.specs.declared.TimeUnits.the-variants.{Absent, Year, Month, Week, Day, Hour, Minute, Second, Millisecond, Microsecond, Nanosecond, Picosecond, Femtosecond, Attosecond}
-use Rattle.spelling.specs.Spelling.{firstOf, orders, orderOf, orderByte, letters, letterOf, letterByte, units, unitText, unitsOf}
+use Rattle.units.specs.declared.TimeUnits.{TimeUnits}
+use Rattle.units.specs.declared.TimeUnits.the-variants.{Absent, Year, Month, Week, Day, Hour, Minute, Second, Millisecond, Microsecond, Nanosecond, Picosecond, Femtosecond, Attosecond}
+use Rattle.spelling.specs.Spelling.{firstOf, orders, orderOf, orderByte, letters, letterOf, letterByte}
+use Rattle.units.specs.Units.{units, unitText, unitsOf}
 use Rattle.type_str.specs.TypeString.{sizeStands, sized, syntax, typeString}
 
 false-true : {A : Type 0} → false ≡ true → A

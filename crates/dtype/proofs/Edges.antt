@@ -8,7 +8,7 @@ use lib.ListN.{replicate}
 use Rattle.counts.specs.Outcome.{gives, refused}
 use Rattle.spelling.specs.declared.Endianness.the-variants.{Little, Irrelevant}
 use Rattle.spelling.specs.declared.TypeChar.the-variants.{Int, UnicodeStr, Object}
-use Rattle.spelling.specs.declared.TimeUnits.the-variants.{Absent}
+use Rattle.units.specs.declared.TimeUnits.the-variants.{Absent}
 use Rattle.dtype.specs.declared.Order.{Order}
 use Rattle.dtype.specs.declared.Order.the-variants.{C, Fortran}
 use Rattle.dtype.specs.Dtype.{Dtype, Fields, plain, array, record-of, end-of-fields, field-then, sizeOf}

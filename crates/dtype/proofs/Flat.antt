@@ -9,8 +9,8 @@ use Rattle.spelling.specs.declared.Endianness.{Endianness}
 use Rattle.spelling.specs.declared.Endianness.the-variants.{Little, Big, Irrelevant}
 use Rattle.spelling.specs.declared.TypeChar.{TypeChar}
 use Rattle.spelling.specs.declared.TypeChar.the-variants.{Bool, Int, Uint, Float, Complex, TimeDelta, DateTime, ByteStr, UnicodeStr, Object, RawData}
-use Rattle.spelling.specs.declared.TimeUnits.{TimeUnits}
-use Rattle.spelling.specs.declared.TimeUnits.the-variants.{Absent, Year, Month, Week, Day, Hour, Minute, Second, Millisecond, Microsecond, Nanosecond, Picosecond, Femtosecond, Attosecond}
+use Rattle.units.specs.declared.TimeUnits.{TimeUnits}
+use Rattle.units.specs.declared.TimeUnits.the-variants.{Absent, Year, Month, Week, Day, Hour, Minute, Second, Millisecond, Microsecond, Nanosecond, Picosecond, Femtosecond, Attosecond}
 use Rattle.dtype.specs.TypeNumbers.{orderByte, letterByte, unitsNumber, orderFrom, letterFrom, unitsFrom}
 use Rattle.dtype.specs.Dtype.{Dtype, Fields, plain, array, record-of, end-of-fields, field-then}
 use Rattle.dtype.specs.Entries.{entriesOf, entriesIn}

@@ -6,14 +6,15 @@ use mathlib.Core.List.{List, [], _∷_}
 use mathlib.Core.Bool.{cond}
 use lib.Dec.{eqb}
 use lib.ListN.{getD}
-use Rattle.spelling.specs.Spelling.{letters, units}
+use Rattle.spelling.specs.Spelling.{letters}
+use Rattle.units.specs.Units.{units}
 pub use Rattle.spelling.specs.Spelling.{orderByte, letterByte}
 use Rattle.spelling.specs.declared.Endianness.{Endianness}
 use Rattle.spelling.specs.declared.Endianness.the-variants.{Little, Big, Irrelevant}
 use Rattle.spelling.specs.declared.TypeChar.{TypeChar}
 use Rattle.spelling.specs.declared.TypeChar.the-variants.{Object}
-use Rattle.spelling.specs.declared.TimeUnits.{TimeUnits}
-use Rattle.spelling.specs.declared.TimeUnits.the-variants.{Absent, Year, Month, Week, Day, Hour, Minute, Second, Millisecond, Microsecond, Nanosecond, Picosecond, Femtosecond, Attosecond}
+use Rattle.units.specs.declared.TimeUnits.{TimeUnits}
+use Rattle.units.specs.declared.TimeUnits.the-variants.{Absent, Year, Month, Week, Day, Hour, Minute, Second, Millisecond, Microsecond, Nanosecond, Picosecond, Femtosecond, Attosecond}
 
 -- none, and `Y M W D h m s ms us ns ps fs as`
 abbrev pub unitsNumber : TimeUnits → ℕ

@@ -15,8 +15,9 @@ use Rattle.utf8.specs.Scalar.{isScalar}
 use Rattle.utf8.specs.Decode.{extend, shortest, front, scan}
 use Rattle.spelling.specs.declared.Endianness.the-variants.{Little, Irrelevant}
 use Rattle.spelling.specs.declared.TypeChar.the-variants.{Bool as Boolean, Int, UnicodeStr}
-use Rattle.spelling.specs.declared.TimeUnits.the-variants.{Absent}
-use Rattle.spelling.specs.Spelling.{orderOf, letterOf, unitsOf}
+use Rattle.units.specs.declared.TimeUnits.the-variants.{Absent}
+use Rattle.spelling.specs.Spelling.{orderOf, letterOf}
+use Rattle.units.specs.Units.{unitsOf}
 use Rattle.type_str.specs.TypeString.{sized, syntax, validated, checked, typeString}
 use Rattle.type_str.specs.Text.{typeText}
 use Rattle.dtype.specs.declared.Order.{Order}

@@ -11,8 +11,9 @@ use Rattle.spelling.specs.declared.Endianness.{Endianness}
 use Rattle.spelling.specs.declared.Endianness.the-variants.{Little, Big, Irrelevant}
 use Rattle.spelling.specs.declared.TypeChar.{TypeChar}
 use Rattle.spelling.specs.declared.TypeChar.the-variants.{Bool as Boolean, Int, ByteStr, Object}
-use Rattle.spelling.specs.declared.TimeUnits.the-variants.{Absent}
-use Rattle.spelling.specs.Spelling.{orderOf, letterOf, unitsOf}
+use Rattle.units.specs.declared.TimeUnits.the-variants.{Absent}
+use Rattle.spelling.specs.Spelling.{orderOf, letterOf}
+use Rattle.units.specs.Units.{unitsOf}
 use Rattle.type_str.specs.TypeString.{sized, syntax, validated, checked, typeString}
 use Rattle.dtype.specs.declared.Order.{Order}
 use Rattle.dtype.specs.declared.Order.the-variants.{C, Fortran}

@@ -1,4 +1,4 @@
--- The arm `_` of a match on a letter or on units: a test that fails at every case that no other arm names fails there. Assumes nothing.
+-- The arm `_` of a match on a letter: a test that fails at every case that no other arm names fails there. Assumes nothing.
 use Prim.Native.Nat.{ℕ}
 use mathlib.Core.Path.{_≡_, refl, ap, _∙_}
 use mathlib.Core.Bool.{Bool, false}
@@ -6,14 +6,11 @@ use mathlib.Core.List.{List}
 use lib.ListN.{getD}
 use types.Run.{OneOf}
 use denote.Enum.Declared.{tagOf}
-use Rattle.spelling.specs.Spelling.{letters, units}
+use Rattle.spelling.specs.Spelling.{letters}
 use Rattle.spelling.specs.declared.TypeChar.{TypeChar}
 use Rattle.spelling.specs.declared.TypeChar.the-variants.{Bool as Boolean, Int, Uint, Float as Floating, Complex, TimeDelta, DateTime, ByteStr, UnicodeStr, Object, RawData}
-use Rattle.spelling.specs.declared.TimeUnits.{TimeUnits}
-use Rattle.spelling.specs.declared.TimeUnits.the-variants.{Absent, Year, Month, Week, Day, Hour, Minute, Second, Millisecond, Microsecond, Nanosecond, Picosecond, Femtosecond, Attosecond}
 use Rattle.counts.proofs.Keys.{any, no-key}
 use Rattle.spelling.proofs.TypeChar as TypeChar·type
-use Rattle.spelling.proofs.TimeUnits as TimeUnits·type
 
 letter-at : (l : TypeChar) → getD letters (tagOf TypeChar·type.the-type l) Object ≡ l
 letter-at Boolean = refl
@@ -30,22 +27,3 @@ letter-at RawData = refl
 
 pub no-letter : (test : TypeChar → Bool) (l : TypeChar) (ks : List ℕ) → OneOf ks (tagOf TypeChar·type.the-type l) → any (λ k. test (getD letters k Object)) ks ≡ false → false ≡ test l
 no-letter test l ks o h = no-key (λ k. test (getD letters k Object)) ks (tagOf TypeChar·type.the-type l) o h ∙ ap test (letter-at l)
-
-units-at : (u : TimeUnits) → getD units (tagOf TimeUnits·type.the-type u) Absent ≡ u
-units-at Absent = refl
-units-at Year = refl
-units-at Month = refl
-units-at Week = refl
-units-at Day = refl
-units-at Hour = refl
-units-at Minute = refl
-units-at Second = refl
-units-at Millisecond = refl
-units-at Microsecond = refl
-units-at Nanosecond = refl
-units-at Picosecond = refl
-units-at Femtosecond = refl
-units-at Attosecond = refl
-
-pub no-units : (test : TimeUnits → Bool) (u : TimeUnits) (ks : List ℕ) → OneOf ks (tagOf TimeUnits·type.the-type u) → any (λ k. test (getD units k Absent)) ks ≡ false → false ≡ test u
-no-units test u ks o h = no-key (λ k. test (getD units k Absent)) ks (tagOf TimeUnits·type.the-type u) o h ∙ ap test (units-at u)

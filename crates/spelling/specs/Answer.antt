@@ -3,10 +3,8 @@
 use Rattle.counts.specs.Outcome.{Outcome, gives, refused}
 use Rattle.spelling.specs.declared.Endianness.{Endianness}
 use Rattle.spelling.specs.declared.TypeChar.{TypeChar}
-use Rattle.spelling.specs.declared.TimeUnits.{TimeUnits}
 use Rattle.spelling.specs.declared.OrderRead.{OrderRead}
 use Rattle.spelling.specs.declared.LetterRead.{LetterRead}
-use Rattle.spelling.specs.declared.UnitsRead.{UnitsRead}
 
 abbrev pub orderAnswer : OrderRead → Outcome Endianness
 orderAnswer (OrderRead.Order o) = gives o
@@ -15,7 +13,3 @@ orderAnswer OrderRead.NoOrder = refused 15
 abbrev pub letterAnswer : LetterRead → Outcome TypeChar
 letterAnswer (LetterRead.Letter l) = gives l
 letterAnswer LetterRead.NoLetter = refused 15
-
-abbrev pub unitsAnswer : UnitsRead → Outcome TimeUnits
-unitsAnswer (UnitsRead.Units u) = gives u
-unitsAnswer UnitsRead.NoUnits = refused 15

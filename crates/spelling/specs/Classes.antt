@@ -1,10 +1,7 @@
--- Document 01, "The record": "absent for `O` and needed otherwise", "4 times it for U", "optional units": the letters that are set apart, and whether there are units.
--- Definitions only. Assumes nothing.
+-- Document 01, "The record": "absent for `O` and needed otherwise", "4 times it for U": the letters that are set apart. Definitions only. Assumes nothing.
 use mathlib.Core.Bool.{Bool, true, false}
 use Rattle.spelling.specs.declared.TypeChar.{TypeChar}
 use Rattle.spelling.specs.declared.TypeChar.the-variants.{Bool as Boolean, Int, Uint, Float as Floating, Complex, TimeDelta, DateTime, ByteStr, UnicodeStr, Object, RawData}
-use Rattle.spelling.specs.declared.TimeUnits.{TimeUnits}
-use Rattle.spelling.specs.declared.TimeUnits.the-variants.{Absent, Year, Month, Week, Day, Hour, Minute, Second, Millisecond, Microsecond, Nanosecond, Picosecond, Femtosecond, Attosecond}
 
 -- `O`
 abbrev pub isObject : TypeChar → Bool
@@ -33,20 +30,3 @@ isUnicode ByteStr = false
 isUnicode UnicodeStr = true
 isUnicode Object = false
 isUnicode RawData = false
-
--- no units stand there
-abbrev pub isAbsent : TimeUnits → Bool
-isAbsent Absent = true
-isAbsent Year = false
-isAbsent Month = false
-isAbsent Week = false
-isAbsent Day = false
-isAbsent Hour = false
-isAbsent Minute = false
-isAbsent Second = false
-isAbsent Millisecond = false
-isAbsent Microsecond = false
-isAbsent Nanosecond = false
-isAbsent Picosecond = false
-isAbsent Femtosecond = false
-isAbsent Attosecond = false

@@ -1,18 +1,14 @@
--- Document 01, "The record": "Type string: byte order `<`, `>` or `|`; a letter of `b i u f c m M S U O V` (N); .. then optional units in
--- brackets, one of `Y M W D h m s ms us ns ps fs as` (N)." One table each: how a case is spelled, and all cases in the document's order.
--- What is spelled otherwise is a fault of syntax, 15. Definitions only. Assumes nothing.
+-- Document 01, "The record": "Type string: byte order `<`, `>` or `|`; a letter of `b i u f c m M S U O V` (N)". One table each: how a case is spelled, and all cases
+-- in the document's order. What is spelled otherwise is a fault of syntax, 15. Definitions only. Assumes nothing.
 use Prim.Native.Nat.{ℕ}
-use mathlib.Core.List.{List, [], _∷_, _++_}
-use mathlib.Core.Bool.{Bool, true, false, cond}
+use mathlib.Core.List.{List, [], _∷_}
+use mathlib.Core.Bool.{Bool, cond}
 use lib.Dec.{eqb}
 use Rattle.counts.specs.Outcome.{Outcome, gives, refused}
-use Rattle.counts.specs.Same.{same}
 use Rattle.spelling.specs.declared.Endianness.{Endianness}
 use Rattle.spelling.specs.declared.Endianness.the-variants.{Little, Big, Irrelevant}
 use Rattle.spelling.specs.declared.TypeChar.{TypeChar}
 use Rattle.spelling.specs.declared.TypeChar.the-variants.{Bool as Boolean, Int, Uint, Float as Floating, Complex, TimeDelta, DateTime, ByteStr, UnicodeStr, Object, RawData}
-use Rattle.spelling.specs.declared.TimeUnits.{TimeUnits}
-use Rattle.spelling.specs.declared.TimeUnits.the-variants.{Absent, Year, Month, Week, Day, Hour, Minute, Second, Millisecond, Microsecond, Nanosecond, Picosecond, Femtosecond, Attosecond}
 
 -- the first case of a table that passes a test, or 15
 abbrev pub firstOf : {A : Type 0} → (A → Bool) → List A → Outcome A
@@ -50,41 +46,3 @@ letters = Boolean ∷ Int ∷ Uint ∷ Floating ∷ Complex ∷ TimeDelta ∷ Da
 
 unfoldable pub letterOf : ℕ → Outcome TypeChar
 letterOf b = firstOf (λ l. eqb b (letterByte l)) letters
-
--- `Y M W D h m s ms us ns ps fs as`
-abbrev pub unitName : TimeUnits → List ℕ
-unitName Absent = []
-unitName Year = 89 ∷ []
-unitName Month = 77 ∷ []
-unitName Week = 87 ∷ []
-unitName Day = 68 ∷ []
-unitName Hour = 104 ∷ []
-unitName Minute = 109 ∷ []
-unitName Second = 115 ∷ []
-unitName Millisecond = 109 ∷ 115 ∷ []
-unitName Microsecond = 117 ∷ 115 ∷ []
-unitName Nanosecond = 110 ∷ 115 ∷ []
-unitName Picosecond = 112 ∷ 115 ∷ []
-unitName Femtosecond = 102 ∷ 115 ∷ []
-unitName Attosecond = 97 ∷ 115 ∷ []
-
--- whether a name is one letter
-abbrev pub isOne : List ℕ → Bool
-isOne [] = false
-isOne (b ∷ []) = true
-isOne (b ∷ c ∷ bs) = false
-
-abbrev pub units : List TimeUnits
-units =
-    Absent ∷ Year ∷ Month ∷ Week ∷ Day ∷ Hour ∷ Minute ∷ Second ∷ Millisecond ∷ Microsecond ∷ Nanosecond ∷ Picosecond ∷ Femtosecond ∷ Attosecond ∷ []
-
--- "in brackets", in front of the text r; nothing where there are none
-abbrev pub bracketed : List ℕ → List ℕ → List ℕ
-bracketed [] r = r
-bracketed (b ∷ bs) r = 91 ∷ (b ∷ bs) ++ (93 ∷ r)
-
-abbrev pub unitText : TimeUnits → List ℕ → List ℕ
-unitText u r = bracketed (unitName u) r
-
-unfoldable pub unitsOf : List ℕ → Outcome TimeUnits
-unitsOf text = firstOf (λ u. same text (unitText u [])) units

@@ -13,7 +13,8 @@ use Rattle.counts.specs.Number.{number}
 use Rattle.counts.specs.declared.Number.{Number}
 use Rattle.counts.proofs.Alike.{true-false}
 use Rattle.counts.proofs.Fits.{number-is-back, number-over-back}
-use Rattle.spelling.specs.Spelling.{firstOf, orders, letters, units, orderByte, letterByte, orderOf, letterOf}
+use Rattle.spelling.specs.Spelling.{firstOf, orders, letters, orderByte, letterByte, orderOf, letterOf}
+use Rattle.units.specs.Units.{units}
 use Rattle.type_str.specs.Text.{isType}
 use Rattle.spelling.specs.Classes.{isObject}
 use Rattle.type_str.specs.Bytes.{typeBytes, countedBytes, numBytes}
@@ -23,8 +24,8 @@ use Rattle.counts.specs.declared.Bytes.{Bytes}
 use Rattle.dtype.proofs.Types.{plain-bytes-type}
 use Rattle.spelling.specs.declared.Endianness.{Endianness}
 use Rattle.spelling.specs.declared.TypeChar.{TypeChar}
-use Rattle.spelling.specs.declared.TimeUnits.{TimeUnits}
-use Rattle.spelling.specs.declared.TimeUnits.the-variants.{Absent, Year, Month, Week, Day, Hour, Minute, Second, Millisecond, Microsecond, Nanosecond, Picosecond, Femtosecond, Attosecond}
+use Rattle.units.specs.declared.TimeUnits.{TimeUnits}
+use Rattle.units.specs.declared.TimeUnits.the-variants.{Absent, Year, Month, Week, Day, Hour, Minute, Second, Millisecond, Microsecond, Nanosecond, Picosecond, Femtosecond, Attosecond}
 use Rattle.type_str.specs.declared.TypeStr.{TypeStr}
 use Rattle.spelling.proofs.Tables.{order-spelled, letter-spelled}
 use Rattle.dtype.specs.TypeNumbers.{unitsNumber}

@@ -4,9 +4,10 @@ use Prim.Native.Nat.{ℕ}
 use mathlib.Core.Bool.{not}
 use lib.Dec.{eqb}
 use Rattle.counts.specs.Outcome.{Outcome, gives, refused, then, unless}
-use Rattle.spelling.specs.Spelling.{firstOf, units, orderOf, letterOf}
+use Rattle.spelling.specs.Spelling.{firstOf, orderOf, letterOf}
+use Rattle.units.specs.Units.{units}
 use Rattle.type_str.specs.Text.{isType}
-use Rattle.spelling.specs.declared.TimeUnits.{TimeUnits}
+use Rattle.units.specs.declared.TimeUnits.{TimeUnits}
 use Rattle.type_str.specs.declared.TypeStr.{TypeStr}
 use Rattle.dtype.specs.TypeNumbers.{unitsNumber}
 use Rattle.dtype.specs.declared.Entry.{Entry}

@@ -4,11 +4,12 @@ use mathlib.Core.List.{[], _∷_}
 use lib.ListN.{replicate}
 use Rattle.counts.specs.Outcome.{gives, refused}
 use Rattle.decimal.specs.Decimal.{isDigit, digitsOf, decimalFrom}
-use Rattle.spelling.specs.Spelling.{orderOf, letterOf, unitsOf}
+use Rattle.spelling.specs.Spelling.{orderOf, letterOf}
+use Rattle.units.specs.Units.{unitsOf}
 use Rattle.type_str.specs.TypeString.{sized, syntax, validated, checked, typeString}
 use Rattle.spelling.specs.declared.Endianness.the-variants.{Little, Big, Irrelevant}
 use Rattle.spelling.specs.declared.TypeChar.the-variants.{Int, UnicodeStr}
-use Rattle.spelling.specs.declared.TimeUnits.the-variants.{Absent}
+use Rattle.units.specs.declared.TimeUnits.the-variants.{Absent}
 
 pub record Edges : Type 0 where
   -- `|i1`

@@ -10,15 +10,17 @@ use Rattle.counts.specs.Outcome.{Outcome, gives, refused}
 use Rattle.counts.proofs.Alike.{true-false}
 use Rattle.counts.proofs.Holds.{Holds, then-holds, each-holds, unless-holds, holds-of}
 use Rattle.decimal.specs.Decimal.{isDigit, digitsOf, afterDigits, decimal, decimalFrom}
-use Rattle.spelling.specs.Spelling.{orderByte, orderOf, letterByte, letterOf, unitText, unitsOf}
+use Rattle.spelling.specs.Spelling.{orderByte, orderOf, letterByte, letterOf}
+use Rattle.units.specs.Units.{unitText, unitsOf}
 use Rattle.spelling.specs.Classes.{isObject}
 use Rattle.type_str.specs.TypeString.{sizeStands, sized as sizedOf, sizedBy, syntax}
 use Rattle.type_str.specs.Spells.{Digits, Spells, object, sized}
-use Rattle.spelling.proofs.Tables.{order-spelled, letter-spelled, units-spelled, order-read, letter-read, units-read}
+use Rattle.spelling.proofs.Tables.{order-spelled, letter-spelled, order-read, letter-read}
+use Rattle.units.proofs.Tables.{units-spelled, units-read}
 use Rattle.type_str.proofs.RoundTrip.{units-stop, sized-as}
 use Rattle.spelling.specs.declared.Endianness.{Endianness}
 use Rattle.spelling.specs.declared.TypeChar.{TypeChar}
-use Rattle.spelling.specs.declared.TimeUnits.{TimeUnits}
+use Rattle.units.specs.declared.TimeUnits.{TimeUnits}
 use Rattle.type_str.specs.declared.TypeStr.{TypeStr}
 
 -- ---- complete

@@ -14,15 +14,17 @@ use Rattle.counts.proofs.Alike.{true-false, and-left, and-right}
 use Rattle.counts.proofs.Holds.{Holds, unless-holds, holds-of}
 use Rattle.decimal.specs.Decimal.{isDigit, digitsOf, afterDigits, decimal, decimalFrom, printed}
 use Rattle.decimal.proofs.Prints.{digits-printed, decimal-printed, drop-printed, printed-some}
-use Rattle.spelling.specs.Spelling.{orderOf, letterOf, unitText, unitsOf}
+use Rattle.spelling.specs.Spelling.{orderOf, letterOf}
+use Rattle.units.specs.Units.{unitText, unitsOf}
 use Rattle.spelling.specs.Classes.{isObject}
 use Rattle.type_str.specs.TypeString.{none, sizeStands, sized, sizedBy, syntax, allows, lacksOrder, misplacesUnits, validated, checked, typeString}
 use Rattle.type_str.specs.Text.{sizeText, typeText, passes, isType}
-use Rattle.spelling.proofs.Tables.{order-spelled, letter-spelled, units-spelled}
+use Rattle.spelling.proofs.Tables.{order-spelled, letter-spelled}
+use Rattle.units.proofs.Tables.{units-spelled}
 use Rattle.spelling.specs.declared.Endianness.{Endianness}
 use Rattle.spelling.specs.declared.TypeChar.{TypeChar}
-use Rattle.spelling.specs.declared.TimeUnits.{TimeUnits}
-use Rattle.spelling.specs.declared.TimeUnits.the-variants.{Absent, Year, Month, Week, Day, Hour, Minute, Second, Millisecond, Microsecond, Nanosecond, Picosecond, Femtosecond, Attosecond}
+use Rattle.units.specs.declared.TimeUnits.{TimeUnits}
+use Rattle.units.specs.declared.TimeUnits.the-variants.{Absent, Year, Month, Week, Day, Hour, Minute, Second, Millisecond, Microsecond, Nanosecond, Picosecond, Femtosecond, Attosecond}
 use Rattle.type_str.specs.declared.TypeStr.{TypeStr}
 
 -- ---- from a type to its text and back

@@ -8,7 +8,8 @@ use Rattle.decimal.specs.Decimal.{printed}
 use Rattle.emit.specs.Emits.{Emits}
 use Rattle.emit.proofs.Pieces.{emits-then, emits-same}
 use Rattle.emit.proofs.Texts.{written-short, written-whole}
-use Rattle.spelling.specs.Spelling.{orderByte, letterByte, unitText}
+use Rattle.spelling.specs.Spelling.{orderByte, letterByte}
+use Rattle.units.specs.Units.{unitText}
 use Rattle.spelling.specs.Classes.{isObject}
 use Rattle.type_str.specs.Text.{typeText, isType, typePrinted, typePlaced, Prints}
 use Rattle.type_str.specs.declared.TypeStr.{TypeStr}

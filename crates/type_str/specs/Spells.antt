@@ -6,11 +6,12 @@ use mathlib.Core.Path.{_≡_}
 use mathlib.Core.Bool.{true, false}
 use mathlib.Core.List.{List, [], _∷_, _++_}
 use Rattle.decimal.specs.Decimal.{isDigit, decimal}
-use Rattle.spelling.specs.Spelling.{orderByte, letterByte, unitText}
+use Rattle.spelling.specs.Spelling.{orderByte, letterByte}
+use Rattle.units.specs.Units.{unitText}
 use Rattle.spelling.specs.Classes.{isObject}
 use Rattle.spelling.specs.declared.Endianness.{Endianness}
 use Rattle.spelling.specs.declared.TypeChar.{TypeChar}
-use Rattle.spelling.specs.declared.TimeUnits.{TimeUnits}
+use Rattle.units.specs.declared.TimeUnits.{TimeUnits}
 use Rattle.type_str.specs.declared.TypeStr.{TypeStr}
 
 abbrev pub Digits : List ℕ → Type 0

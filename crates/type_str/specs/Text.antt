@@ -8,7 +8,8 @@ use lib.Dec.{eqb}
 use Rattle.counts.specs.Outcome.{Outcome, gives, refused}
 use Rattle.decimal.specs.Decimal.{printed}
 use Rattle.emit.specs.Placed.{written, placed}
-use Rattle.spelling.specs.Spelling.{orderByte, letterByte, unitText}
+use Rattle.spelling.specs.Spelling.{orderByte, letterByte}
+use Rattle.units.specs.Units.{unitText}
 use Rattle.spelling.specs.Classes.{isObject}
 use Rattle.type_str.specs.TypeString.{checked}
 use Rattle.spelling.specs.declared.TypeChar.{TypeChar}

@@ -9,8 +9,10 @@ use mathlib.Core.Bool.{Bool, true, false, not, cond, _&&_, _||_}
 use lib.Dec.{leb, eqb}
 use Rattle.counts.specs.Outcome.{Outcome, gives, refused, then, each, unless}
 use Rattle.decimal.specs.Decimal.{digitsOf, afterDigits, decimal}
-use Rattle.spelling.specs.Spelling.{orderOf, letterOf, unitsOf}
-use Rattle.spelling.specs.Classes.{isObject, isAbsent}
+use Rattle.spelling.specs.Spelling.{orderOf, letterOf}
+use Rattle.units.specs.Units.{unitsOf}
+use Rattle.spelling.specs.Classes.{isObject}
+use Rattle.units.specs.Units.{isAbsent}
 use Rattle.spelling.specs.declared.Endianness.{Endianness}
 use Rattle.spelling.specs.declared.Endianness.the-variants.{Little, Big, Irrelevant}
 use Rattle.spelling.specs.declared.TypeChar.{TypeChar}

@@ -4,7 +4,7 @@ use native.Mathlib.Omega.{arith}
 use borrow.Author.Tests.{not-true, not-false}
 use Rattle.counts.proofs.OneOutcome.{told}
 use Rattle.decimal.proofs.Runs.{digits-inside}
-use Rattle.spelling.specs.Answer.{unitsAnswer}
+use Rattle.units.specs.Answer.{unitsAnswer}
 use Rattle.type_str.proofs.Splits.{read-count, read-number, stands, units-behind, no-size, no-units-there, parts-there}
 use borrow.Author.Needs.{needs}
 use Rattle.type_str.proofs.sized.Statement.{statement}

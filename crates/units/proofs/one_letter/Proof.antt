@@ -1,9 +1,9 @@
--- `spelling::one_letter` meets its contract: a byte that no unit has there, or a letter of the table. Assumes nothing.
+-- `units::one_letter` meets its contract: a byte that no unit has there, or a letter of the table. Assumes nothing.
 use mathlib.Core.Path.{sym}
-use Rattle.spelling.specs.Spelling.{unitsOf}
-use Rattle.spelling.proofs.Tables.{no-open, no-shut-one, no-letter-one}
-use Rattle.spelling.proofs.one_letter.Statement.{statement}
-use Rattle.spelling.proofs.one_letter.Tie as tie
+use Rattle.units.specs.Units.{unitsOf}
+use Rattle.units.proofs.Tables.{no-open, no-shut-one, no-letter-one}
+use Rattle.units.proofs.one_letter.Statement.{statement}
+use Rattle.units.proofs.one_letter.Tie as tie
 
 returns : tie.Need-returns
 returns c = sym (no-open _ _ (c .if1 .taken))

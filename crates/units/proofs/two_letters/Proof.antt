@@ -1,9 +1,9 @@
--- `spelling::two_letters` meets its contract: a byte that no unit has there, or a letter of the table. Assumes nothing.
+-- `units::two_letters` meets its contract: a byte that no unit has there, or a letter of the table. Assumes nothing.
 use mathlib.Core.Path.{sym}
-use Rattle.spelling.specs.Spelling.{unitsOf}
-use Rattle.spelling.proofs.Tables.{no-open, no-s-two, no-shut-two, no-letter-two}
-use Rattle.spelling.proofs.two_letters.Statement.{statement}
-use Rattle.spelling.proofs.two_letters.Tie as tie
+use Rattle.units.specs.Units.{unitsOf}
+use Rattle.units.proofs.Tables.{no-open, no-s-two, no-shut-two, no-letter-two}
+use Rattle.units.proofs.two_letters.Statement.{statement}
+use Rattle.units.proofs.two_letters.Tie as tie
 
 returns : tie.Need-returns
 returns c = sym (no-open _ _ (c .if1 .taken))

@@ -1,10 +1,10 @@
 -- `TimeUnits::from_text` meets its contract: no unit has another length than 3 or 4. Assumes nothing.
 use mathlib.Core.Path.{sym, ap, _∙_}
-use Rattle.spelling.specs.Spelling.{unitsOf}
-use Rattle.spelling.proofs.Tables.{empty-absent, three-bytes, four-bytes, no-units}
+use Rattle.units.specs.Units.{unitsOf}
+use Rattle.units.proofs.Tables.{empty-absent, three-bytes, four-bytes, no-units}
 use borrow.Author.Needs.{needs}
-use Rattle.spelling.proofs.TimeUnits.from_text.Statement.{statement}
-use Rattle.spelling.proofs.TimeUnits.from_text.Tie as tie
+use Rattle.units.proofs.TimeUnits.from_text.Statement.{statement}
+use Rattle.units.proofs.TimeUnits.from_text.Tie as tie
 
 returns : tie.Need-returns
 returns c = sym (empty-absent _ (c .if1 .taken))

@@ -1,0 +1,4 @@
+pub mod Tables
+pub mod Texts
+pub mod Outcomes
+pub mod Tags
