@@ -1,0 +1,108 @@
+-- The check accepts exactly what some file is read as (specs/Accepted.antt). What was read is accepted, by Accepted.antt. What is accepted is sound, and so its own
+-- header's bytes are read as it, into rooms as long as it is. Assumes nothing.
+use Prim.Native.Nat.{ℕ}
+use native.Mathlib.Omega.{arith}
+use mathlib.Core.Path.{_≡_, refl, sym, ap, subst, _∙_}
+use mathlib.Core.List.{List, [], _++_}
+use lib.ListN.{length}
+use borrow.Author.Tests.{le-ltb}
+use Rattle.counts.specs.Outcome.{Outcome, gives, each, unless}
+use Rattle.dtype.specs.declared.Order.{Order}
+use Rattle.dtype.specs.Limits.{limited}
+use Rattle.dtype.specs.Record.{Record, table, names}
+use Rattle.record.specs.Version as version
+use Rattle.record.specs.Rooms.{roomsOf, holding}
+use Rattle.record.specs.Header as header
+use Rattle.record.specs.File.{fileOf, headerLength}
+use Rattle.record.specs.Writing.{writing}
+use Rattle.record.specs.Sound.{Small, Sound}
+use Rattle.record.proofs.RoundTrips.{headerFor, file-whole, written-read}
+use Rattle.table.specs.Checked.{checkedRecord}
+use Rattle.table.specs.Valid.{made}
+use Rattle.table.proofs.Accepts.{accepts-valid}
+use Rattle.prefix.specs.declared.Version.{Version}
+use Rattle.prefix.specs.Answer.{versionIs}
+use Rattle.judge.specs.Judged.{reading}
+use Rattle.judge.proofs.Top.{reading-keeps}
+use Rattle.header.specs.declared.Header.{Header}
+use Rattle.header.specs.Answer.{lent, saidOf, Told, told}
+use Rattle.claims.specs.Accepted.{Some-file, Printable, Accepts-exactly}
+use Rattle.claims.proofs.Accepted.{valid-sound}
+use Rattle.claims.proofs.Rooms.{read-found, stands-by, roomy-fits}
+use Rattle.claims.proofs.Places.{found-accepted}
+
+-- ---- what was read is accepted
+accepted-moved : {t t′ ns ns′ s s′ : List ℕ} {o o′ : Order} {r : Record} → t′ ≡ t → ns′ ≡ ns → s′ ≡ s → o′ ≡ o → checkedRecord t′ ns′ s′ o′ ≡ gives r
+    → checkedRecord t ns s o ≡ gives r
+accepted-moved et en es eo e = cc
+
+all-read : (t ns s : List ℕ) (o : Order) → Some-file t ns s o → (r : Record) × (checkedRecord t ns s o ≡ gives r)
+all-read t ns s o f =
+    let x = read-found (f .file) (f .before) (f .header) (f .after) (f .reads) in
+    let e = found-accepted (f .file) (f .before) (f .header) (f .after) x in
+    let p = f .stands in
+    (x .header-is .says, accepted-moved (p .table-is) (p .names-are) (p .shape-is) (p .order-is) e)
+
+-- ---- what is accepted is read from its own header's bytes
+valid-limits : (t ns s : List ℕ) (o : Order) (r : Record) → checkedRecord t ns s o ≡ gives r → limited r ≡ gives r
+unfolding limited
+valid-limits t ns s o r e =
+    let (d, is, v) = accepts-valid t ns s o r e in
+    let limits : limited (made d s o) ≡ gives (made d s o) = simp (v .dimensions, v .entries, v .sizes, v .shape-fits) in
+    subst (λ (x : Record). limited x ≡ gives x) (sym is) limits
+
+writing-own : (r : Record) → limited r ≡ gives r → Printable r → writing r (fileOf r) ≡ gives (headerLength r)
+unfolding writing
+writing-own r l p =
+    let whole = file-whole r in
+    rw (writing, l, p .near, le-ltb _ _ (p .short), le-ltb (length (fileOf r)) (headerLength r) (omega arith))
+
+declared : version.Version → Version
+declared version.one-zero = Version.OneZero
+declared version.two-zero = Version.TwoZero
+declared version.three-zero = Version.ThreeZero
+
+declared-is : (v : version.Version) → versionIs (declared v) ≡ v
+unfolding declared
+declared-is version.one-zero = refl
+declared-is version.two-zero = refl
+declared-is version.three-zero = refl
+
+abbrev answered : Record → Header
+answered r = record { version = declared (headerFor r .version); said = saidOf r; start = record { 0 = headerLength r } }
+
+told-eq : {v w : version.Version} (r : Record) → v ≡ w
+    → _≡_ {A = Told} (record { version = v; said = saidOf r; data-start = headerLength r }) (record { version = w; said = saidOf r; data-start = headerLength r })
+told-eq r e = cc
+
+own-file : (r : Record) → Sound r → limited r ≡ gives r → Printable r → Some-file (table (r .dtype)) (names (r .dtype)) (r .shape) (r .order)
+own-file r sound limits p =
+    let l = lent (table (r .dtype)) (names (r .dtype)) (r .shape) in
+    let fits = roomy-fits r l (record { table-fits = omega arith; names-fit = omega arith; shape-fits = omega arith }) in
+    let given : header.headerInto reading (fileOf r ++ []) l ≡ gives (headerFor r) =
+    written-read reading reading-keeps r sound (fileOf r) (headerLength r) (writing-own r limits p) [] (roomsOf l) ∙ ap (λ b. unless b 23 (gives (headerFor r))) fits in
+    record {
+      file = fileOf r ++ [];
+      before = l;
+      after = holding r l;
+      header = answered r;
+      reads =
+          record {
+            answered = ap gives (told-eq r (declared-is (headerFor r .version))) ∙ sym (ap (each told) given);
+            after = sym (ap (λ (o : Outcome header.Header). header.filled o l) given);
+          };
+      stands = stands-by r l (holding r l) (saidOf r) refl refl;
+    }
+
+file-moved : (t t′ ns ns′ s : List ℕ) (o : Order) → t ≡ t′ → ns ≡ ns′ → Some-file t′ ns′ s o → Some-file t ns s o
+file-moved t t′ ns ns′ s o et en f = rw (et, en) f
+
+only-read : (t ns s : List ℕ) (o : Order) → Small t → Small s → (r : Record) → checkedRecord t ns s o ≡ gives r → Printable r → Some-file t ns s o
+only-read t ns s o small-t small-s r e p =
+    let (d, is, v) = accepts-valid t ns s o r e in
+    let sound : Sound (made d s o) = valid-sound t ns s o d v small-t small-s in
+    let limits : limited (made d s o) ≡ gives (made d s o) = subst (λ (x : Record). limited x ≡ gives x) is (valid-limits t ns s o r e) in
+    file-moved t (table d) ns (names d) s o (v .table-is) (v .names-are) (own-file (made d s o) sound limits (subst Printable is p))
+
+pub accepts-exactly : Accepts-exactly
+accepts-exactly t ns s o small-t small-s = record { all-read = all-read t ns s o; only-read = only-read t ns s o small-t small-s }

@@ -1,0 +1,41 @@
+-- Demand 3 (specs/Places.antt) holds of every file that `read` accepts: the record in the rooms is one that a reading gave, so that the check accepts it
+-- (Accepted.antt), and of those crate places shows it. Assumes nothing.
+use Prim.Native.Nat.{ℕ}
+use mathlib.Core.Path.{_≡_}
+use mathlib.Core.List.{List}
+use lib.ListN.{length}
+use Rattle.counts.specs.Outcome.{gives}
+use Rattle.dtype.specs.Record.{Record, table, names}
+use Rattle.record.specs.Rooms.{Lent, roomsOf}
+use Rattle.table.specs.Checked.{checkedRecord}
+use Rattle.places.proofs.Demand.{demand-3}
+use Rattle.judge.specs.Judged.{reading}
+use Rattle.judge.proofs.Top.{reading-keeps}
+use Rattle.header.specs.declared.Said.{Said}
+use Rattle.header.specs.declared.Header.{Header}
+use Rattle.claims.specs.Rooms.{tableIn, namesIn, shapeIn}
+use Rattle.claims.specs.Places.{Data-owned}
+use Rattle.claims.proofs.Accepted.{read-checked}
+use Rattle.claims.proofs.Rooms.{Parts, Found, read-found}
+
+-- what stands in the rooms is accepted as what it was made of is
+pub checked-fronts : (r : Record) (said : Said) (l : Lent) → Parts r said l → checkedRecord (table (r .dtype)) (names (r .dtype)) (r .shape) (r .order) ≡ gives r
+    → checkedRecord (tableIn said l) (namesIn said l) (shapeIn said l) (said .order) ≡ gives r
+checked-fronts r said l p e = rw (p .table-is, p .names-are, p .shape-is, p .order-is) e
+
+pub found-accepted : (file : List ℕ) (l : Lent) (h : Header) (l′ : Lent) (f : Found file l h l′)
+    → checkedRecord (tableIn (h .said) l′) (namesIn (h .said) l′) (shapeIn (h .said) l′) (h .said .order) ≡ gives (f .header-is .says)
+found-accepted file l h l′ f =
+    checked-fronts (f .header-is .says) (h .said) l′ (f .stands) (read-checked reading reading-keeps file (roomsOf l) (f .header-is) (f .given))
+
+pub data-owned : Data-owned
+data-owned file l l′ h x =
+    let f = read-found file l h l′ x in
+    let a = found-accepted file l h l′ f in
+    record {
+      says = f .header-is .says;
+      stands = f .stands;
+      accepted = a;
+      data-owned =
+          demand-3 (length file) (h .start .0) (tableIn (h .said) l′) (namesIn (h .said) l′) (shapeIn (h .said) l′) (h .said .order) (f .header-is .says) a;
+    }

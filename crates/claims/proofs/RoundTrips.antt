@@ -1,0 +1,183 @@
+-- Both round trips of demand 2 (specs/RoundTrips.antt), of whatever satisfies the contracts of `write_header` and `read`. What was written is the header of the record
+-- that the check accepted, which is sound (Accepted.antt); and of sound records crate record shows that their bytes are read back. What was read is sound, and the
+-- check accepts it: so it is written, 4 and 28 aside, and the same holds of its bytes. Assumes nothing.
+use Prim.Native.Nat.{ℕ, _+_}
+use native.Mathlib.Omega.{arith}
+use mathlib.Core.Path.{_≡_, refl, sym, ap, subst, _∙_}
+use mathlib.Core.List.{List, _++_}
+use mathlib.Core.Bool.{Bool, true, false, not}
+use mathlib.Core.Logic.{_⊎_, inl, inr}
+use lib.Dec.{ltb}
+use lib.ListN.{length, take, drop}
+use lib.Seq.{take-append-seam}
+use Rattle.counts.specs.Outcome.{Outcome, gives, refused, then, each, unless}
+use Rattle.refusal.specs.declared.Refusal.{Refusal}
+use Rattle.refusal.proofs.Names.{number-apart}
+use Rattle.grammar.specs.Print.{valueOf}
+use Rattle.dtype.specs.declared.Order.{Order}
+use Rattle.dtype.specs.Limits.{limited}
+use Rattle.dtype.specs.Record.{Record, table, names}
+use Rattle.record.specs.Layout.{headerLayout}
+use Rattle.record.specs.Prefix.{most-text}
+use Rattle.record.specs.Within.{within}
+use Rattle.record.specs.Rooms.{needs, tooSmall, Lent, roomsOf, holding}
+use Rattle.record.specs.Header as header
+use Rattle.record.specs.File.{textLength, fileOf, headerLength}
+use Rattle.record.specs.Writing.{writing, placed, roomAfter}
+use Rattle.record.specs.Sound.{Sound}
+use Rattle.record.proofs.Holds.{Holds, then-any, unless-holds, held}
+use Rattle.record.proofs.RoundTrips.{headerFor, file-whole, written-read, read-readable, read-written}
+use Rattle.table.specs.Checked.{checkedRecord}
+use Rattle.table.proofs.Accepts.{accepts-valid}
+use Rattle.judge.specs.Judged.{reading}
+use Rattle.judge.proofs.Top.{reading-keeps}
+use Rattle.header.specs.declared.Header.{Header}
+use Rattle.header.specs.declared.HeaderRead.{HeaderRead}
+use Rattle.header.specs.Answer.{Told, told, headerIs, answer, Reads}
+use Rattle.write.specs.declared.Written.{Written}
+use Rattle.write.specs.Answer as written
+use Rattle.write.specs.Writes.{headerWritten, roomOf, headerPlaced, Writes}
+use Rattle.write.proofs.Outcomes.{write-header-one}
+use Rattle.claims.specs.Rooms.{tableIn, namesIn, shapeIn}
+use Rattle.claims.specs.RoundTrips.{Gives, Comes-back, Written-read, Read-written}
+use Rattle.claims.proofs.Accepted.{valid-sound}
+use Rattle.claims.proofs.Rooms.{stands-by, read-found, roomy-fits, fits-roomy}
+use Rattle.claims.proofs.Places.{found-accepted}
+
+-- ---- what was written is the header of the record that was accepted
+writing-whole : (r : Record) (room : List ℕ) → Holds (λ n. n ≡ headerLength r) (writing r room)
+unfolding writing
+writing-whole r room =
+    then-any (λ n. n ≡ headerLength r) (limited r) _
+    (λ s. unless-holds (λ n. n ≡ headerLength r) (not (within (valueOf (headerLayout r)) 32)) 7 _
+    (λ a. unless-holds (λ n. n ≡ headerLength r) (ltb most-text (textLength r)) 4 _
+    (λ b. unless-holds (λ n. n ≡ headerLength r) (ltb (length room) (headerLength r)) 28 (gives (headerLength r)) (λ c. refl))))
+
+record Wrote (t ns s : List ℕ) (o : Order) (room : List ℕ) (n : ℕ) (room′ : List ℕ) : Type 0 where
+  says : Record
+  accepted : checkedRecord t ns s o ≡ gives says
+  writes : writing says room ≡ gives n
+  bytes : take n room′ ≡ fileOf says
+
+wrote-bytes : (r : Record) (room room′ : List ℕ) (n : ℕ) → writing r room ≡ gives n → room′ ≡ roomAfter r room → take n room′ ≡ fileOf r
+wrote-bytes r room room′ n e p =
+    let whole : n ≡ length (fileOf r) = held (λ k. k ≡ headerLength r) e (writing-whole r room) ∙ sym (file-whole r) in
+    let all : room′ ≡ fileOf r ++ drop n room = p ∙ ap (λ (x : Outcome ℕ). placed x r room) e in
+    ap (take n) all ∙ ap (λ (k : ℕ). take k (fileOf r ++ drop n room)) whole ∙ take-append-seam (fileOf r) (drop n room)
+
+wrote : (t ns s : List ℕ) (o : Order) (room : List ℕ) (n : ℕ) (room′ : List ℕ) → Writes t ns s o room (Written.Count n) room′ → Wrote t ns s o room n room′
+unfolding headerWritten headerPlaced
+wrote t ns s o room n room′ w = go (checkedRecord t ns s o) refl (w .answered) (w .room-after)
+  where
+    go : (c : Outcome Record) → checkedRecord t ns s o ≡ c → gives n ≡ then c (λ r. writing r room) → room′ ≡ roomOf c room → Wrote t ns s o room n room′
+    go (gives r) e a b = record { says = r; accepted = e; writes = sym a; bytes = wrote-bytes r room room′ n (sym a) b }
+    go (refused k) e a b = absurd (let z : _≡_ {A = ℕ} 0 1 = cc in omega arith)
+
+-- ---- an answer by what it stands for
+module _ (r : Record) (n : ℕ) (l l′ : Lent) (x : HeaderRead) (start : headerLength r ≡ n) where
+  given-by : answer x ≡ gives (told (headerFor r)) → l′ ≡ holding r l → Gives (table (r .dtype)) (names (r .dtype)) (r .shape) (r .order) n x l′
+  given-by = go x refl
+    where
+      go : (y : HeaderRead) → x ≡ y → answer y ≡ gives (told (headerFor r)) → l′ ≡ holding r l → Gives (table (r .dtype)) (names (r .dtype)) (r .shape) (r .order) n x l′
+      go (HeaderRead.Read h) e a b =
+          let same : headerIs h ≡ told (headerFor r) = cc in
+          record {
+            header = h;
+            is = e;
+            starts = ap (λ (t : Told). t .data-start) same ∙ start;
+            stands = stands-by r l l′ (h .said) (ap (λ (t : Told). t .said) same) b;
+          }
+      go (HeaderRead.Refused f) e a b = absurd (let z : _≡_ {A = ℕ} 0 1 = cc in omega arith)
+
+  refused-by : answer x ≡ refused 23 → x ≡ HeaderRead.Refused Refusal.Room
+  refused-by = go x
+    where
+      go : (y : HeaderRead) → answer y ≡ refused 23 → y ≡ HeaderRead.Refused Refusal.Room
+      go (HeaderRead.Read h) a = absurd (let z : _≡_ {A = ℕ} 0 1 = cc in omega arith)
+      go (HeaderRead.Refused f) a = ap HeaderRead.Refused (number-apart f Refusal.Room cc)
+
+  by-room : (o : Outcome header.Header) → o ≡ unless (tooSmall (roomsOf l) (needs r)) 23 (gives (headerFor r)) → answer x ≡ each told o → l′ ≡ header.filled o l
+      → Comes-back (table (r .dtype)) (names (r .dtype)) (r .shape) (r .order) n l x l′
+  by-room o e a b = go (tooSmall (roomsOf l) (needs r)) refl e
+    where
+      go : (c : Bool) → tooSmall (roomsOf l) (needs r) ≡ c → o ≡ unless c 23 (gives (headerFor r))
+          → Comes-back (table (r .dtype)) (names (r .dtype)) (r .shape) (r .order) n l x l′
+      go true small k =
+          record {
+            roomy = λ h. absurd (let y = sym small ∙ roomy-fits r l h in let z : _≡_ {A = ℕ} 0 1 = cc in omega arith);
+            no-room = λ h. (refused-by (a ∙ ap (each told) k), b ∙ ap (λ (y : Outcome header.Header). header.filled y l) k);
+          }
+      go false fits k =
+          record {
+            roomy = λ h. given-by (a ∙ ap (each told) k) (b ∙ ap (λ (y : Outcome header.Header). header.filled y l) k);
+            no-room = λ h. absurd (h (fits-roomy r l fits));
+          }
+
+-- a sound record's bytes come back
+sound-back : (r : Record) → Sound r → (room rest : List ℕ) (n : ℕ) → writing r room ≡ gives n → (l l′ : Lent) (x : HeaderRead) → Reads (fileOf r ++ rest) l x l′
+    → Comes-back (table (r .dtype)) (names (r .dtype)) (r .shape) (r .order) n l x l′
+sound-back r sound room rest n e l l′ x reads =
+    by-room r n l l′ x (sym (held (λ k. k ≡ headerLength r) e (writing-whole r room))) (header.headerInto reading (fileOf r ++ rest) l)
+    (written-read reading reading-keeps r sound room n e rest (roomsOf l)) (reads .answered) (reads .after)
+
+-- .. in the caller's own words
+caller-back : (t ns s room room′ rest : List ℕ) (o : Order) (n : ℕ) (l l′ : Lent) (x : HeaderRead) → (w : Wrote t ns s o room n room′) → Sound (w .says)
+    → t ≡ table (w .says .dtype) → ns ≡ names (w .says .dtype) → s ≡ w .says .shape → o ≡ w .says .order → Reads (take n room′ ++ rest) l x l′ → Comes-back t ns s o n l x l′
+caller-back t ns s room room′ rest o n l l′ x w sound et en es eo reads =
+    let r = w .says in
+    rw (et, en, es, eo) (sound-back r sound room rest n (w .writes) l l′ x (subst (λ (file : List ℕ). Reads (file ++ rest) l x l′) (w .bytes) reads))
+
+-- WHAT WAS WRITTEN IS READ BACK
+pub written-back : Written-read
+written-back t ns s room room′ rest o n l l′ x small-t small-s w reads =
+    let y = wrote t ns s o room n room′ w in
+    let (d, is, valid) = accepts-valid t ns s o (y .says) (y .accepted) in
+    let sound : Sound (y .says) = subst Sound (sym is) (valid-sound t ns s o d valid small-t small-s) in
+    let dtype-is : d ≡ y .says .dtype = ap (λ (r : Record). r .dtype) (sym is) in
+    caller-back t ns s room room′ rest o n l l′ x y sound (valid .table-is ∙ ap table dtype-is) (valid .names-are ∙ ap names dtype-is) (ap (λ (r : Record). r .shape) (sym is))
+    (ap (λ (r : Record). r .order) (sym is)) reads
+
+-- ---- what was read
+module _ (t ns s : List ℕ) (o : Order) (room : List ℕ) (w : Written) (room′ : List ℕ) (v : Writes t ns s o room w room′) where
+  told-as : (u : Written) → headerWritten t ns s o room ≡ written.answer u → w ≡ u
+  told-as u e =
+      ap (λ (y : Written × List ℕ). y .0)
+      (write-header-one t ns s o room (w, room′) (u, headerPlaced t ns s o room) v (record { answered = sym e; room-after = refl }))
+
+  one-of : (a b : Bool) (k : ℕ) → headerWritten t ns s o room ≡ unless a 4 (unless b 28 (gives k))
+      → (w ≡ Written.Long) ⊎ ((w ≡ Written.Room) ⊎ ((n : ℕ) × (w ≡ Written.Count n)))
+  one-of true b k e = inl (told-as Written.Long e)
+  one-of false true k e = inr (inl (told-as Written.Room e))
+  one-of false false k e = inr (inr (k, told-as (Written.Count k) e))
+
+  written-as : (r : Record) → checkedRecord t ns s o ≡ gives r → headerWritten t ns s o room ≡ writing r room
+  unfolding headerWritten
+  written-as r e = rw (headerWritten, e)
+
+  -- a record that is accepted and sound, written and read
+  back-again : (r : Record) → checkedRecord t ns s o ≡ gives r → Sound r → t ≡ table (r .dtype) → ns ≡ names (r .dtype) → s ≡ r .shape → o ≡ r .order
+      → (n : ℕ) → w ≡ Written.Count n → (rest : List ℕ) (l l′ : Lent) (x : HeaderRead) → Reads (take n room′ ++ rest) l x l′ → Comes-back t ns s o n l x l′
+  back-again r e sound et en es eo n is rest l l′ x reads =
+      let y = wrote t ns s o room n room′ (subst (λ (u : Written). Writes t ns s o room u room′) is v) in
+      let same : r ≡ y .says = cc (e, y .accepted) in
+      caller-back t ns s room room′ rest o n l l′ x y (subst Sound same sound) (et ∙ ap (λ (q : Record). table (q .dtype)) same) (en ∙ ap (λ (q : Record). names (q .dtype)) same)
+      (es ∙ ap (λ (q : Record). q .shape) same) (eo ∙ ap (λ (q : Record). q .order) same) reads
+
+-- WHAT WAS READ CAN BE WRITTEN, 4 AND 28 ASIDE, AND COMES BACK
+pub read-back : Read-written
+read-back file room room′ l l′ h w x v =
+    let f = read-found file l h l′ x in
+    let r = f .header-is .says in
+    let t = tableIn (h .said) l′ in
+    let ns = namesIn (h .said) l′ in
+    let s = shapeIn (h .said) l′ in
+    let o = h .said .order in
+    let accepted = found-accepted file l h l′ f in
+    let sound = read-readable reading reading-keeps file (roomsOf l) (f .header-is) (f .given) .writable .sound in
+    let only = read-written reading reading-keeps file (roomsOf l) (f .header-is) (f .given) room .refused-only in
+    record {
+      only =
+          one-of t ns s o room w room′ v (ltb most-text (textLength r)) (ltb (length room) (headerLength r)) (headerLength r)
+          (written-as t ns s o room w room′ v r accepted ∙ only);
+      again = back-again t ns s o room w room′ v r accepted sound (f .stands .table-is) (f .stands .names-are) (f .stands .shape-is) (f .stands .order-is);
+    }

@@ -1,0 +1,5 @@
+pub mod Rooms
+pub mod RoundTrips
+pub mod Places
+pub mod Refusals
+pub mod Accepted
