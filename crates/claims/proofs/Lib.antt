@@ -4,4 +4,6 @@ pub mod Places
 pub mod RoundTrips
 pub mod Refusals
 pub mod Exactly
+pub mod Held
+pub mod Beyond
 pub mod Edges

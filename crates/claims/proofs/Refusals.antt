@@ -1,7 +1,6 @@
 -- Demand 1 (specs/Refusals.antt): each contract says by one outcome what is answered and what the memory then holds, and where the outcome is a refusal that is what
 -- it held. Assumes nothing.
 use Prim.Native.Nat.{ℕ}
-use native.Mathlib.Omega.{arith}
 use mathlib.Core.Path.{_≡_, refl, sym, _∙_}
 use mathlib.Core.Bool.{Bool, true, false, cond}
 use mathlib.Core.List.{List, []}
@@ -19,6 +18,7 @@ use Rattle.shape.specs.Count as strides
 use Rattle.record.specs.Version.{Version}
 use Rattle.record.specs.Header as record-of-file
 use Rattle.record.specs.Writing.{writing, placed}
+use Rattle.record.proofs.Holds.{gives-refused}
 use Rattle.judge.specs.Judged.{reading}
 use Rattle.table.specs.Checked.{checkedRecord}
 use Rattle.header.specs.Answer as header
@@ -28,14 +28,10 @@ use Rattle.listing.specs.Answer as lists
 use Rattle.slice.specs.Rooms.{after, Owes}
 use Rattle.claims.specs.Refusals.{Unchanged}
 
--- an outcome that is no refusal is none
-never : {A X : Type 0} {a : A} {k : ℕ} → _≡_ {A = Outcome A} (gives a) (refused k) → X
-never e = absurd (let z : _≡_ {A = ℕ} 0 1 = cc in omega arith)
-
 -- one outcome for the answer and the memory
 by-outcome : {A B M : Type 0} (f : A → B) (memory : Outcome A → M) (before : M) → ((n : ℕ) → memory (refused n) ≡ before) → (o : Outcome A) (k : ℕ)
     → each f o ≡ refused k → memory o ≡ before
-by-outcome f memory before h (gives a) k e = never e
+by-outcome f memory before h (gives a) k e = gives-refused (sym e)
 by-outcome f memory before h (refused n) k e = h n
 
 owed : (put : Outcome (List ℕ)) (room : List ℕ) (a : Outcome ℕ) (room′ : List ℕ) (k : ℕ) → Owes put room a room′ → a ≡ refused k → room′ ≡ room
@@ -47,7 +43,7 @@ unfolding emit.written emit.placed
 text-left text room k e = go (leb (length text) (length room)) refl e
   where
     go : (b : Bool) → leb (length text) (length room) ≡ b → cond b (gives (length text)) (refused 28) ≡ refused k → emit.placed text room ≡ room
-    go true f g = never g
+    go true f g = gives-refused (sym g)
     go false f g = rw (emit.placed, f)
 
 typed-left : (t : TypeStr) (room : List ℕ) (k : ℕ) → typePrinted t room ≡ refused k → typePlaced t room ≡ room
@@ -60,7 +56,7 @@ typed-left t room k e = go (isType t) refl e
 
 -- a header
 written-left : (r : Record) (room : List ℕ) (o : Outcome ℕ) (k : ℕ) → o ≡ refused k → placed o r room ≡ room
-written-left r room (gives n) k e = never e
+written-left r room (gives n) k e = gives-refused (sym e)
 written-left r room (refused n) k e = refl
 
 header-left : (t ns s : List ℕ) (o : Order) (room : List ℕ) (k : ℕ) → headerWritten t ns s o room ≡ refused k → headerPlaced t ns s o room ≡ room
@@ -79,11 +75,11 @@ listed-left v start room k (refused n) e = refl
 
 -- strides, and a scalar value
 strides-left : (new old : List ℕ) (k : ℕ) (o : Outcome ℕ) → o ≡ refused k → strides.left o new old ≡ old
-strides-left new old k (gives n) e = never e
+strides-left new old k (gives n) e = gives-refused (sym e)
 strides-left new old k (refused n) e = refl
 
 encoded-left : (value : ℕ) (room : List ℕ) (k : ℕ) (o : Outcome ℕ) → o ≡ refused k → utf8.after o value room ≡ room
-encoded-left value room k (gives n) e = never e
+encoded-left value room k (gives n) e = gives-refused (sym e)
 encoded-left value room k (refused n) e = refl
 
 pub unchanged : Unchanged

@@ -25,10 +25,10 @@ use Rattle.header.specs.Answer.{saidOf, Told, told, headerIs, Reads}
 use Rattle.claims.specs.Rooms.{Stands, Roomy}
 
 -- a record's parts stand in the rooms that hold it
-table-whole : (r : Record) → entry-width * entriesOf (r .dtype) ≡ length (table (r .dtype))
+pub table-whole : (r : Record) → entry-width * entriesOf (r .dtype) ≡ length (table (r .dtype))
 table-whole r = omega (arith, flat-length (r .dtype) 0 0 0 [])
 
-names-whole : (r : Record) → nameBytes (r .dtype) ≡ length (names (r .dtype))
+pub names-whole : (r : Record) → nameBytes (r .dtype) ≡ length (names (r .dtype))
 names-whole r = omega (arith, names-length (r .dtype) [])
 
 front : (n : ℕ) (new old : List ℕ) → n ≡ length new → take n (atFront new old) ≡ new

@@ -53,6 +53,9 @@ writing-whole r room =
     (λ a. unless-holds (λ n. n ≡ headerLength r) (ltb most-text (textLength r)) 4 _
     (λ b. unless-holds (λ n. n ≡ headerLength r) (ltb (length room) (headerLength r)) 28 (gives (headerLength r)) (λ c. refl))))
 
+pub wrote-length : (r : Record) (room : List ℕ) (n : ℕ) → writing r room ≡ gives n → n ≡ length (fileOf r)
+wrote-length r room n e = held (λ k. k ≡ headerLength r) e (writing-whole r room) ∙ sym (file-whole r)
+
 record Wrote (t ns s : List ℕ) (o : Order) (room : List ℕ) (n : ℕ) (room′ : List ℕ) : Type 0 where
   says : Record
   accepted : checkedRecord t ns s o ≡ gives says
@@ -61,7 +64,7 @@ record Wrote (t ns s : List ℕ) (o : Order) (room : List ℕ) (n : ℕ) (room�
 
 wrote-bytes : (r : Record) (room room′ : List ℕ) (n : ℕ) → writing r room ≡ gives n → room′ ≡ roomAfter r room → take n room′ ≡ fileOf r
 wrote-bytes r room room′ n e p =
-    let whole : n ≡ length (fileOf r) = held (λ k. k ≡ headerLength r) e (writing-whole r room) ∙ sym (file-whole r) in
+    let whole = wrote-length r room n e in
     let all : room′ ≡ fileOf r ++ drop n room = p ∙ ap (λ (x : Outcome ℕ). placed x r room) e in
     ap (take n) all ∙ ap (λ (k : ℕ). take k (fileOf r ++ drop n room)) whole ∙ take-append-seam (fileOf r) (drop n room)
 
@@ -74,6 +77,10 @@ wrote t ns s o room n room′ w = go (checkedRecord t ns s o) refl (w .answered)
     go (refused k) e a b = absurd (let z : _≡_ {A = ℕ} 0 1 = cc in omega arith)
 
 -- ---- an answer by what it stands for
+pub refused-by : (x : HeaderRead) → answer x ≡ refused 23 → x ≡ HeaderRead.Refused Refusal.Room
+refused-by (HeaderRead.Read h) a = absurd (let z : _≡_ {A = ℕ} 0 1 = cc in omega arith)
+refused-by (HeaderRead.Refused f) a = ap HeaderRead.Refused (number-apart f Refusal.Room cc)
+
 module _ (r : Record) (n : ℕ) (l l′ : Lent) (x : HeaderRead) (start : headerLength r ≡ n) where
   given-by : answer x ≡ gives (told (headerFor r)) → l′ ≡ holding r l → Gives (table (r .dtype)) (names (r .dtype)) (r .shape) (r .order) n x l′
   given-by = go x refl
@@ -89,13 +96,6 @@ module _ (r : Record) (n : ℕ) (l l′ : Lent) (x : HeaderRead) (start : header
           }
       go (HeaderRead.Refused f) e a b = absurd (let z : _≡_ {A = ℕ} 0 1 = cc in omega arith)
 
-  refused-by : answer x ≡ refused 23 → x ≡ HeaderRead.Refused Refusal.Room
-  refused-by = go x
-    where
-      go : (y : HeaderRead) → answer y ≡ refused 23 → y ≡ HeaderRead.Refused Refusal.Room
-      go (HeaderRead.Read h) a = absurd (let z : _≡_ {A = ℕ} 0 1 = cc in omega arith)
-      go (HeaderRead.Refused f) a = ap HeaderRead.Refused (number-apart f Refusal.Room cc)
-
   by-room : (o : Outcome header.Header) → o ≡ unless (tooSmall (roomsOf l) (needs r)) 23 (gives (headerFor r)) → answer x ≡ each told o → l′ ≡ header.filled o l
       → Comes-back (table (r .dtype)) (names (r .dtype)) (r .shape) (r .order) n l x l′
   by-room o e a b = go (tooSmall (roomsOf l) (needs r)) refl e
@@ -105,7 +105,7 @@ module _ (r : Record) (n : ℕ) (l l′ : Lent) (x : HeaderRead) (start : header
       go true small k =
           record {
             roomy = λ h. absurd (let y = sym small ∙ roomy-fits r l h in let z : _≡_ {A = ℕ} 0 1 = cc in omega arith);
-            no-room = λ h. (refused-by (a ∙ ap (each told) k), b ∙ ap (λ (y : Outcome header.Header). header.filled y l) k);
+            no-room = λ h. (refused-by x (a ∙ ap (each told) k), b ∙ ap (λ (y : Outcome header.Header). header.filled y l) k);
           }
       go false fits k =
           record {

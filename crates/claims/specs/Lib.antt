@@ -3,3 +3,5 @@ pub mod RoundTrips
 pub mod Places
 pub mod Refusals
 pub mod Accepted
+pub mod Held
+pub mod Beyond

@@ -1,0 +1,65 @@
+-- The first bytes of a file are enough (specs/Held.antt): the prefix of a part is the file's, the text behind it is the same where it ends within the part, and by crate
+-- record the header is then the file's. Assumes nothing.
+use Prim.Native.Nat.{ℕ, _<_, _≤_}
+use native.Mathlib.Omega.{arith}
+use mathlib.Core.Path.{_≡_, sym, ap, _∙_}
+use mathlib.Core.Bool.{true}
+use mathlib.Core.List.{List}
+use lib.ListN.{length, take}
+use lib.Seq.{length-take-le}
+use borrow.Author.Tests.{lt-ltb, le-ltb}
+use Rattle.counts.specs.Outcome.{Outcome, gives, refused, then, each}
+use Rattle.record.specs.Prefix.{Prefix, dataStart, prefix, textOf}
+use Rattle.record.specs.Rooms.{Lent, roomsOf}
+use Rattle.record.specs.Header as header
+use Rattle.record.proofs.Holds.{Holds, by-equation, then-alike-held}
+use Rattle.record.proofs.Fronts.{prefix-front, front-enough}
+use Rattle.judge.specs.Judged.{reading}
+use Rattle.header.specs.Answer.{told, textHeld, behind, heldInto}
+use Rattle.claims.specs.Held.{Held-enough}
+use Rattle.claims.proofs.RoundTrips.{refused-by}
+
+-- a part whose header ends within it
+module _ (part : List ℕ) (l : Lent) where
+  text-same : (p : Prefix) → dataStart p ≤ length part → textHeld true p part ≡ textOf p part
+  unfolding textOf
+  text-same p h = rw (textOf, le-ltb (length part) (dataStart p) h)
+
+  held-same : Holds (λ p. dataStart p ≤ length part) (prefix part) → heldInto true part l ≡ header.headerInto reading part l
+  unfolding header.headerBy
+  held-same h =
+      then-alike-held (λ p. dataStart p ≤ length part) (prefix part) (λ p. behind true part p l)
+      (λ p. then (textOf p part) (λ s. then (header.recordIn reading s) (header.housed (roomsOf l) p))) h
+      (λ p e. ap (λ t. then t (λ s. then (header.recordIn reading s) (header.housed (roomsOf l) p))) (text-same p e))
+
+  held-past : (p : Prefix) → prefix part ≡ gives p → length part < dataStart p → heldInto true part l ≡ refused 23
+  held-past p e h =
+      ap (λ (o : Outcome Prefix). then o (λ q. behind true part q l)) e
+      ∙ rw (lt-ltb (length part) (dataStart p) h)
+
+module _ (k : ℕ) (file : List ℕ) (twelve : 12 ≤ k) (longer : k < length file) where
+  held-length : length (take k file) ≡ k
+  held-length = length-take-le k file (omega arith)
+
+  front-within : ((p : Prefix) → prefix file ≡ gives p → dataStart p ≤ k) → (l : Lent) → heldInto true (take k file) l ≡ header.headerInto reading file l
+  front-within h l =
+      let len = held-length in
+      held-same (take k file) l
+      (by-equation (λ p. dataStart p ≤ length (take k file)) (prefix (take k file)) (λ p e. rw len (h p (sym (prefix-front k file twelve) ∙ e))))
+      ∙ front-enough reading (roomsOf l) k file twelve (by-equation (λ p. dataStart p ≤ k) (prefix file) h)
+
+  front-past : (p : Prefix) → prefix file ≡ gives p → k < dataStart p → (l : Lent) → heldInto true (take k file) l ≡ refused 23
+  front-past p e h l = let len = held-length in held-past (take k file) l p (prefix-front k file twelve ∙ e) (rw len h)
+
+pub held-enough : Held-enough
+held-enough k file l l′ x twelve longer h =
+    record {
+      within =
+          λ ends.
+          let same = front-within k file twelve longer ends l in
+          record { answered = h .answered ∙ ap (each told) same; after = h .after ∙ ap (λ (o : Outcome header.Header). header.filled o l) same };
+      past =
+          λ p e ends.
+          let same = front-past k file twelve longer p e ends l in
+          (refused-by x (h .answered ∙ ap (each told) same), h .after ∙ ap (λ (o : Outcome header.Header). header.filled o l) same);
+    }
