@@ -1,6 +1,6 @@
 -- Document 01, "Both sides of each edge (P: proved)": "The cases marked P form one proved table under a single claim". Type strings, and sizes, strides, shapes and places. Assumes
 -- nothing.
-use Rattle.type_str.proofs.Edges as types
+use Rattle.type_read.proofs.Edges as types
 use Rattle.dtype.proofs.Edges as dtypes
 
 pub record Edges : Type 0 where

@@ -19,7 +19,7 @@ use tokens::bytes::Kind;
 use tokens::bytes::kind_of;
 use tokens::bytes::peek;
 use tokens::strings::scan_at;
-use type_str::parse;
+use type_read::parse;
 ghost use mathlib.Core.Path.{_≡_};
 ghost use mathlib.Core.List.{List};
 ghost use Prim.Native.Nat.{ℕ, _<_};

@@ -13,7 +13,7 @@ use Rattle.grammar.specs.Print.{Layout, word, valueOf, valuesOf}
 use Rattle.utf8.specs.Utf8.{WellFormed}
 use Rattle.type_str.specs.TypeString.{typeString}
 use Rattle.type_str.specs.Text.{isType}
-use Rattle.type_str.proofs.RoundTrip.{is-type-exact}
+use Rattle.type_read.proofs.RoundTrip.{is-type-exact}
 use Rattle.dtype.specs.declared.Order.{Order}
 use Rattle.dtype.specs.declared.Order.the-variants.{C, Fortran}
 use Rattle.dtype.specs.Dtype.{Dtype, Fields, plain, record-of, field-then}

@@ -7,7 +7,7 @@ use mathlib.Core.Bool.{Bool, true, false, _||_}
 use borrow.Author.Tests.{lt-leb}
 use Rattle.counts.specs.Outcome.{gives}
 use Rattle.grammar.specs.Print.{Layout, word, valueOf, valuesOf}
-use Rattle.type_str.proofs.RoundTrip.{print-parse}
+use Rattle.type_read.proofs.RoundTrip.{print-parse}
 use Rattle.dtype.specs.declared.Order.{Order}
 use Rattle.dtype.specs.declared.Order.the-variants.{C, Fortran}
 use Rattle.dtype.specs.Dtype.{Dtype, Fields, plain, array, record-of, end-of-fields, field-then}

@@ -47,7 +47,7 @@ fn replay(case: &[u8]) {
         say(b"short");
         return;
     }
-    let TypeRead::Read(t) = type_str::parse(&case[3..end]) else {
+    let TypeRead::Read(t) = type_read::parse(&case[3..end]) else {
         say(b"type");
         return;
     };

@@ -26,7 +26,7 @@ fn run_case(room: &mut [u8]) -> bool {
     let Frame::Case(n) = frames::next(room) else {
         return false;
     };
-    tell(type_str::parse(&room[..n]));
+    tell(type_read::parse(&room[..n]));
     io::write_all(STDOUT_FILENO, b"\n")
 }
 

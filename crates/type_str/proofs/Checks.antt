@@ -1,25 +1,20 @@
 -- The checks of a type, one law for each way out. Assumes nothing.
 use Prim.Native.Nat.{ℕ, _*_, _^_, _<_, _≤_}
-use mathlib.Core.Path.{_≡_, refl, sym, ap, _∙_}
+use mathlib.Core.Path.{_≡_}
 use mathlib.Core.Bool.{true, false, cond, and-false, and-true}
-use mathlib.Core.List.{List}
 use lib.Dec.{eqb}
 use Rattle.spelling.specs.declared.TypeChar.{TypeChar}
 use borrow.Author.Tests.{lt-leb, le-leb, ne-eqb}
-use Rattle.counts.specs.Outcome.{Outcome, gives, refused, then, each}
-use native.Mathlib.Omega.{arith}
+use Rattle.counts.specs.Outcome.{gives, refused}
 use Rattle.counts.specs.Number.{number}
 use Rattle.counts.specs.Counts.{bytes}
-use Rattle.counts.specs.declared.Number.{Number}
-use Rattle.counts.specs.declared.Number.the-variants.{Is, Over}
-use Rattle.counts.proofs.Fits.{number-is, number-is-back, number-over-back}
+use Rattle.counts.proofs.Fits.{number-is}
 use Rattle.spelling.specs.Classes.{isObject, isUnicode}
-use Rattle.type_str.specs.TypeString.{allows, lacksOrder, misplacesUnits, syntax, validated, checked, typeString}
+use Rattle.rules.specs.Rules.{allows}
+use Rattle.type_str.specs.TypeString.{lacksOrder, misplacesUnits, validated, checked}
 use Rattle.type_str.specs.Bytes.{typeBytes, countedBytes, numBytes}
 use Rattle.type_str.specs.Text.{passes, isType}
-use Rattle.type_str.specs.Parts.{partsOf, checkedBy, checkedParts}
 use Rattle.type_str.specs.declared.TypeStr.{TypeStr}
-use Rattle.type_str.specs.declared.Parts.{Parts}
 use Rattle.type_str.specs.declared.TypeBytes.{TypeBytes}
 use Rattle.type_str.specs.declared.TypeBytes.the-variants.{Sized, Unsized}
 
@@ -49,16 +44,6 @@ pub checked-over : (t : TypeStr) → 2 ^ 64 ≤ t .size → checked t ≡ refuse
 unfolding checked
 checked-over t h = rw (checked, le-leb (2 ^ 64) (t .size) h)
 
--- the parts are checked as the type that they make, whatever its size
-pub parts-checked : (t : TypeStr) → checkedParts (partsOf t) ≡ checked t
-parts-checked t = go (number (t .size)) refl
-  where
-    go : (n : Number) → number (t .size) ≡ n → checkedBy n (partsOf t) ≡ checked t
-    go (Is n) e =
-        let b = number-is-back (t .size) n e in
-        ap (λ (k : ℕ). validated (record { order = t .order; letter = t .letter; size = k; units = t .units })) (sym (b .0)) ∙ sym (checked-fits t (b .1))
-    go Over e = sym (checked-over t (number-over-back (t .size) e))
-
 -- ---- a type that some reading gives
 pub sized-object : (t : TypeStr) → isObject (t .letter) ≡ true → (t .size ≡ 0 → ⊥) → false ≡ isType t
 unfolding isType
@@ -86,20 +71,3 @@ unicode-bytes t r h k e = rw (numBytes, h, k) e
 pub plain-bytes : (t : TypeStr) → isObject (t .letter) ≡ false → isUnicode (t .letter) ≡ false → t .size < 2 ^ 64 → Sized (record { 0 = t .size }) ≡ numBytes t
 unfolding numBytes typeBytes
 plain-bytes t h k l = rw (numBytes, h, k, number-is (t .size) l)
-
--- ---- what the parts of a type string come to
-pub fault-whole : (s : List ℕ) → refused 15 ≡ each partsOf (syntax s) → refused 15 ≡ typeString s
-unfolding typeString
-fault-whole s h = go (syntax s) h
-  where
-    go : (o : Outcome TypeStr) → refused 15 ≡ each partsOf o → refused 15 ≡ then o checked
-    go (gives t) h = let z : _≡_ {A = ℕ} 0 1 = cc in absurd (omega arith)
-    go (refused n) h = cc
-
-pub parts-whole : (s : List ℕ) (p : Parts) (r : Outcome TypeStr) → gives p ≡ each partsOf (syntax s) → r ≡ checkedParts p → r ≡ typeString s
-unfolding typeString
-parts-whole s p r h k = go (syntax s) h
-  where
-    go : (o : Outcome TypeStr) → gives p ≡ each partsOf o → r ≡ then o checked
-    go (gives t) h = let e : p ≡ partsOf t = cc in k ∙ ap (λ (q : Parts). checkedParts q) e ∙ parts-checked t
-    go (refused n) h = let z : _≡_ {A = ℕ} 0 1 = cc in absurd (omega arith)

@@ -9,7 +9,7 @@ use Rattle.counts.specs.OneOutcome.{OneOutcome}
 use Rattle.counts.proofs.OneOutcome.{by-equation, by-inverse, beside}
 use Rattle.emit.specs.Emits.{Emits}
 use Rattle.emit.proofs.Outcomes.{emits-one}
-use Rattle.type_str.specs.TypeString.{validated, typeString}
+use Rattle.type_str.specs.TypeString.{validated}
 use Rattle.type_str.specs.Bytes.{numBytes}
 use Rattle.type_str.specs.Text.{typeText, isType, typePrinted, typePlaced, Prints}
 use Rattle.type_str.specs.Answer.{answer, printAnswer}
@@ -43,17 +43,17 @@ print-same TypePrint.NoType = refl
 print-same TypePrint.Room = refl
 
 -- ---- one outcome
+pub answer-one : (o : Outcome TypeStr) → OneOutcome (λ r. answer r ≡ o)
+answer-one o = by-inverse answer type-back type-same o
+
 pub validate-one : (t : TypeStr) → OneOutcome (λ r. answer r ≡ validated t)
-validate-one t = by-inverse answer type-back type-same (validated t)
+validate-one t = answer-one (validated t)
 
 pub is-type-one : (t : TypeStr) → OneOutcome {A = Bool} (λ r. r ≡ isType t)
 is-type-one t = by-equation (isType t)
 
 pub num-bytes-one : (t : TypeStr) → OneOutcome {A = TypeBytes} (λ r. r ≡ numBytes t)
 num-bytes-one t = by-equation (numBytes t)
-
-pub parse-one : (text : List ℕ) → OneOutcome (λ r. answer r ≡ typeString text)
-parse-one text = by-inverse answer type-back type-same (typeString text)
 
 pub print-one : (t : TypeStr) (room : List ℕ) → OneOutcome {A = TypePrint × List ℕ} (λ r. Prints t room (r .0) (r .1))
 print-one t room x y p q =
