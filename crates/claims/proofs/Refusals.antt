@@ -25,7 +25,7 @@ use Rattle.header.specs.Answer as header
 use Rattle.write.specs.Writes.{headerWritten, headerPlaced, roomOf}
 use Rattle.listing.specs.Listing.{listing}
 use Rattle.listing.specs.Answer as lists
-use Rattle.slice.specs.Rooms.{after, Owes}
+use Rattle.strings.specs.Rooms.{after, Owes}
 use Rattle.claims.specs.Refusals.{Unchanged}
 
 -- one outcome for the answer and the memory

@@ -7,8 +7,8 @@ use lib.Dec.{eqb}
 use Rattle.counts.specs.Outcome.{Outcome, gives, refused}
 use Rattle.counts.specs.OneOutcome.{OneOutcome}
 use Rattle.dtype.specs.declared.Order.{Order}
-use Rattle.slice.specs.Rooms.{Owes}
-use Rattle.slice.proofs.Outcomes.{owes-one}
+use Rattle.strings.specs.Rooms.{Owes}
+use Rattle.strings.proofs.Outcomes.{owes-one}
 use Rattle.element.specs.declared.BytesElement.{BytesElement}
 use Rattle.element.specs.declared.PointsElement.{PointsElement}
 use Rattle.element.specs.Element.{elementBytes, elementPoints}

@@ -13,8 +13,9 @@ use Rattle.places.specs.Place.{placeOf}
 use Rattle.places.specs.Answer.{answer}
 use Rattle.slice.specs.declared.BytesRead.{BytesRead}
 use Rattle.slice.specs.declared.PointsRead.{PointsRead}
-use Rattle.slice.specs.Rooms.{readBytes, readPoints, bytesAnswer, pointsAnswer, Owes}
-use Rattle.slice.proofs.Places.{owes-refused, owes-same}
+use Rattle.slice.specs.Answer.{bytesAnswer, pointsAnswer}
+use Rattle.strings.specs.Rooms.{readBytes, readPoints, Owes}
+use Rattle.strings.proofs.Places.{owes-refused, owes-same}
 use Rattle.element.specs.Element.{bytesOf, elementBytes, elementPoints}
 
 pub no-place : (n : ℕ) (reading : Run → Outcome (List ℕ)) (room : List ℕ) {place : Outcome Run} → place ≡ refused n → Owes (then place reading) room (refused n) room

@@ -8,7 +8,7 @@ use slice::BytesRead;
 use slice::PointsRead;
 ghost use Rattle.counts.specs.Outcome.{then};
 ghost use Rattle.places.specs.Answer.{answer};
-ghost use Rattle.slice.specs.Rooms.{readBytes, readPoints, Owes};
+ghost use Rattle.strings.specs.Rooms.{readBytes, readPoints, Owes};
 ghost use Rattle.element.specs.Element.{bytesOf, elementBytes, elementPoints};
 ghost use Rattle.element.specs.Answer.{bytesAnswer, pointsAnswer};
 

@@ -20,13 +20,13 @@ use Rattle.utf8.proofs.Scalars.{scalar-low, scalar-below}
 use Rattle.type_str.specs.Text.{isType}
 use Rattle.spelling.specs.declared.Endianness.{Endianness}
 use Rattle.type_str.specs.declared.TypeStr.{TypeStr}
-use Rattle.slice.specs.Elements.{kindOf, trimmed, scalar, point, points, pointsIn}
-use Rattle.slice.specs.Runs.{filled, bytesOut, allScalars, pointBytes, pointsOut}
-use Rattle.slice.specs.Rooms.{roomed, readBytes, readPoints, writeBytes, writePoints}
-use Rattle.slice.specs.declared.Kind.{Kind}
-use Rattle.slice.proofs.Scalars.{apart, scalar-is, point-four, point-step}
-use Rattle.slice.proofs.Places.{trim-filled, gives-same}
-use Rattle.slice.proofs.Ways.{read-bytes-by}
+use Rattle.strings.specs.Elements.{kindOf, trimmed, scalar, point, points, pointsIn}
+use Rattle.strings.specs.Runs.{filled, bytesOut, allScalars, pointBytes, pointsOut}
+use Rattle.strings.specs.Rooms.{roomed, readBytes, readPoints, writeBytes, writePoints}
+use Rattle.strings.specs.declared.Kind.{Kind}
+use Rattle.strings.proofs.Scalars.{apart, scalar-is, point-four, point-step}
+use Rattle.strings.proofs.Places.{trim-filled, gives-same}
+use Rattle.strings.proofs.Ways.{read-bytes-by}
 
 -- ---- what was given passed every check
 passed : {A : Type 0} {a : A} (b : Bool) (n : ℕ) (o : Outcome A) → unless b n o ≡ gives a → (b ≡ false) × (o ≡ gives a)

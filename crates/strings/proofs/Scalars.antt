@@ -13,9 +13,9 @@ use Rattle.numbers.specs.Numbers.{inOrder}
 use Rattle.utf8.specs.Scalar.{isScalar}
 use Rattle.utf8.proofs.Scalars.{scalar-over}
 use Rattle.spelling.specs.declared.Endianness.{Endianness}
-use Rattle.slice.specs.Elements.{trimmed, scalar, point, points, found}
-use Rattle.slice.specs.Runs.{allScalars}
-use Rattle.slice.proofs.Trims.{trim-zero, trim-last}
+use Rattle.strings.specs.Elements.{trimmed, scalar, point, points, found}
+use Rattle.strings.specs.Runs.{allScalars}
+use Rattle.strings.proofs.Trims.{trim-zero, trim-last}
 
 -- ---- one code point
 pub scalar-is : (c : ℕ) → isScalar c ≡ true → scalar c ≡ gives c

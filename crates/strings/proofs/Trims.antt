@@ -9,7 +9,7 @@ use lib.Dec.{eqb}
 use lib.ListN.{length, getD, take, replicate}
 use lib.Seq.{take-suc, take-length, length-take-le}
 use borrow.Author.Tests.{ne-eqb}
-use Rattle.slice.specs.Elements.{before, trimmed}
+use Rattle.strings.specs.Elements.{before, trimmed}
 
 pub trim-zero : (l : List ℕ) → trimmed (l ++ 0 ∷ []) ≡ trimmed l
 trim-zero [] = refl

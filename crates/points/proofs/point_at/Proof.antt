@@ -1,14 +1,14 @@
--- `slice::point_at` meets its contract: fewer than four bytes, a number that is no scalar value, or the scalar value. Assumes nothing.
+-- `points::point_at` meets its contract: fewer than four bytes, a number that is no scalar value, or the scalar value. Assumes nothing.
 use Prim.Native.Nat.{_+_, _-_}
 use mathlib.Core.Path.{sym, _∙_}
 use native.Mathlib.Omega.{arith}
 use lib.ListN.{length-drop}
 use borrow.Author.Tests.{not-true, not-false}
 use Rattle.counts.proofs.Fits.{number-is-back, number-over-back}
-use Rattle.slice.proofs.Scalars.{point-short, read-over, read-none, read-scalar}
+use Rattle.strings.proofs.Scalars.{point-short, read-over, read-none, read-scalar}
 use borrow.Author.Needs.{needs}
-use Rattle.slice.proofs.point_at.Statement.{statement}
-use Rattle.slice.proofs.point_at.Tie as tie
+use Rattle.points.proofs.point_at.Statement.{statement}
+use Rattle.points.proofs.point_at.Tie as tie
 
 returns : tie.Need-returns
 returns c = sym (point-short _ _ (rw length-drop (omega arith)))

@@ -10,11 +10,8 @@ use lib.ListN.{length, drop}
 use Rattle.counts.specs.Outcome.{Outcome, gives, refused, then, each, unless}
 use Rattle.type_str.specs.Text.{isType}
 use Rattle.type_str.specs.declared.TypeStr.{TypeStr}
-use Rattle.slice.specs.Elements.{kindOf, bytesIn, pointsIn}
-use Rattle.slice.specs.Runs.{bytesOut, pointsOut}
-use Rattle.slice.specs.declared.BytesRead.{BytesRead}
-use Rattle.slice.specs.declared.PointsRead.{PointsRead}
-use Rattle.slice.specs.declared.Wrote.{Wrote}
+use Rattle.strings.specs.Elements.{kindOf, bytesIn, pointsIn}
+use Rattle.strings.specs.Runs.{bytesOut, pointsOut}
 
 -- a content that has room, or the number
 unfoldable pub roomed : ℕ → (room content : List ℕ) → Outcome (List ℕ)
@@ -38,27 +35,6 @@ writeBytes t value room = unless (not (isType t)) 27 (then (bytesOut (kindOf (t 
 
 unfoldable pub writePoints : TypeStr → (value room : List ℕ) → Outcome (List ℕ)
 writePoints t value room = unless (not (isType t)) 27 (then (pointsOut (kindOf (t .letter)) (t .order) (t .size) value) (roomed 28 room))
-
--- ---- what each answer stands for: how many were written, or the number
-
-abbrev pub bytesAnswer : BytesRead → Outcome ℕ
-bytesAnswer (BytesRead.Read n) = gives (n .0)
-bytesAnswer BytesRead.NoString = refused 26
-bytesAnswer BytesRead.Room = refused 23
-
-abbrev pub pointsAnswer : PointsRead → Outcome ℕ
-pointsAnswer (PointsRead.Read n) = gives (n .0)
-pointsAnswer PointsRead.NoString = refused 26
-pointsAnswer PointsRead.BadScalar = refused 29
-pointsAnswer PointsRead.Room = refused 23
-
-abbrev pub wroteAnswer : Wrote → Outcome ℕ
-wroteAnswer (Wrote.Written n) = gives (n .0)
-wroteAnswer Wrote.NoType = refused 27
-wroteAnswer Wrote.NoString = refused 26
-wroteAnswer Wrote.BadScalar = refused 29
-wroteAnswer Wrote.NoFit = refused 30
-wroteAnswer Wrote.Room = refused 28
 
 -- what each function owes, where `put` goes to the room: the answer, and the room's final content
 pub record Owes (put : Outcome (List ℕ)) (room : List ℕ) (answer : Outcome ℕ) (room′ : List ℕ) : Type 0 where

@@ -11,11 +11,11 @@ use Rattle.counts.specs.Outcome.{Outcome, gives, refused}
 use Rattle.emit.specs.Emits.{Emits}
 use Rattle.numbers.proofs.Runs.{length-out}
 use Rattle.spelling.specs.declared.Endianness.{Endianness}
-use Rattle.slice.specs.Elements.{trimmed, point, points, found}
-use Rattle.slice.specs.Runs.{filled, pointBytes}
-use Rattle.slice.specs.Rooms.{roomed, Owes}
-use Rattle.slice.proofs.Trims.{trim-zeros}
-use Rattle.slice.proofs.Scalars.{found-at}
+use Rattle.strings.specs.Elements.{trimmed, point, points, found}
+use Rattle.strings.specs.Runs.{filled, pointBytes}
+use Rattle.strings.specs.Rooms.{roomed, Owes}
+use Rattle.strings.proofs.Trims.{trim-zeros}
+use Rattle.strings.proofs.Scalars.{found-at}
 
 -- ---- filled up
 pub length-filled : (size : ℕ) (value : List ℕ) → length value ≤ size → length (filled size value) ≡ size
@@ -62,17 +62,17 @@ pub owes-same : (put put′ : Outcome (List ℕ)) (room : List ℕ) (answer : Ou
 owes-same put put′ room answer room′ e h = subst (λ (o : Outcome (List ℕ)). Owes o room answer room′) e h
 
 module _ (n : ℕ) (room content : List ℕ) where
-  pub owes-short : length room < length content → Owes (roomed n room content) room (refused n) room
-  unfolding roomed
-  owes-short h =
-      let e = lt-ltb (length room) (length content) h in
-      record { answered = rw (roomed, e); room-after = rw (roomed, e) }
-
   pub owes-whole : (k : ℕ) → length content ≤ length room → k ≡ length content → Owes (roomed n room content) room (gives k) (content ++ drop (length content) room)
   unfolding roomed
   owes-whole k h l =
       let e = le-ltb (length room) (length content) h in
       record { answered = rw (roomed, e) (ap gives l); room-after = rw (roomed, e) }
+
+  pub owes-short : length room < length content → Owes (roomed n room content) room (refused n) room
+  unfolding roomed
+  owes-short h =
+      let e = lt-ltb (length room) (length content) h in
+      record { answered = rw (roomed, e); room-after = rw (roomed, e) }
 
 emitted : (f : List ℕ → List ℕ) (old out : List ℕ) (q : ℕ) → Emits f old 0 out q → length (f []) ≤ length old → out ≡ f [] ++ drop (length (f [])) old
 emitted f old out q h le =

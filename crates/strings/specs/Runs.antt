@@ -9,7 +9,7 @@ use Rattle.counts.specs.Outcome.{Outcome, gives, refused, unless}
 use Rattle.numbers.specs.Numbers.{outOrder}
 use Rattle.utf8.specs.Scalar.{isScalar}
 use Rattle.spelling.specs.declared.Endianness.{Endianness}
-use Rattle.slice.specs.declared.Kind.{Kind}
+use Rattle.strings.specs.declared.Kind.{Kind}
 
 -- "fills up with zeros"
 unfoldable pub filled : ℕ → List ℕ → List ℕ

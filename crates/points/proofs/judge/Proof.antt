@@ -1,14 +1,14 @@
--- `slice::judge` meets its contract: each turn takes one code point more. The measure is what is left of the run. Assumes nothing.
+-- `points::judge` meets its contract: each turn takes one code point more. The measure is what is left of the run. Assumes nothing.
 use Prim.Native.Nat.{_-_}
 use mathlib.Core.Path.{sym}
 use native.Mathlib.Omega.{arith}
 use borrow.Author.Needs.{needs}
 use lib.ListN.{length}
 use Rattle.counts.proofs.OneOutcome.{told}
-use Rattle.slice.specs.Answer.{pointAnswer}
-use Rattle.slice.proofs.Scalars.{Judging, judging-start, judging-inside, judging-some, judging-zero, judging-bad, judging-end}
-use Rattle.slice.proofs.judge.Statement.{statement}
-use Rattle.slice.proofs.judge.Tie as tie
+use Rattle.points.specs.Answer.{pointAnswer}
+use Rattle.strings.proofs.Scalars.{Judging, judging-start, judging-inside, judging-some, judging-zero, judging-bad, judging-end}
+use Rattle.points.proofs.judge.Statement.{statement}
+use Rattle.points.proofs.judge.Tie as tie
 
 abbrev Inv-loop : tie.InvT-loop
 Inv-loop run order at₀ count₀ kept₀ at count kept = Judging order run at count kept

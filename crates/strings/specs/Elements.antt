@@ -12,7 +12,7 @@ use Rattle.utf8.specs.Scalar.{isScalar}
 use Rattle.spelling.specs.declared.Endianness.{Endianness}
 use Rattle.spelling.specs.declared.TypeChar.{TypeChar}
 use Rattle.spelling.specs.declared.TypeChar.the-variants.{Bool as Boolean, Int, Uint, Float as Floating, Complex, TimeDelta, DateTime, ByteStr, UnicodeStr, Object, RawData}
-use Rattle.slice.specs.declared.Kind.{Kind}
+use Rattle.strings.specs.declared.Kind.{Kind}
 
 -- the elements of a type: S, U, V, or none that is a string
 abbrev pub kindOf : TypeChar → Kind

@@ -1,9 +1,9 @@
--- `slice::kept` meets its contract: behind n stands nothing but zeros. The measure is n. Assumes nothing.
+-- `strings::kept` meets its contract: behind n stands nothing but zeros. The measure is n. Assumes nothing.
 use mathlib.Core.Path.{refl}
 use native.Mathlib.Omega.{arith}
-use Rattle.slice.proofs.Trims.{Trimming, trimming-start, trimming-more, trimming-stop, trimming-end}
-use Rattle.slice.proofs.kept.Statement.{statement}
-use Rattle.slice.proofs.kept.Tie as tie
+use Rattle.strings.proofs.Trims.{Trimming, trimming-start, trimming-more, trimming-stop, trimming-end}
+use Rattle.strings.proofs.kept.Statement.{statement}
+use Rattle.strings.proofs.kept.Tie as tie
 
 abbrev Inv-loop : tie.InvT-loop
 Inv-loop run n₀ n = Trimming run n

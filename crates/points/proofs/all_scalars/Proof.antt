@@ -1,4 +1,4 @@
--- `slice::all_scalars` meets its contract: all is judged by what is left, since all that was passed are scalar values. The measure is what is left. Assumes nothing.
+-- `points::all_scalars` meets its contract: all is judged by what is left, since all that was passed are scalar values. The measure is what is left. Assumes nothing.
 use Prim.Native.Nat.{_-_, _≤_}
 use mathlib.Core.Path.{_≡_, refl, sym, _∙_}
 use native.Mathlib.Omega.{arith}
@@ -6,10 +6,10 @@ use native.Mathlib.Numerals.{add-one}
 use borrow.Author.Needs.{needs}
 use borrow.Author.Tests.{not-true, not-false}
 use lib.ListN.{length, drop}
-use Rattle.slice.specs.Runs.{allScalars}
-use Rattle.slice.proofs.Scalars.{scalars-more, scalars-bad, scalars-end}
-use Rattle.slice.proofs.all_scalars.Statement.{statement}
-use Rattle.slice.proofs.all_scalars.Tie as tie
+use Rattle.strings.specs.Runs.{allScalars}
+use Rattle.strings.proofs.Scalars.{scalars-more, scalars-bad, scalars-end}
+use Rattle.points.proofs.all_scalars.Statement.{statement}
+use Rattle.points.proofs.all_scalars.Tie as tie
 
 abbrev Inv-loop : tie.InvT-loop
 Inv-loop value i₀ i = (i ≤ length value) × (allScalars value ≡ allScalars (drop i value))

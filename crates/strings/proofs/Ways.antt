@@ -20,13 +20,13 @@ use Rattle.spelling.specs.declared.Endianness.{Endianness}
 use Rattle.spelling.specs.declared.TypeChar.{TypeChar}
 use Rattle.spelling.specs.declared.TypeChar.the-variants.{Bool as Boolean, Int, Uint, Float as Floating, Complex, TimeDelta, DateTime, ByteStr, UnicodeStr, Object, RawData}
 use Rattle.type_str.specs.declared.TypeStr.{TypeStr}
-use Rattle.slice.specs.Elements.{kindOf, trimmed, bytesIn, points, pointsIn, found}
-use Rattle.slice.specs.Runs.{filled, bytesOut, allScalars, pointBytes, pointsOut}
-use Rattle.slice.specs.Rooms.{roomed, readBytes, readPoints, writeBytes, writePoints, Owes}
-use Rattle.slice.specs.declared.Kind.{Kind}
-use Rattle.slice.proofs.Trims.{trim-take, trim-length}
-use Rattle.slice.proofs.Scalars.{apart}
-use Rattle.slice.proofs.Places.{filled-exact, owes-same, owes-short, owes-whole}
+use Rattle.strings.specs.Elements.{kindOf, trimmed, bytesIn, points, pointsIn, found}
+use Rattle.strings.specs.Runs.{filled, bytesOut, allScalars, pointBytes, pointsOut}
+use Rattle.strings.specs.Rooms.{roomed, readBytes, readPoints, writeBytes, writePoints, Owes}
+use Rattle.strings.specs.declared.Kind.{Kind}
+use Rattle.strings.proofs.Trims.{trim-take, trim-length}
+use Rattle.strings.proofs.Scalars.{apart}
+use Rattle.strings.proofs.Places.{filled-exact, owes-same, owes-short, owes-whole}
 
 -- ---- U and no other letter has code points
 unicode-kind : (l : TypeChar) → isUnicode l ≡ true → kindOf l ≡ Kind.UnicodeStr
