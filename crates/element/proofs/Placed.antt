@@ -7,7 +7,7 @@ use lib.ListN.{length}
 use Rattle.counts.specs.Outcome.{Outcome, refused, then}
 use Rattle.type_str.specs.declared.TypeStr.{TypeStr}
 use Rattle.dtype.specs.declared.Order.{Order}
-use Rattle.places.specs.declared.Run.{Run}
+use Rattle.area.specs.declared.Run.{Run}
 use Rattle.places.specs.declared.Placed.{Placed}
 use Rattle.places.specs.Place.{placeOf}
 use Rattle.places.specs.Answer.{answer}

@@ -5,7 +5,7 @@ use mathlib.Core.List.{List}
 use lib.ListN.{length, take, drop}
 use Rattle.counts.specs.Outcome.{Outcome, then}
 use Rattle.dtype.specs.declared.Order.{Order}
-use Rattle.places.specs.declared.Run.{Run}
+use Rattle.area.specs.declared.Run.{Run}
 use Rattle.places.specs.Place.{placeOf}
 use Rattle.strings.specs.Rooms.{readBytes, readPoints}
 

@@ -70,7 +70,7 @@ fn bytes_at(file: &[u8], place: Placed, out: &mut [u8]) -> BytesElement
     match place {
         Placed::At(run) => {
             let kind = run.kind;
-            match slice::read_bytes(places::part(file, run), kind, out) {
+            match slice::read_bytes(area::part(file, run), kind, out) {
                 BytesRead::Read(count) => BytesElement::Read(count),
                 BytesRead::NoString => BytesElement::NoElement,
                 BytesRead::Room => BytesElement::Room,
@@ -116,7 +116,7 @@ fn points_at(file: &[u8], place: Placed, out: &mut [u32]) -> PointsElement
     match place {
         Placed::At(run) => {
             let kind = run.kind;
-            match slice::read_points(places::part(file, run), kind, out) {
+            match slice::read_points(area::part(file, run), kind, out) {
                 PointsRead::Read(count) => PointsElement::Read(count),
                 PointsRead::NoString => PointsElement::NoElement,
                 PointsRead::BadScalar => PointsElement::BadScalar,

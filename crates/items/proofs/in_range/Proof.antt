@@ -1,12 +1,12 @@
--- `places::in_range` meets its contract. The loop keeps that each number passed is in range; the measure is what is left of the rank. Assumes nothing.
-use Rattle.places.proofs.Sums.{wrong-length, out-at, all-in}
+-- `items::in_range` meets its contract. The loop keeps that each number passed is in range; the measure is what is left of the rank. Assumes nothing.
+use Rattle.items.proofs.Sums.{wrong-length, out-at, all-in}
 use lib.ListN.{length, getD}
 use borrow.Author.Count.{below-more}
 use native.Mathlib.Omega.{arith}
 use Prim.Native.Nat.{ℕ, _-_, _<_, _≤_}
 use borrow.Author.Needs.{needs}
-use Rattle.places.proofs.in_range.Statement.{statement}
-use Rattle.places.proofs.in_range.Tie as tie
+use Rattle.items.proofs.in_range.Statement.{statement}
+use Rattle.items.proofs.in_range.Tie as tie
 
 abbrev Inv-loop : tie.InvT-loop
 Inv-loop shape index k₀ k = (k ≤ length shape) × ((j : ℕ) → j < k → getD index j 0 < getD shape j 0)

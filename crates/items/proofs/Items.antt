@@ -1,15 +1,15 @@
 -- The answers of `item_of` and `item_number`: where the shape is within its limits the strides have room, and their sum of products is the item's
--- number. And a part of a file as far as the file reaches. Assumes nothing.
-use Prim.Native.Nat.{ℕ, _+_, _-_, _^_, _<_, _≤_, min}
+-- number. Of a shape within its limits an item's number tells that its index is in range. Assumes nothing.
+use Prim.Native.Nat.{ℕ, _^_, _<_, _≤_}
 use mathlib.Core.Path.{_≡_, refl, ap, sym, _∙_}
 use mathlib.Core.Bool.{Bool, true, false}
-use mathlib.Core.Logic.{⊎-elim}
-use mathlib.Core.List.{List}
+use mathlib.Core.List.{List, [], _∷_}
+use denote.Enum.Declared.{tagOf}
+use types.Run.{OneOf, miss}
 use native.Mathlib.Omega.{arith}
 use borrow.Author.Tests.{lt-ltb, le-ltb, leb-false}
-use lib.ListN.{length, take, drop, length-drop, drop-of-length-le}
-use lib.Seq.{take-length, take-all, take-nil}
-use Rattle.counts.specs.Outcome.{gives, refused}
+use lib.ListN.{length, drop}
+use Rattle.counts.specs.Outcome.{Outcome, gives, refused}
 use Rattle.counts.specs.Number.{number}
 use Rattle.counts.specs.Counts.{items}
 use Rattle.counts.specs.declared.Items.{Items}
@@ -17,7 +17,6 @@ use Rattle.counts.specs.declared.ItemCount.{ItemCount}
 use Rattle.dtype.specs.declared.Order.{Order}
 use Rattle.dtype.specs.Shape.{product, strides, inRange, sumOfProducts, item}
 use Rattle.dtype.specs.Limits.{over, anyOver, overShape}
-use Rattle.dtype.proofs.Digits.{lt-or-ge}
 use Rattle.dtype.proofs.Strides.{strides-length, range-length}
 use Rattle.dtype.proofs.Items.{item-below}
 use Rattle.dtype.proofs.Seen.{or-left}
@@ -25,8 +24,11 @@ use Rattle.shape.specs.declared.StridesWritten.{StridesWritten}
 use Rattle.shape.specs.Answer.{wrote}
 use Rattle.shape.specs.Count.{itemCount, stridesCount, front, left, Writes}
 use Rattle.shape.proofs.Turns.{counted-fits, counted-over}
-use Rattle.places.specs.Place.{itemOf}
-use Rattle.places.proofs.Sums.{items-back, items-over, range-of, sum-front}
+use Rattle.items.specs.Item.{itemOf}
+use Rattle.items.specs.Answer.{itemAnswer}
+use Rattle.items.specs.declared.ItemNumber.{ItemNumber}
+use Rattle.items.proofs.ItemNumber.{the-type}
+use Rattle.items.proofs.Sums.{items-back, items-over, range-of, sum-front}
 
 -- ---- `item_of`
 module _ (o : Order) (s x out : List ℕ) (w : StridesWritten) (out′ : List ℕ) (h : Writes o s out w out′) (room : 32 ≤ length out) where
@@ -88,23 +90,36 @@ module _ (o : Order) (s x : List ℕ) where
             let z = items-back (item o s x) m (sym p ∙ q l not-over g) .0 in
             simp (le-ltb 32 (length s) l, not-over, g, z)
 
--- ---- `part`
-pub part-least : (l : List ℕ) (n m a b : ℕ) → a ≡ min m (length l) → b ≡ min n (length l - a) → take (a + b - a) (drop a l) ≡ take n (drop m l)
-part-least l n m a b p q =
-    let z : a + b - a ≡ b = omega arith in
-    rw z
-    (⊎-elim
-    (λ (h : m < length l).
-    let y : a ≡ m = omega arith in
-    rw y
-    (⊎-elim
-    (λ (g : n < length l - m). let w : b ≡ n = omega arith in rw w)
-    (λ (g : length l - m ≤ n).
-    let w : b ≡ length (drop m l) = omega (arith, length-drop m l) in
-    rw w (take-length (drop m l) ∙ sym (take-all n (drop m l) (omega (arith, length-drop m l)))))
-    (lt-or-ge n (length l - m))))
-    (λ (h : length l ≤ m).
-    let y : a ≡ length l = omega arith in
-    let w : b ≡ 0 = omega arith in
-    rw (y, w, drop-of-length-le l {i = m} h) (sym (take-nil n)))
-    (lt-or-ge m (length l)))
+-- ---- what an item's number tells of the index
+module _ (o : Order) (s x : List ℕ) (l : length s ≤ 32) (f : overShape o s ≡ false) where
+  in-gives : inRange s x ≡ true → itemOf o s x ≡ gives (item o s x)
+  unfolding itemOf
+  in-gives g = simp (le-ltb 32 (length s) l, f, g)
+
+  out-refused : inRange s x ≡ false → itemOf o s x ≡ refused 26
+  unfolding itemOf
+  out-refused g = simp (le-ltb 32 (length s) l, f, g)
+
+  refused-out : (n : ℕ) → refused n ≡ itemOf o s x → inRange s x ≡ false
+  refused-out n e = go (inRange s x) refl
+    where
+      go : (b : Bool) → inRange s x ≡ b → inRange s x ≡ false
+      go true g = let z = e ∙ in-gives g in absurd (let y : _≡_ {A = ℕ} 0 1 = cc in omega arith)
+      go false g = g
+
+  -- every answer but `Item`
+  pub item-refused : (r : ItemNumber) → itemAnswer r ≡ itemOf o s x → OneOf (1 ∷ 2 ∷ 3 ∷ []) (tagOf the-type r) → inRange s x ≡ false
+  item-refused (ItemNumber.Item n) e h = absurd (miss (1 ∷ 2 ∷ 3 ∷ []) 0 tt h)
+  item-refused ItemNumber.Dimensions e h = refused-out 13 e
+  item-refused ItemNumber.Shape e h = refused-out 22 e
+  item-refused ItemNumber.Nowhere e h = refused-out 26 e
+
+  pub item-given : (m : ℕ) → gives m ≡ itemOf o s x → (inRange s x ≡ true) × (item o s x ≡ m)
+  item-given m e = go (inRange s x) refl
+    where
+      same : (i : ℕ) → _≡_ {A = Outcome ℕ} (gives m) (gives i) → i ≡ m
+      same i h = cc
+
+      go : (b : Bool) → inRange s x ≡ b → (inRange s x ≡ true) × (item o s x ≡ m)
+      go true g = (g, same (item o s x) (e ∙ in-gives g))
+      go false g = let z = e ∙ out-refused g in absurd (let y : _≡_ {A = ℕ} 0 1 = cc in omega arith)

@@ -9,12 +9,10 @@ use lib.Dec.{ltb}
 use lib.ListN.{length, getD, drop, drop-of-length-le}
 use lib.Seq.{drop-cons}
 use Rattle.counts.specs.Number.{number}
-use Rattle.counts.specs.Counts.{items, bytes}
+use Rattle.counts.specs.Counts.{items}
 use Rattle.counts.specs.declared.Items.{Items}
-use Rattle.counts.specs.declared.Bytes.{Bytes}
 use Rattle.counts.specs.declared.Number.{Number}
 use Rattle.counts.specs.declared.ItemCount.{ItemCount}
-use Rattle.counts.specs.declared.ByteCount.{ByteCount}
 use Rattle.counts.proofs.Alike.{and-left, and-right, true-false}
 use Rattle.counts.proofs.Fits.{number-is, number-over, number-is-back, number-over-back}
 use Rattle.dtype.specs.Shape.{In-range, inRange, sumOfProducts}
@@ -28,25 +26,11 @@ items-over-of : (v : Number) → ItemCount.Over ≡ items v → v ≡ Number.Ove
 items-over-of (Number.Is n) e = let z : _≡_ {A = ℕ} 0 1 = cc in absurd (omega arith)
 items-over-of Number.Over e = refl
 
-bytes-of : (v : Number) (m : Bytes) → ByteCount.Is m ≡ bytes v → v ≡ Number.Is (m .0)
-bytes-of (Number.Is n) m e = let z : m ≡ record { 0 = n } = cc in ap (λ (x : Bytes). Number.Is (x .0)) (sym z)
-bytes-of Number.Over m e = let z : _≡_ {A = ℕ} 0 1 = cc in absurd (omega arith)
-
-bytes-over-of : (v : Number) → ByteCount.Over ≡ bytes v → v ≡ Number.Over
-bytes-over-of (Number.Is n) e = let z : _≡_ {A = ℕ} 0 1 = cc in absurd (omega arith)
-bytes-over-of Number.Over e = refl
-
 pub items-back : (n : ℕ) (m : Items) → ItemCount.Is m ≡ items (number n) → (n ≡ m .0) × (n < 2 ^ 64)
 items-back n m e = number-is-back n (m .0) (items-of (number n) m e)
 
 pub items-over : (n : ℕ) → ItemCount.Over ≡ items (number n) → 2 ^ 64 ≤ n
 items-over n e = number-over-back n (items-over-of (number n) e)
-
-pub bytes-back : (n : ℕ) (m : Bytes) → ByteCount.Is m ≡ bytes (number n) → (n ≡ m .0) × (n < 2 ^ 64)
-bytes-back n m e = number-is-back n (m .0) (bytes-of (number n) m e)
-
-pub bytes-over : (n : ℕ) → ByteCount.Over ≡ bytes (number n) → 2 ^ 64 ≤ n
-bytes-over n e = number-over-back n (bytes-over-of (number n) e)
 
 -- ---- the loop of `sum_of_products`
 pub record Summed (x ts : List ℕ) (sum k : ℕ) : Type 0 where

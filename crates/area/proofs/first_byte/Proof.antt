@@ -1,9 +1,9 @@
--- `places::first_byte` meets its contract, sum by sum. Assumes nothing.
-use Rattle.places.proofs.Placing.{before-over, item-over, first-is}
+-- `area::first_byte` meets its contract, sum by sum. Assumes nothing.
+use Rattle.area.proofs.Area.{before-over, item-over, first-is}
 use mathlib.Core.Path.{sym, _∙_}
 use borrow.Author.Needs.{needs}
-use Rattle.places.proofs.first_byte.Statement.{statement}
-use Rattle.places.proofs.first_byte.Tie as tie
+use Rattle.area.proofs.first_byte.Statement.{statement}
+use Rattle.area.proofs.first_byte.Tie as tie
 
 of-size-requires : tie.Need-of-size-requires
 of-size-requires c κs = search needs

@@ -1,8 +1,8 @@
--- `places::part` meets its contract: what lies past the file's end is not there. Assumes nothing.
-use Rattle.places.proofs.Items.{part-least}
+-- `area::part` meets its contract: what lies past the file's end is not there. Assumes nothing.
+use Rattle.area.proofs.Area.{part-least}
 use borrow.Author.Needs.{needs}
-use Rattle.places.proofs.part.Statement.{statement}
-use Rattle.places.proofs.part.Tie as tie
+use Rattle.area.proofs.part.Statement.{statement}
+use Rattle.area.proofs.part.Tie as tie
 
 least-requires : tie.Need-least-requires
 least-requires c κs = search needs

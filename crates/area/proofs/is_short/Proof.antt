@@ -1,10 +1,10 @@
--- `places::is_short` meets its contract: what is over 2^64-1 is longer than any file. Assumes nothing.
-use Rattle.places.proofs.Placing.{area-over, end-over, end-is}
+-- `area::is_short` meets its contract: what is over 2^64-1 is longer than any file. Assumes nothing.
+use Rattle.area.proofs.Area.{area-over, end-over, end-is}
 use native.Mathlib.Omega.{arith}
 use mathlib.Core.Path.{sym, _∙_}
 use borrow.Author.Needs.{needs}
-use Rattle.places.proofs.is_short.Statement.{statement}
-use Rattle.places.proofs.is_short.Tie as tie
+use Rattle.area.proofs.is_short.Statement.{statement}
+use Rattle.area.proofs.is_short.Tie as tie
 
 of-size-requires : tie.Need-of-size-requires
 of-size-requires c κs = search needs

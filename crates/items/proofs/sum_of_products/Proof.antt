@@ -1,11 +1,11 @@
--- `places::sum_of_products` meets its contract: the loop keeps `Summed`. The measure is what is left of the index. Assumes nothing.
-use Rattle.places.proofs.Sums.{Summed, summed-start, summed-end, summed-short, times-over, plus-over, summed-next}
+-- `items::sum_of_products` meets its contract: the loop keeps `Summed`. The measure is what is left of the index. Assumes nothing.
+use Rattle.items.proofs.Sums.{Summed, summed-start, summed-end, summed-short, times-over, plus-over, summed-next}
 use lib.ListN.{length}
 use mathlib.Core.Path.{sym, _∙_}
 use Prim.Native.Nat.{_-_}
 use borrow.Author.Needs.{needs}
-use Rattle.places.proofs.sum_of_products.Statement.{statement}
-use Rattle.places.proofs.sum_of_products.Tie as tie
+use Rattle.items.proofs.sum_of_products.Statement.{statement}
+use Rattle.items.proofs.sum_of_products.Tie as tie
 
 abbrev Inv-loop : tie.InvT-loop
 Inv-loop index strides sum₀ k₀ sum k = Summed index strides (sum .0) k

@@ -1,11 +1,11 @@
--- `places::item_number` meets its contract: each answer by the tests that led there. Assumes nothing.
-use Rattle.places.proofs.Items.{number-13, number-22, number-26, number-26-over, number-gives}
+-- `items::item_number` meets its contract: each answer by the tests that led there. Assumes nothing.
+use Rattle.items.proofs.Items.{number-13, number-22, number-26, number-26-over, number-gives}
 use Rattle.shape.specs.Answer.{counted}
 use Rattle.counts.proofs.OneOutcome.{told}
 use mathlib.Core.Path.{sym, _∙_}
 use borrow.Author.Needs.{needs}
-use Rattle.places.proofs.item_number.Statement.{statement}
-use Rattle.places.proofs.item_number.Tie as tie
+use Rattle.items.proofs.item_number.Statement.{statement}
+use Rattle.items.proofs.item_number.Tie as tie
 
 returns : tie.Need-returns
 returns c = number-13 _ _ _ (c .if1 .taken)

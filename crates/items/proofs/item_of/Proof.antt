@@ -1,11 +1,11 @@
--- `places::item_of` meets its contract: where the shape is within its limits, its strides have room. Assumes nothing.
-use Rattle.places.proofs.Items.{strides-refused, item-sum}
+-- `items::item_of` meets its contract: where the shape is within its limits, its strides have room. Assumes nothing.
+use Rattle.items.proofs.Items.{strides-refused, item-sum}
 use Rattle.shape.specs.Answer.{wrote}
 use native.Mathlib.Omega.{arith}
 use mathlib.Core.Path.{ap}
 use borrow.Author.Needs.{needs}
-use Rattle.places.proofs.item_of.Statement.{statement}
-use Rattle.places.proofs.item_of.Tie as tie
+use Rattle.items.proofs.item_of.Statement.{statement}
+use Rattle.items.proofs.item_of.Tie as tie
 
 slice-aggregate-strides : tie.Need-slice-aggregate-strides
 slice-aggregate-strides c = search needs
