@@ -33,7 +33,7 @@ use Rattle.header.specs.declared.Said.{Said}
 use Rattle.header.specs.declared.Header.{Header}
 use Rattle.header.specs.Answer.{saidOf, Told, told, headerIs, filled, textInto, heldInto}
 use Rattle.write.specs.Writes.{headerWritten, headerPlaced, roomOf}
-use Rattle.listing.specs.Listing.{listing}
+use Rattle.lines.specs.Listing.{listing}
 use Rattle.listing.specs.Answer as lists
 use Rattle.strings.specs.Rooms.{after, Owes}
 use Rattle.claims.specs.Beyond.{Same-rest, Rest-unchanged}

@@ -23,7 +23,7 @@ use Rattle.judge.specs.Judged.{reading}
 use Rattle.table.specs.Checked.{checkedRecord}
 use Rattle.header.specs.Answer as header
 use Rattle.write.specs.Writes.{headerWritten, headerPlaced, roomOf}
-use Rattle.listing.specs.Listing.{listing}
+use Rattle.lines.specs.Listing.{listing}
 use Rattle.listing.specs.Answer as lists
 use Rattle.strings.specs.Rooms.{after, Owes}
 use Rattle.claims.specs.Refusals.{Unchanged}

@@ -11,7 +11,7 @@ use Rattle.emit.proofs.Pieces.{emits-length}
 use Rattle.dtype.specs.declared.Entry.{Entry}
 use Rattle.dtype.specs.Agrees.{entryAt, nameStart}
 use Rattle.dtype.specs.Seen.{nameAt}
-use Rattle.listing.specs.Listing.{entryLine, entryLines}
+use Rattle.lines.specs.Listing.{entryLine, entryLines}
 
 -- ---- a part of the names
 module _ (ns : List ℕ) (start m : ℕ) (inside : start ≤ length ns) (end : ℕ) (e : end ≡ min (start + m) (length ns)) where

@@ -20,7 +20,7 @@ use Rattle.dtype.specs.Agrees.{entryAt}
 use Rattle.table.specs.Answer.{typeAnswer}
 use Rattle.table.specs.EntryType.{typeOf}
 use Rattle.table.specs.declared.EntryType.{EntryType}
-use Rattle.listing.specs.Listing.{orderLine, itemLine, parentText, typeIn, kindText, isField, nameText, entryLine}
+use Rattle.lines.specs.Listing.{orderLine, itemLine, parentText, typeIn, kindText, isField, nameText, entryLine}
 
 -- three pieces in turn
 pub three :

@@ -1,8 +1,8 @@
 -- The outermost entry, or another. Assumes nothing.
-use Rattle.listing.proofs.Pieces.{no-parent, a-parent}
+use Rattle.lines.proofs.Pieces.{no-parent, a-parent}
 use borrow.Author.Needs.{needs}
-use Rattle.listing.proofs.put_parent.Statement.{statement}
-use Rattle.listing.proofs.put_parent.Tie as tie
+use Rattle.lines.proofs.put_parent.Statement.{statement}
+use Rattle.lines.proofs.put_parent.Tie as tie
 
 put-requires : tie.Need-put-requires
 put-requires c κs = search needs
