@@ -27,7 +27,7 @@ use Rattle.write.specs.Writes.{Writes}
 use Rattle.listing.specs.Answer as listing
 use Rattle.slice.specs.Answer.{bytesAnswer, pointsAnswer, wroteAnswer}
 use Rattle.strings.specs.Rooms.{readBytes, readPoints, writeBytes, writePoints, Owes}
-use Rattle.element.specs.Answer as element
+use Rattle.placed.specs.Answer as element
 use Rattle.element.specs.Element.{elementBytes, elementPoints}
 
 -- the three rooms of a reader

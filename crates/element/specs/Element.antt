@@ -2,16 +2,12 @@
 -- another type, 29 and 23 are Rooms.antt of the crate strings, and all refusals before them Place.antt of the crate places. Definitions only. Assumes nothing.
 use Prim.Native.Nat.{ℕ}
 use mathlib.Core.List.{List}
-use lib.ListN.{length, take, drop}
+use lib.ListN.{length}
 use Rattle.counts.specs.Outcome.{Outcome, then}
 use Rattle.dtype.specs.declared.Order.{Order}
-use Rattle.area.specs.declared.Run.{Run}
 use Rattle.places.specs.Place.{placeOf}
 use Rattle.strings.specs.Rooms.{readBytes, readPoints}
-
--- the bytes of a place
-abbrev pub bytesOf : (file : List ℕ) → Run → List ℕ
-bytesOf file u = take (u .len .0) (drop (u .first .0) file)
+use Rattle.placed.specs.Bytes.{bytesOf}
 
 -- ---- what goes to the room, or the first refusal
 

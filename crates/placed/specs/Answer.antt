@@ -2,8 +2,8 @@
 -- Definitions only. Assumes nothing.
 use Prim.Native.Nat.{ℕ}
 use Rattle.counts.specs.Outcome.{Outcome, gives, refused}
-use Rattle.element.specs.declared.BytesElement.{BytesElement}
-use Rattle.element.specs.declared.PointsElement.{PointsElement}
+use Rattle.placed.specs.declared.BytesElement.{BytesElement}
+use Rattle.placed.specs.declared.PointsElement.{PointsElement}
 
 abbrev pub bytesAnswer : BytesElement → Outcome ℕ
 bytesAnswer (BytesElement.Read n) = gives (n .0)

@@ -1,10 +1,10 @@
--- `element::points_at` meets its contract: the refusals of the place, or the reading of the part of the file that the place names. Assumes nothing.
+-- `placed::points_at` meets its contract: the refusals of the place, or the reading of the part of the file that the place names. Assumes nothing.
 use mathlib.Core.Path.{ap}
 use Rattle.places.specs.Answer.{answer}
-use Rattle.element.proofs.Placed.{no-place, points-placed}
+use Rattle.placed.proofs.Placed.{no-place, points-placed}
 use borrow.Author.Needs.{needs}
-use Rattle.element.proofs.points_at.Statement.{statement}
-use Rattle.element.proofs.points_at.Tie as tie
+use Rattle.placed.proofs.points_at.Statement.{statement}
+use Rattle.placed.proofs.points_at.Tie as tie
 
 enum-known-place : tie.Need-enum-known-place
 enum-known-place c = search needs

@@ -3,20 +3,17 @@
 use Prim.Native.Nat.{ℕ}
 use mathlib.Core.Path.{_≡_, sym, ap, subst}
 use mathlib.Core.List.{List}
-use lib.ListN.{length}
 use Rattle.counts.specs.Outcome.{Outcome, refused, then}
 use Rattle.type_str.specs.declared.TypeStr.{TypeStr}
-use Rattle.dtype.specs.declared.Order.{Order}
 use Rattle.area.specs.declared.Run.{Run}
 use Rattle.places.specs.declared.Placed.{Placed}
-use Rattle.places.specs.Place.{placeOf}
 use Rattle.places.specs.Answer.{answer}
 use Rattle.slice.specs.declared.BytesRead.{BytesRead}
 use Rattle.slice.specs.declared.PointsRead.{PointsRead}
 use Rattle.slice.specs.Answer.{bytesAnswer, pointsAnswer}
 use Rattle.strings.specs.Rooms.{readBytes, readPoints, Owes}
 use Rattle.strings.proofs.Places.{owes-refused, owes-same}
-use Rattle.element.specs.Element.{bytesOf, elementBytes, elementPoints}
+use Rattle.placed.specs.Bytes.{bytesOf}
 
 pub no-place : (n : ℕ) (reading : Run → Outcome (List ℕ)) (room : List ℕ) {place : Outcome Run} → place ≡ refused n → Owes (then place reading) room (refused n) room
 no-place n reading room {place} e =
@@ -39,13 +36,3 @@ module _ (file room : List ℕ) {place : Placed} {u : Run} {part room′ : List 
   pub points-placed : {r r′ : PointsRead} → r ≡ r′ → Owes (readPoints (u .kind) part room) room (pointsAnswer r) room′
       → Owes (then (answer place) (λ u. readPoints (u .kind) (bytesOf file u) room)) room (pointsAnswer r′) room′
   points-placed g h = at-place (λ t l. readPoints t l room) pointsAnswer file room e f g h
-
-module _ (file : List ℕ) (start : ℕ) (t ns s : List ℕ) (o : Order) (x p room : List ℕ) {place : Outcome Run} (e : place ≡ placeOf (length file) start t ns s o x p)
-    {a : Outcome ℕ} {room′ : List ℕ} where
-  pub bytes-whole : Owes (then place (λ u. readBytes (u .kind) (bytesOf file u) room)) room a room′ → Owes (elementBytes file start t ns s o x p room) room a room′
-  unfolding elementBytes
-  bytes-whole h = subst (λ (c : Outcome Run). Owes (then c (λ u. readBytes (u .kind) (bytesOf file u) room)) room a room′) e h
-
-  pub points-whole : Owes (then place (λ u. readPoints (u .kind) (bytesOf file u) room)) room a room′ → Owes (elementPoints file start t ns s o x p room) room a room′
-  unfolding elementPoints
-  points-whole h = subst (λ (c : Outcome Run). Owes (then c (λ u. readPoints (u .kind) (bytesOf file u) room)) room a room′) e h
