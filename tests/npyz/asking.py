@@ -1,5 +1,6 @@
 """What the comparisons with npyz share: where the program of ask.rs stands, and the classes of difference."""
 import os
+import subprocess
 import sys
 
 HERE = os.path.dirname(os.path.abspath(__file__))
@@ -11,9 +12,9 @@ PROGRAM = os.path.join(ROOT, 'target', 'npyz', 'target', 'release', 'ask')
 
 
 def ask(cases):
-    """npyz's lines for these cases."""
+    """npyz's lines for these cases. The program is built where it is missing."""
     if not os.path.exists(PROGRAM):
-        sys.exit('build the program first: tests/npyz/make FOLDER')
+        subprocess.run([os.path.join(HERE, 'make')], check=True, stdout=subprocess.DEVNULL)
     return frames.ask([PROGRAM], cases)
 
 
