@@ -24,18 +24,19 @@ use Rattle.tokens.specs.declared.Parsed.the-variants.{Value}
 use Rattle.literal.proofs.Ends.{Ahead, value-ahead, then-ahead}
 use Rattle.literal.proofs.Rows.{row-step, row-shut, row-stray}
 use Rattle.literal.proofs.Steps.{gapLeft, gap-falls}
-use Rattle.descr.specs.declared.Totals.{Totals}
-use Rattle.descr.specs.declared.Verdict.{Verdict}
+use Rattle.sums.specs.declared.Totals.{Totals}
+use Rattle.sums.specs.declared.Verdict.{Verdict}
 use Rattle.descr.specs.declared.Judged.{Judged}
 use Rattle.record.specs.Dimensions.{subShape}
-use Rattle.dims.specs.Outline.{outlineOf}
-use Rattle.dims.specs.declared.Outline.{Outline}
+use Rattle.products.specs.Outline.{outlineOf}
+use Rattle.products.specs.declared.Outline.{Outline}
 use Rattle.dims.specs.declared.Judged as dims
 use Rattle.dims.specs.Answer as answers
-use Rattle.descr.specs.Totals.{nothing, arrayed}
-use Rattle.descr.specs.Verdict.{verdict, both}
+use Rattle.products.specs.Answer.{outlined}
+use Rattle.sums.specs.Totals.{nothing, arrayed}
+use Rattle.sums.specs.Verdict.{verdict, both}
 use Rattle.descr.specs.Judges.{Judges, JudgesRow, StandsRow, gapPlace, itemsBy}
-use Rattle.descr.proofs.Sums.{both-assoc, both-nothing}
+use Rattle.sums.proofs.Sums.{both-assoc, both-nothing}
 use Rattle.descr.proofs.Adds.{fieldsBy, fieldBy, nameBy, descrBy, fields-step, fields-start, two-items, three-items}
 
 abbrev pub valuesOf : List Node → Values
@@ -204,5 +205,5 @@ rest-more k s close ns g g′ p q e r hg hq hr hg′ h =
     (x .1, subst (λ (y : Gap). Row (value k s) s close (x .1) y e) (ap (λ (z : ℕ). thenAt s z close) i ∙ sym hg′) (x .5))
 
 -- ---- a sub-shape, as crate dims judges it
-pub sub-judged : (p : ℕ) (g : Got Node) (n : Node) (q : ℕ) (r : dims.Judged) → answers.Judges p g r → g ≡ got n q → (r .end ≡ q) × (answers.outlined (r .verdict) ≡ each outlineOf (subShape (forget n)))
+pub sub-judged : (p : ℕ) (g : Got Node) (n : Node) (q : ℕ) (r : dims.Judged) → answers.Judges p g r → g ≡ got n q → (r .end ≡ q) × (outlined (r .verdict) ≡ each outlineOf (subShape (forget n)))
 sub-judged p g n q r j h = (j .ends ∙ ap (λ (x : Got Node). answers.endOr p x) h, j .says ∙ ap (λ (x : Got Node). each outlineOf (answers.dimensionsAt x)) h)

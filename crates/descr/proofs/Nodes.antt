@@ -25,8 +25,8 @@ use Rattle.tokens.specs.declared.bytes.Kind.{Kind}
 use Rattle.tokens.specs.declared.bytes.Kind.the-variants.{Square, Round, Curly, Quote, Minus, Digit, TrueWord, FalseWord, NoneWord, Other}
 use Rattle.tokens.proofs.Positions.{kind-in}
 use Rattle.literal.proofs.View.{view, value-kind}
-use Rattle.descr.specs.Totals.{totalsOf, oneEntry, nameTotals}
-use Rattle.descr.specs.Verdict.{both}
+use Rattle.sums.specs.Totals.{totalsOf, oneEntry, nameTotals}
+use Rattle.sums.specs.Verdict.{both}
 use Rattle.descr.specs.Judges.{isString, typedAt, namedAt, itemsBy}
 use Rattle.descr.proofs.Adds.{fieldsBy, fieldBy, descrBy, nameBy, record-step}
 use Rattle.descr.proofs.Along.{valuesOf}

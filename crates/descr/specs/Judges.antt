@@ -22,10 +22,10 @@ use Rattle.tokens.specs.declared.bytes.Kind.{Kind}
 use Rattle.tokens.specs.declared.bytes.Kind.the-variants.{Square, Round, Curly, Quote, Minus, Digit, TrueWord, FalseWord, NoneWord, Other}
 use Rattle.literal.specs.declared.gaps.Gap.{Gap}
 use Rattle.literal.specs.declared.gaps.Gap.the-variants.{Shut, Item, Stray}
-use Rattle.descr.specs.declared.Totals.{Totals}
+use Rattle.sums.specs.declared.Totals.{Totals}
+use Rattle.sums.specs.Totals.{totalsOf, fieldTotals, nameTotals}
+use Rattle.sums.specs.Verdict.{verdict}
 use Rattle.descr.specs.declared.Judged.{Judged}
-use Rattle.descr.specs.Totals.{totalsOf, fieldTotals, nameTotals}
-use Rattle.descr.specs.Verdict.{verdict}
 
 -- of the value at `at`, where k brackets more may open
 pub record Judges (k : ℕ) (s : List ℕ) (at : ℕ) (f : Value → Outcome Totals) (r : Judged) : Type 0 where

@@ -2,18 +2,18 @@
 // `judge`, `fields`, `field` and `items` call each other in a cycle; each bracket that opens leaves one fewer. No walk stops early: it answers where
 // its value ends, also where it refuses, so that a wrong item count can come before what stands inside.
 use super::Judged;
-use super::Rule;
-use super::Totals;
-use super::Verdict;
-use super::join;
-use super::named;
-use super::shaped;
-use super::typed;
 use dims::closing;
 use literal::gaps::Gap;
 use literal::gaps::gap_at;
 use literal::gaps::then_at;
 use literal::value;
+use sums::Rule;
+use sums::Totals;
+use sums::Verdict;
+use sums::join;
+use sums::named;
+use sums::shaped;
+use sums::typed;
 use tokens::Parsed;
 use tokens::bytes::Kind;
 use tokens::bytes::kind_of;
@@ -32,8 +32,8 @@ ghost use Rattle.literal.specs.Answer.{place};
 ghost use Rattle.literal.specs.Literal.{value as valueOf};
 ghost use Rattle.literal.specs.Brackets.{gapAt};
 ghost use Rattle.literal.specs.Rows.{Stands, Row};
-ghost use Rattle.descr.specs.Totals.{totalsOf, totalsIn, fieldTotals};
-ghost use Rattle.descr.specs.Verdict.{verdict};
+ghost use Rattle.sums.specs.Totals.{totalsOf, totalsIn, fieldTotals};
+ghost use Rattle.sums.specs.Verdict.{verdict};
 ghost use Rattle.descr.specs.Judges.{Judges, JudgesRow, StandsRow, gapPlace, namedAt, typedAt, itemsBy, isString};
 
 // A value that is a descr: a type string, or a list of fields.

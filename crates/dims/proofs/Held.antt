@@ -24,15 +24,16 @@ use Rattle.tokens.specs.declared.bytes.Kind.the-variants.{Square, Round, Curly,
 use Rattle.tokens.proofs.Positions.{kind-in}
 use Rattle.literal.proofs.Steps.{Stops, thing}
 use Rattle.literal.proofs.View.{view}
-use Rattle.dims.specs.declared.Outline.{Outline}
-use Rattle.dims.specs.declared.Verdict.{Verdict}
-use Rattle.dims.specs.declared.Verdict.the-variants.{Good, Form, Large}
-use Rattle.dims.specs.declared.Member as member
-use Rattle.dims.specs.declared.Member.{Member}
-use Rattle.dims.specs.Outline.{outlineOf, extendedBy}
-use Rattle.dims.specs.Answer.{sized, outlined, endOr, dimensionsAt, Judges}
-use Rattle.dims.specs.Walk.{closingOf, dimensionsOf, rankOf}
-use Rattle.dims.proofs.Outlines.{extends, outline-whole}
+use Rattle.products.specs.declared.Outline.{Outline}
+use Rattle.products.specs.declared.Verdict.{Verdict}
+use Rattle.products.specs.declared.Verdict.the-variants.{Good, Form, Large}
+use Rattle.products.specs.declared.Member as member
+use Rattle.products.specs.declared.Member.{Member}
+use Rattle.products.specs.Outline.{outlineOf, extendedBy}
+use Rattle.products.specs.Answer.{sized, outlined, rankOf}
+use Rattle.products.proofs.Outlines.{extends, outline-whole}
+use Rattle.dims.specs.Answer.{endOr, dimensionsAt, Judges}
+use Rattle.dims.specs.Walk.{closingOf, dimensionsOf}
 
 -- ---- the loop
 abbrev pub Met : Verdict → List Node → List Node → Type 0
@@ -69,10 +70,6 @@ unfolding forget forgetAll
 met-end (Good o) ns h = sym h
 met-end Form ns h = sym h
 met-end Large ns h = sym h
-
-pub joined-good : (v : Verdict) (m : Member) (o r : Outline) (n : ℕ) → v ≡ Good o → m ≡ member.Member.Is n → r ≡ extendedBy o n
-    → gives r ≡ then (outlined v) (λ o. each (extendedBy o) (sized m))
-joined-good v m o r n hv hm hr = rw (hv, hm) (ap gives hr)
 
 -- a verdict counts one more at most
 pub rank-more : (v v′ : Verdict) (m : Member) → outlined v′ ≡ then (outlined v) (λ o. each (extendedBy o) (sized m)) → rankOf v′ ≤ rankOf v + 1

@@ -3,7 +3,6 @@
 use super::Many;
 use super::Parts;
 use super::Spot;
-use dims::Verdict;
 use dims::closing;
 use dtype::ARRAY;
 use dtype::ENTRY;
@@ -17,6 +16,7 @@ use literal::gaps::Gap;
 use literal::gaps::gap_at;
 use literal::gaps::then_at;
 use literal::value;
+use products::Verdict;
 use spelling::Endianness;
 use spelling::TypeChar;
 use tokens::Parsed;

@@ -10,9 +10,9 @@ use Rattle.tokens.specs.Text.{kindOf}
 use Rattle.literal.specs.Brackets.{thenAt}
 use Rattle.literal.proofs.Steps.{gapLeft}
 use Rattle.dims.specs.Walk.{closingOf}
-use Rattle.descr.specs.declared.Totals.{Totals}
-use Rattle.descr.specs.Totals.{oneEntry}
-use Rattle.descr.specs.Verdict.{verdict, both}
+use Rattle.sums.specs.declared.Totals.{Totals}
+use Rattle.sums.specs.Totals.{oneEntry}
+use Rattle.sums.specs.Verdict.{verdict, both}
 use Rattle.descr.specs.Judges.{isString, itemsBy}
 use Rattle.descr.proofs.Along.{Turn, turn-start, turn-item, turn-less, turn-more, turn-end, along-start, along-item, along-more, along-end, along-rest, items-none, items-one, items-many, items-two, items-three, sub-judged}
 use Rattle.descr.proofs.Nodes.{string-in, closing-in, end-is, text-says, descr-other, field-other, name-says, record-is, field-is}
@@ -35,7 +35,7 @@ use Rattle.dims.proofs.closing.Reads as closing-reads
 use Rattle.descr.proofs.inner.end_of.Reads as end-of-reads
 use Rattle.literal.proofs.gaps.gap_at.Reads as gap-at-reads
 use Rattle.descr.proofs.inner.is_string.Reads as is-string-reads
-use Rattle.descr.proofs.join.Reads as join-reads
+use Rattle.sums.proofs.join.Reads as join-reads
 use Rattle.dims.proofs.judge.Reads as judge-reads
 use Rattle.tokens.proofs.bytes.kind_of.Reads as kind-of-reads
 use Rattle.descr.proofs.inner.misfit.Reads as misfit-reads
@@ -43,7 +43,7 @@ use Rattle.descr.proofs.inner.name_at.Reads as name-at-reads
 use Rattle.tokens.proofs.bytes.peek.Reads as peek-reads
 use Rattle.descr.proofs.inner.place_of.Reads as place-of-reads
 use Rattle.descr.proofs.inner.rest.Reads as rest-reads
-use Rattle.descr.proofs.shaped.Reads as shaped-reads
+use Rattle.sums.proofs.shaped.Reads as shaped-reads
 use Rattle.literal.proofs.gaps.then_at.Reads as then-at-reads
 use Rattle.descr.proofs.inner.type_at.Reads as type-at-reads
 use Rattle.descr.proofs.inner.+field+fields+items+judge.{statement}

@@ -8,7 +8,7 @@ use Rattle.tokens.specs.Text.{kindOf}
 use Rattle.tokens.specs.Strings.{spelled}
 use Rattle.tokens.specs.declared.strings.Scan.{Scan}
 use Rattle.tokens.proofs.Positions.{getD-any}
-use Rattle.descr.specs.Totals.{nameTotals}
+use Rattle.sums.specs.Totals.{nameTotals}
 use Rattle.descr.specs.Judges.{isString}
 use Rattle.descr.proofs.Nodes.{string-in, name-string, name-not}
 use borrow.Author.Needs.{needs}

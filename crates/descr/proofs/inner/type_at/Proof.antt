@@ -5,7 +5,7 @@ use Rattle.counts.specs.Outcome.{Outcome, each}
 use Rattle.dtype.specs.Dtype.{plain}
 use Rattle.type_str.specs.declared.TypeStr.{TypeStr}
 use Rattle.type_str.specs.TypeString.{typeString}
-use Rattle.descr.specs.Totals.{totalsOf}
+use Rattle.sums.specs.Totals.{totalsOf}
 use Rattle.descr.proofs.Escapes.{escaped-says, raw-inside, raw-says}
 use borrow.Author.Needs.{needs}
 use Rattle.descr.proofs.inner.type_at.Statement.{statement}
