@@ -1,5 +1,5 @@
 pub mod Adds
 pub mod Along
 pub mod Nodes
-pub mod Escapes
+pub mod Items
 pub mod Outcomes

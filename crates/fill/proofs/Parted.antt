@@ -43,7 +43,8 @@ use Rattle.products.specs.Answer.{outlined}
 use Rattle.dims.specs.Answer.{endOr, dimensionsAt, Judges}
 use Rattle.dims.specs.Walk.{closingOf}
 use Rattle.dims.proofs.Held.{Bracket, bracket, no-bracket}
-use Rattle.fill.specs.Filled.{gapPlace, rankOf, OneField, PartsOf}
+use Rattle.field.specs.Begins.{gapPlace}
+use Rattle.fill.specs.Filled.{rankOf, OneField, PartsOf}
 
 pub refused-gives : {A B : Type 0} {a : A} {n : ℕ} → refused n ≡ gives a → B
 refused-gives h = absurd (let z : _≡_ {A = ℕ} 0 1 = cc in omega arith)
