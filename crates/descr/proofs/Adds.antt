@@ -15,7 +15,7 @@ use Rattle.counts.specs.declared.Number.{Number}
 use Rattle.grammar.specs.Value.{Value, Values, string, integer, True, False, None, list, tuple, dict, end-of-values, value-then}
 use Rattle.type_str.specs.declared.TypeStr.{TypeStr}
 use Rattle.type_str.specs.TypeString.{typeString}
-use Rattle.dtype.specs.Dtype.{Dtype, Fields, plain, array, record-of, field-then, sizeOf, sizesOf}
+use Rattle.dtype.specs.Dtype.{Dtype, Fields, plain, record-of, field-then, sizeOf, sizesOf}
 use Rattle.dtype.specs.Entries.{someEntryIn, levels}
 use Rattle.dtype.specs.Limits.{over, someOver, overLevels}
 use Rattle.record.specs.Parts.{stringOr}

@@ -2,7 +2,7 @@
 -- are left give the verdict on all. Every law speaks of whichever row stands there, so that no reading is inverted. Assumes nothing.
 use Prim.Native.Nat.{ℕ, _<_, _≤_}
 use mathlib.Core.Path.{_≡_, refl, sym, ap, subst, _∙_}
-use mathlib.Core.List.{List, [], _∷_, _++_, append-nil, append-assoc}
+use mathlib.Core.List.{List, [], _∷_}
 use lib.ListN.{length}
 use lib.Dec.{lit<}
 use denote.Enum.Declared.{tagOf}

@@ -66,14 +66,14 @@ pub fn closing(k: Kind) -> u8
     match k {
         Kind::Square => 93,
         Kind::Round => 41,
-        Kind::Curly => 0,
-        Kind::Quote => 0,
-        Kind::Minus => 0,
-        Kind::Digit => 0,
-        Kind::TrueWord => 0,
-        Kind::FalseWord => 0,
-        Kind::NoneWord => 0,
-        Kind::Other => 0,
+        Kind::Curly
+        | Kind::Quote
+        | Kind::Minus
+        | Kind::Digit
+        | Kind::TrueWord
+        | Kind::FalseWord
+        | Kind::NoneWord
+        | Kind::Other => 0,
     }
 }
 

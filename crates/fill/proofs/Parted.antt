@@ -39,12 +39,12 @@ use Rattle.products.specs.declared.Verdict.{Verdict}
 use Rattle.products.specs.declared.Verdict.the-variants.{Good, Form, Large}
 use Rattle.dims.specs.declared.Judged.{Judged}
 use Rattle.products.specs.Outline.{outlineOf}
-use Rattle.products.specs.Answer.{outlined}
+use Rattle.products.specs.Answer.{outlined, rankOf}
 use Rattle.dims.specs.Answer.{endOr, dimensionsAt, Judges}
 use Rattle.dims.specs.Walk.{closingOf}
 use Rattle.dims.proofs.Held.{Bracket, bracket, no-bracket}
 use Rattle.field.specs.Begins.{gapPlace}
-use Rattle.fill.specs.Filled.{rankOf, OneField, PartsOf}
+use Rattle.fill.specs.Filled.{OneField, PartsOf}
 
 pub refused-gives : {A B : Type 0} {a : A} {n : ℕ} → refused n ≡ gives a → B
 refused-gives h = absurd (let z : _≡_ {A = ℕ} 0 1 = cc in omega arith)

@@ -20,18 +20,10 @@ use Rattle.literal.specs.Literal.{value}
 use Rattle.literal.specs.Brackets.{gapAt}
 use Rattle.literal.specs.Rows.{Row}
 use Rattle.literal.specs.Forget.{forget, forgetAll}
-use Rattle.products.specs.declared.Verdict.{Verdict}
-use Rattle.products.specs.declared.Verdict.the-variants.{Good, Form, Large}
 use Rattle.dims.specs.Answer.{dimensionsAt}
 use Rattle.fill.specs.declared.Spot.{Spot}
 use Rattle.fill.specs.declared.Many.{Many}
 use Rattle.fill.specs.declared.Parts.{Parts}
-
--- how many dimensions a good sub-shape has
-abbrev pub rankOf : Verdict → ℕ
-rankOf (Good o) = o .rank
-rankOf Form = 0
-rankOf Large = 0
 
 -- no field has over 32 array levels
 abbrev mutual

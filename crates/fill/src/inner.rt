@@ -24,9 +24,10 @@ ghost use mathlib.Core.Path.{_≡_};
 ghost use Prim.Native.Nat.{_+_, _≤_, _<_};
 ghost use lib.ListN.{length};
 ghost use lib.Seq.{sets};
+ghost use Rattle.products.specs.Answer.{rankOf};
 ghost use Rattle.tokens.specs.Text.{byteAt};
 ghost use Rattle.tokens.specs.Strings.{spelled};
-ghost use Rattle.fill.specs.Filled.{rankOf, FieldAt, PartsAt, DueAt, Fills, DueFieldsFrom, FillsFields, DueFieldAt, FillsField};
+ghost use Rattle.fill.specs.Filled.{FieldAt, PartsAt, DueAt, Fills, DueFieldsFrom, FillsFields, DueFieldAt, FillsField};
 
 // Writes the table and the names of the descr at `at`, from entry `entry` and from byte `byte` on. Its parent is the entry `up`, and its name has so many
 // bytes.
