@@ -33,9 +33,9 @@ use Rattle.header.specs.declared.Said.{Said}
 use Rattle.header.specs.declared.Header.{Header}
 use Rattle.header.specs.Answer.{saidOf, Told, told, headerIs, filled, textInto, heldInto}
 use Rattle.write.specs.Writes.{headerWritten, headerPlaced, roomOf}
-use Rattle.listing.specs.Listing.{listing}
+use Rattle.lines.specs.Listing.{listing}
 use Rattle.listing.specs.Answer as lists
-use Rattle.slice.specs.Rooms.{after, Owes}
+use Rattle.strings.specs.Rooms.{after, Owes}
 use Rattle.claims.specs.Beyond.{Same-rest, Rest-unchanged}
 use Rattle.claims.proofs.Rooms.{table-whole, names-whole}
 use Rattle.claims.proofs.RoundTrips.{wrote-length}

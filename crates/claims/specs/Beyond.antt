@@ -25,8 +25,9 @@ use Rattle.header.specs.Answer.{Reads, ReadsHeld, ReadsText}
 use Rattle.write.specs.Answer as write
 use Rattle.write.specs.Writes.{Writes}
 use Rattle.listing.specs.Answer as listing
-use Rattle.slice.specs.Rooms.{readBytes, readPoints, writeBytes, writePoints, bytesAnswer, pointsAnswer, wroteAnswer, Owes}
-use Rattle.element.specs.Answer as element
+use Rattle.slice.specs.Answer.{bytesAnswer, pointsAnswer, wroteAnswer}
+use Rattle.strings.specs.Rooms.{readBytes, readPoints, writeBytes, writePoints, Owes}
+use Rattle.placed.specs.Answer as element
 use Rattle.element.specs.Element.{elementBytes, elementPoints}
 
 -- the three rooms of a reader

@@ -18,8 +18,9 @@ use Rattle.header.specs.Answer as header
 use Rattle.write.specs.Answer as write
 use Rattle.write.specs.Writes.{Writes}
 use Rattle.listing.specs.Answer as listing
-use Rattle.slice.specs.Rooms.{readBytes, readPoints, writeBytes, writePoints, bytesAnswer, pointsAnswer, wroteAnswer, Owes}
-use Rattle.element.specs.Answer as element
+use Rattle.slice.specs.Answer.{bytesAnswer, pointsAnswer, wroteAnswer}
+use Rattle.strings.specs.Rooms.{readBytes, readPoints, writeBytes, writePoints, Owes}
+use Rattle.placed.specs.Answer as element
 use Rattle.element.specs.Element.{elementBytes, elementPoints}
 
 -- by what its answers stand for, and the contract of an answer and the memory then: a refusal leaves the memory as it was before

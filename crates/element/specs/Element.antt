@@ -1,17 +1,13 @@
 -- Document 01, "The refusal numbers": "A string element is read after its place: 29, 23." The element's bytes are those of its place; what they stand for, 26 for
--- another type, 29 and 23 are Rooms.antt of the crate slice, and all refusals before them Place.antt of the crate places. Definitions only. Assumes nothing.
+-- another type, 29 and 23 are Rooms.antt of the crate strings, and all refusals before them Place.antt of the crate places. Definitions only. Assumes nothing.
 use Prim.Native.Nat.{ℕ}
 use mathlib.Core.List.{List}
-use lib.ListN.{length, take, drop}
+use lib.ListN.{length}
 use Rattle.counts.specs.Outcome.{Outcome, then}
 use Rattle.dtype.specs.declared.Order.{Order}
-use Rattle.places.specs.declared.Run.{Run}
 use Rattle.places.specs.Place.{placeOf}
-use Rattle.slice.specs.Rooms.{readBytes, readPoints}
-
--- the bytes of a place
-abbrev pub bytesOf : (file : List ℕ) → Run → List ℕ
-bytesOf file u = take (u .len .0) (drop (u .first .0) file)
+use Rattle.strings.specs.Rooms.{readBytes, readPoints}
+use Rattle.placed.specs.Bytes.{bytesOf}
 
 -- ---- what goes to the room, or the first refusal
 

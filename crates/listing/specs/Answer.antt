@@ -1,20 +1,17 @@
 -- What listing a caller's record answers, and what the room then holds: its length; or 27, 13, 20, 21, 22 of the record, then 28. Definitions only. Assumes
 -- nothing.
-use Prim.Native.Nat.{ℕ, _≤_}
+use Prim.Native.Nat.{ℕ}
 use mathlib.Core.Path.{_≡_}
 use mathlib.Core.List.{List, []}
-use mathlib.Core.Bool.{false}
-use lib.ListN.{length}
 use Rattle.counts.specs.Outcome.{Outcome, gives, refused, then}
 use Rattle.refusal.specs.Numbers.{numberOf}
 use Rattle.emit.specs.Placed.{written, placed}
 use Rattle.dtype.specs.declared.Order.{Order}
 use Rattle.dtype.specs.Record.{Record}
-use Rattle.dtype.specs.Limits.{overShape}
 use Rattle.record.specs.Version.{Version}
 use Rattle.table.specs.Checked.{checkedRecord}
 use Rattle.listing.specs.declared.Listed.{Listed}
-use Rattle.listing.specs.Listing.{listing}
+use Rattle.lines.specs.Listing.{listing}
 
 abbrev pub answer : Listed → Outcome ℕ
 answer (Listed.Written n) = gives n
@@ -33,11 +30,6 @@ roomBy (refused n) v start room = room
 pub record ListsOne (v : Version) (start : ℕ) (r : Record) (room : List ℕ) (x : Listed) (room′ : List ℕ) : Type 0 where
   pub answered : answer x ≡ written (listing v start r []) room
   pub after : room′ ≡ placed (listing v start r []) room
-
--- a shape whose strides there are
-pub record Strided (o : Order) (s : List ℕ) : Type 0 where
-  pub few : length s ≤ 32
-  pub fits : overShape o s ≡ false
 
 pub record Lists (v : Version) (start : ℕ) (t ns s : List ℕ) (o : Order) (room : List ℕ) (x : Listed) (room′ : List ℕ) : Type 0 where
   pub answered : answer x ≡ listed v start t ns s o room

@@ -1,5 +1,5 @@
 // The listing of a record (document 01, "What the collector buys"), written to lent room. No public function here has a `requires`. The text is
-// specs/Listing.antt, what each answer stands for specs/Answer.antt.
+// Listing.antt of the crate lines, what each answer stands for specs/Answer.antt.
 use counts::Bytes;
 use counts::Items;
 use dtype::ARRAY;
@@ -30,8 +30,9 @@ ghost use Rattle.prefix.specs.Answer.{versionIs};
 ghost use Rattle.table.specs.EntryType.{typeOf};
 ghost use Rattle.table.specs.Valid.{made};
 ghost use Rattle.places.specs.Walk.{Accepted};
-ghost use Rattle.listing.specs.Listing.{numbers, versionLine, orderLine, shapeLine, stridesLine, countLine, itemLine, dataLine, parentText, typeIn, kindText, isField, nameText, entryLine, entryLines, listing};
-ghost use Rattle.listing.specs.Answer.{Strided, ListsOne, Lists};
+ghost use Rattle.lines.specs.Listing.{numbers, versionLine, orderLine, shapeLine, stridesLine, countLine, itemLine, dataLine, typeIn, kindText, isField, nameText, entryLine, entryLines, listing};
+ghost use Rattle.lines.specs.Strided.{Strided};
+ghost use Rattle.listing.specs.Answer.{ListsOne, Lists};
 
 // How many bytes were written; or the record's refusal, or 28.
 pub enum Listed {
@@ -254,20 +255,11 @@ fn put_entry(out: &mut [u8], at: usize, table: &[u64], e: usize, name: &[u8]) ->
     let entry = table::entry_at(table, e);
     let p1 = put_count(out, at, e as u64);
     let p2 = put(out, p1, 32);
-    let p3 = put_parent(out, p2, e, entry.parent);
+    let p3 = lines::put_parent(out, p2, e, entry.parent);
     let p4 = put(out, p3, 32);
     let p5 = put_kind(out, p4, entry);
     let p6 = put_name(out, p5, is_field(table, e, entry.parent), name);
     put(out, p6, 10)
-}
-
-fn put_parent(out: &mut [u8], at: usize, e: usize, parent: u64) -> usize
-    ensures { λ r. ⌜ Emits (parentText e parent) (now (out .entry)) at (now (out .exit)) r ⌝ }
-{
-    if e == 0 {
-        return put(out, at, 45);
-    }
-    put_count(out, at, parent)
 }
 
 fn put_kind(out: &mut [u8], at: usize, entry: Entry) -> usize

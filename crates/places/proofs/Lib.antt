@@ -1,6 +1,4 @@
-pub mod Sums
 pub mod Walks
-pub mod Items
 pub mod Placing
 pub mod Demand
 pub mod Outcomes

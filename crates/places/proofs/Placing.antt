@@ -3,26 +3,25 @@
 use Prim.Native.Nat.{ℕ, _+_, _*_, _^_, _<_, _≤_}
 use mathlib.Core.Path.{_≡_, refl, ap, sym, _∙_}
 use mathlib.Core.Bool.{Bool, true, false, cond}
-use mathlib.Core.List.{List}
+use mathlib.Core.List.{List, [], _∷_}
+use denote.Enum.Declared.{tagOf}
+use types.Run.{OneOf}
 use native.Mathlib.Omega.{arith}
-use borrow.Author.Tests.{lt-ltb, ltb-false}
+use borrow.Author.Tests.{ltb-false}
 use lib.Dec.{ltb}
 use lib.ListN.{length}
 use Rattle.counts.specs.Outcome.{Outcome, gives, refused, then, each}
 use Rattle.counts.specs.Number.{number}
-use Rattle.counts.specs.Counts.{items, bytes}
-use Rattle.counts.specs.declared.Number.{Number}
+use Rattle.counts.specs.Counts.{bytes}
 use Rattle.type_str.specs.declared.TypeStr.{TypeStr}
 use Rattle.counts.specs.declared.Items.{Items}
 use Rattle.counts.specs.declared.Bytes.{Bytes}
-use Rattle.counts.specs.declared.ItemCount.{ItemCount}
 use Rattle.counts.specs.declared.ByteCount.{ByteCount}
 use Rattle.counts.proofs.Alike.{true-false}
-use Rattle.counts.proofs.Fits.{number-over}
 use Rattle.dtype.specs.declared.Order.{Order}
 use Rattle.dtype.specs.Dtype.{Dtype, sizeOf}
 use Rattle.dtype.specs.Entries.{hasObject}
-use Rattle.dtype.specs.Shape.{inRange, item}
+use Rattle.dtype.specs.Shape.{inRange}
 use Rattle.dtype.specs.Record.{Record, table}
 use Rattle.dtype.specs.PlainBytes.{plainBytes}
 use Rattle.dtype.specs.Limits.{overDimensions, overLevels, someOver, overSize, overShape}
@@ -37,47 +36,18 @@ use Rattle.table.specs.declared.ItemSize.the-variants.{Sized, Unsized}
 use Rattle.table.specs.declared.Summary.{Summary}
 use Rattle.table.specs.Valid.{made}
 use Rattle.table.proofs.Accepts.{accepts-valid}
-use Rattle.places.specs.declared.Run.{Run}
+use Rattle.area.specs.declared.Run.{Run}
+use Rattle.area.proofs.Area.{bytes-back, bytes-over}
+use Rattle.items.specs.Item.{itemOf}
+use Rattle.items.specs.Answer.{itemAnswer}
+use Rattle.items.specs.declared.ItemNumber.{ItemNumber}
+use Rattle.items.proofs.ItemNumber.{the-type}
+use Rattle.items.proofs.Sums.{range-of}
+use Rattle.items.proofs.Items.{item-refused, item-given}
 use Rattle.places.specs.declared.Found.{Found}
 use Rattle.places.specs.Place.{runFrom, placed, placeOf}
 use Rattle.places.specs.Walk.{Finds, Accepted}
-use Rattle.places.proofs.Sums.{items-back, bytes-back, bytes-over, range-of}
-use Rattle.places.proofs.Items.{item-fits}
 use Rattle.places.proofs.Walks.{plain-path}
-
-over-bytes : (n : ℕ) → 2 ^ 64 ≤ n → ByteCount.Over ≡ bytes (number n)
-over-bytes n l = sym (ap (λ (v : Number). bytes v) (number-over n l))
-
--- ---- `is_short`
-module _ (file start count size : ℕ) where
-  pub area-over : file < 2 ^ 64 → ByteCount.Over ≡ bytes (number (count * size)) → true ≡ ltb file (start + count * size)
-  area-over f e = sym (lt-ltb file (start + count * size) (omega (arith, bytes-over (count * size) e)))
-
-  module _ (area : Bytes) (e : ByteCount.Is area ≡ bytes (number (count * size))) where
-    pub end-over : file < 2 ^ 64 → ByteCount.Over ≡ bytes (number (start + area .0)) → true ≡ ltb file (start + count * size)
-    end-over f g =
-        sym (lt-ltb file (start + count * size) (omega (arith, bytes-back (count * size) area e .0, bytes-over (start + area .0) g)))
-
-    pub end-is : (end : Bytes) → ByteCount.Is end ≡ bytes (number (start + area .0)) → ltb file (end .0) ≡ ltb file (start + count * size)
-    end-is end g =
-        let z : end .0 ≡ start + count * size = omega (arith, bytes-back (count * size) area e .0, bytes-back (start + area .0) end g .0) in
-        ap (λ (n : ℕ). ltb file n) z
-
--- ---- `first_byte`
-module _ (start which size off : ℕ) where
-  pub before-over : ByteCount.Over ≡ bytes (number (which * size)) → ByteCount.Over ≡ bytes (number (start + which * size + off))
-  before-over e = over-bytes (start + which * size + off) (omega (arith, bytes-over (which * size) e))
-
-  module _ (before : Bytes) (e : ByteCount.Is before ≡ bytes (number (which * size))) where
-    pub item-over : ByteCount.Over ≡ bytes (number (start + before .0)) → ByteCount.Over ≡ bytes (number (start + which * size + off))
-    item-over g =
-        over-bytes (start + which * size + off) (omega (arith, bytes-back (which * size) before e .0, bytes-over (start + before .0) g))
-
-    pub first-is : (at : Bytes) → ByteCount.Is at ≡ bytes (number (start + before .0)) → (r : ByteCount) → r ≡ bytes (number (at .0 + off))
-        → r ≡ bytes (number (start + which * size + off))
-    first-is at g r h =
-        let z : at .0 + off ≡ start + which * size + off = omega (arith, bytes-back (which * size) before e .0, bytes-back (start + before .0) at g .0) in
-        h ∙ ap (λ (n : ℕ). bytes (number n)) z
 
 -- ---- `in_record`
 module _ (t ns s : List ℕ) (o : Order) (d : Dtype) (size : ItemSize) (count : Items) (a : Accepted t ns s o d size count) where
@@ -148,33 +118,32 @@ module _ (t ns s : List ℕ) (o : Order) (d : Dtype) (size : ItemSize) (count : 
             inside : inRange s x ≡ true → refused 26 ≡ placed file start (made d s o) x p
             inside g = simp (sized n q .0, not-short, g, h)
 
-        module _ (r : ItemCount) (w : length s ≤ 32 → overShape o s ≡ false → inRange s x ≡ true → r ≡ items (number (item o s x))) where
-          pub answer-26-item : r ≡ ItemCount.Over → refused 26 ≡ placed file start (made d s o) x p
-          answer-26-item v = by-range (λ g. item-fits o s x shape-fits g (sym v ∙ w shape-short shape-fits g))
+        pub answer-26-item : (r : ItemNumber) → itemAnswer r ≡ itemOf o s x → OneOf (1 ∷ 2 ∷ 3 ∷ []) (tagOf the-type r) → refused 26 ≡ placed file start (made d s o) x p
+        answer-26-item r v h = answer-26-range (item-refused o s x shape-short shape-fits r v h)
 
-          module _ (m : Items) (v : r ≡ ItemCount.Is m) (u : Run) (f : Finds d p (Found.At u)) where
-            first-at : inRange s x ≡ true → start + m .0 * n .0 + u .first .0 ≡ place start (made d s o) x p
-            first-at g =
-                let i = items-back (item o s x) m (sym v ∙ w shape-short shape-fits g) .0 in
-                rw (← i, sized n q .1, f .1) (omega arith)
+        module _ (m : Items) (v : gives (m .0) ≡ itemOf o s x) (u : Run) (f : Finds d p (Found.At u)) where
+          in-range : inRange s x ≡ true
+          in-range = item-given o s x shape-short shape-fits (m .0) v .0
 
-            below : inRange s x ≡ true → place start (made d s o) x p ≤ file
-            below g = omega (arith, long, run-inside start (made d s o) x p (range-of s x g) (plain-path d p (u .kind) (f .0)))
+          first-at : start + m .0 * n .0 + u .first .0 ≡ place start (made d s o) x p
+          first-at = rw (← (item-given o s x shape-short shape-fits (m .0) v .1), sized n q .1, f .1) (omega arith)
 
-            pub answer-26-first : file < 2 ^ 64 → ByteCount.Over ≡ bytes (number (start + m .0 * n .0 + u .first .0)) → refused 26 ≡ placed file start (made d s o) x p
-            answer-26-first l k =
-                by-range (λ g. absurd (omega (arith, first-at g, below g, bytes-over (start + m .0 * n .0 + u .first .0) k)))
+          below : place start (made d s o) x p ≤ file
+          below = omega (arith, long, run-inside start (made d s o) x p (range-of s x in-range) (plain-path d p (u .kind) (f .0)))
 
-            pub answer-at : (c : Bytes) → ByteCount.Is c ≡ bytes (number (start + m .0 * n .0 + u .first .0)) → inRange s x ≡ true
-                → gives (record { first = c; len = u .len; kind = u .kind }) ≡ placed file start (made d s o) x p
-            unfolding placed
-            answer-at c k g =
-                let z : c .0 ≡ place start (made d s o) x p = sym (bytes-back (start + m .0 * n .0 + u .first .0) c k .0) ∙ first-at g in
-                simp (sized n q .0, not-short, g, f .0) (run-is (c .0) (u .len .0) (u .kind) z (f .2))
-              where
-                run-is : (c l : ℕ) (k : TypeStr) → c ≡ place start (made d s o) x p → l ≡ plainBytes k
-                    → _≡_ {A = Outcome Run} (gives (record { first = record { 0 = c }; len = record { 0 = l }; kind = k })) (gives (runFrom (place start (made d s o) x p) k))
-                run-is c l k z y = rw (z, y)
+          pub answer-26-first : file < 2 ^ 64 → ByteCount.Over ≡ bytes (number (start + m .0 * n .0 + u .first .0)) → refused 26 ≡ placed file start (made d s o) x p
+          answer-26-first l k = absurd (omega (arith, first-at, below, bytes-over (start + m .0 * n .0 + u .first .0) k))
+
+          pub answer-at : (c : Bytes) → ByteCount.Is c ≡ bytes (number (start + m .0 * n .0 + u .first .0))
+              → gives (record { first = c; len = u .len; kind = u .kind }) ≡ placed file start (made d s o) x p
+          unfolding placed
+          answer-at c k =
+              let z : c .0 ≡ place start (made d s o) x p = sym (bytes-back (start + m .0 * n .0 + u .first .0) c k .0) ∙ first-at in
+              simp (sized n q .0, not-short, in-range, f .0) (run-is (c .0) (u .len .0) (u .kind) z (f .2))
+            where
+              run-is : (c l : ℕ) (k : TypeStr) → c ≡ place start (made d s o) x p → l ≡ plainBytes k
+                  → _≡_ {A = Outcome Run} (gives (record { first = record { 0 = c }; len = record { 0 = l }; kind = k })) (gives (runFrom (place start (made d s o) x p) k))
+              run-is c l k z y = rw (z, y)
 
 -- ---- `place`
 pub refused-first : (n : ℕ) (c : Outcome Record) (f : Record → Outcome Run) → refused n ≡ each summary c → refused n ≡ then c f

@@ -1,16 +1,8 @@
--- What each answer of this crate stands for: document 01's number, or the place. By proofs/Outcomes.antt no two answers stand for the same.
+-- What each answer of `place` stands for: document 01's number, or the place. By proofs/Outcomes.antt no two answers stand for the same.
 -- Definitions only. Assumes nothing.
-use Prim.Native.Nat.{ℕ}
 use Rattle.counts.specs.Outcome.{Outcome, gives, refused}
-use Rattle.places.specs.declared.Run.{Run}
-use Rattle.places.specs.declared.ItemNumber.{ItemNumber}
+use Rattle.area.specs.declared.Run.{Run}
 use Rattle.places.specs.declared.Placed.{Placed}
-
-abbrev pub itemAnswer : ItemNumber → Outcome ℕ
-itemAnswer (ItemNumber.Item n) = gives (n .0)
-itemAnswer ItemNumber.Dimensions = refused 13
-itemAnswer ItemNumber.Shape = refused 22
-itemAnswer ItemNumber.Nowhere = refused 26
 
 abbrev pub answer : Placed → Outcome Run
 answer (Placed.At run) = gives run

@@ -8,7 +8,7 @@ use mathlib.Core.List.{List, [], _∷_}
 use lib.Dec.{eqb}
 use lib.ListN.{length}
 use Rattle.grammar.specs.Value.{Value}
-use Rattle.grammar.specs.Print.{valueOf, valuesOf}
+use Rattle.grammar.specs.Print.{Layout, valueOf, valuesOf}
 use Rattle.dtype.specs.declared.Entry.{Entry}
 use Rattle.dtype.specs.Dtype.{Dtype, Fields, plain, array, record-of, end-of-fields, field-then}
 use Rattle.dtype.specs.Entries.{fieldCount, entriesOf}
@@ -17,12 +17,12 @@ use Rattle.dtype.specs.Agrees.{entryAt}
 use Rattle.dtype.proofs.Flat.{some-entry}
 use Rattle.record.specs.Layout.{dimensionRow, shapeLayout, levelsOf, fieldLayout, descrLayout, fieldRow}
 use Rattle.record.specs.Within.{within, allWithin}
-use Rattle.print.specs.Walk.{Listed, ListedIn}
-use Rattle.print.proofs.Listing.{listed-entry, listed-room, listed-inner, listed-fields, listed-first, listed-later}
+use Rattle.print.specs.Walk.{Listed, ListedIn, innermostOf, Innermost}
+use Rattle.print.proofs.Listing.{listed-entry, listed-room, listed-fields, listed-first, listed-later, innermost-descr, under-record}
 
 -- ---- `within`
 module _ (t : List ℕ) (e : ℕ) where
-  pub listed-inside : (d : Dtype) → Listed t e d → e < length t
+  listed-inside : (d : Dtype) → Listed t e d → e < length t
   listed-inside d l = omega (arith, listed-room t e d l, some-entry d)
 
   module _ (x : Entry) (q : x ≡ entryAt t e) (k : ℕ) where
@@ -34,19 +34,8 @@ module _ (t : List ℕ) (e : ℕ) where
     plain-within z (array n d) l = absurd (omega (arith, kind-is (array n d) l))
     plain-within z (record-of fs) l = absurd (omega (arith, kind-is (record-of fs) l))
 
-    pub inner-listed : x .kind ≡ 1 → (d : Dtype) × Listed t e d → (d : Dtype) × Listed t (e + 1) d
-    inner-listed z (plain ty, l) = absurd (omega (arith, kind-is (plain ty) l))
-    inner-listed z (array n d, l) = (d, listed-inner t e n d l)
-    inner-listed z (record-of fs, l) = absurd (omega (arith, kind-is (record-of fs) l))
-
-    pub inner-within : x .kind ≡ 1 → (r : Bool) → ((d : Dtype) → Listed t (e + 1) d → r ≡ within (valueOf (descrLayout d)) k)
-        → (d : Dtype) → Listed t e d → r ≡ within (valueOf (descrLayout d)) k
-    inner-within z r h (plain ty) l = absurd (omega (arith, kind-is (plain ty) l))
-    inner-within z r h (array n d) l = h d (listed-inner t e n d l)
-    inner-within z r h (record-of fs) l = absurd (omega (arith, kind-is (record-of fs) l))
-
     module _ (not-plain : x .kind ≡ 0 → ⊥) (not-array : x .kind ≡ 1 → ⊥) where
-      pub fields-listed : (d : Dtype) × Listed t e d → (fs : Fields) × (x .number ≡ fieldCount fs) × ListedIn t (e + 1) fs
+      fields-listed : (d : Dtype) × Listed t e d → (fs : Fields) × (x .number ≡ fieldCount fs) × ListedIn t (e + 1) fs
       fields-listed (plain ty, l) = absurd (not-plain (kind-is (plain ty) l))
       fields-listed (array n d, l) = absurd (not-array (kind-is (array n d) l))
       fields-listed (record-of fs, l) = (fs, ap (λ (a : Entry). a .number) (q ∙ listed-entry t e (record-of fs) l), listed-fields t e fs l)
@@ -64,6 +53,19 @@ module _ (t : List ℕ) (e : ℕ) where
       record-within z r h (record-of fs) l =
           let v : k ≡ suc (k - 1) = omega arith in
           rw v (h fs (ap (λ (a : Entry). a .number) (q ∙ listed-entry t e (record-of fs) l)) (listed-fields t e fs l))
+
+-- ---- `within` where array levels stand over the type: its entry is r
+module _ (t : List ℕ) (e r : ℕ) (under : (d : Dtype) → Listed t e d → Innermost t e d r) where
+  pub under-inside : (d : Dtype) → Listed t e d → (e ≤ r) × (r < length t)
+  under-inside d l = (omega (arith, under d l .passed), listed-inside t r (innermostOf d) (under d l .listed))
+
+  pub under-within : (k : ℕ) (a : Bool) → ((d : Dtype) → Listed t r d → a ≡ within (valueOf (descrLayout d)) k)
+      → (d : Dtype) → Listed t e d → a ≡ within (valueOf (descrLayout d)) k
+  under-within k a h d l = h (innermostOf d) (under d l .listed) ∙ ap (λ (y : Layout). within (valueOf y) k) (innermost-descr d)
+
+  module _ (x : Entry) (q : x ≡ entryAt t r) (not-plain : x .kind ≡ 0 → ⊥) where
+    pub under-listed : (d : Dtype) × Listed t e d → (fs : Fields) × (x .number ≡ fieldCount fs) × ListedIn t (r + 1) fs
+    under-listed (d, l) = fields-listed t r x q 0 not-plain (under-record t e r under x q d l) (innermostOf d, under d l .listed)
 
 -- ---- a field
 abbrev pub opens : (kind : ℕ) → ℕ

@@ -1,4 +1,4 @@
--- The walk that prints: a sub-shape, a plain type, an array, a record, and the loop over a record's fields, each from what the functions that it calls have
+-- The walk that prints: a sub-shape, a plain type, a record, what stands under array levels, and the loop over a record's fields, each from what the functions that it calls have
 -- written. Assumes nothing.
 use Prim.Native.Nat.{ℕ, _+_, _-_, _<_, _≤_}
 use native.Mathlib.Omega.{arith}
@@ -27,8 +27,8 @@ use Rattle.table.specs.Checked.{untyped}
 use Rattle.table.specs.EntryType.{typeOf}
 use Rattle.table.proofs.Types.{type-of-written}
 use Rattle.print.specs.declared.Spot.{Spot}
-use Rattle.print.specs.Walk.{subText, Listed, Stands, StandsIn, Walked}
-use Rattle.print.proofs.Listing.{listed-entry, listed-room, listed-inner, listed-fields, listed-first, listed-later}
+use Rattle.print.specs.Walk.{subText, Listed, innermostOf, Innermost, Stands, StandsIn, Walked}
+use Rattle.print.proofs.Listing.{listed-entry, listed-room, listed-fields, listed-first, listed-later, innermost-descr, innermost-names, innermost-bytes, innermost-typed, innermost-entries, under-record}
 
 -- ---- `close_field`
 module _ (t : List ℕ) (e : ℕ) (x : Entry) (q : x ≡ entryAt t e) (old : List ℕ) (at : ℕ) (out : List ℕ) (p : ℕ) where
@@ -53,7 +53,7 @@ module _ (t : List ℕ) (e : ℕ) (x : Entry) (q : x ≡ entryAt t e) (old : Lis
 
 -- ---- `put_descr`
 module _ (t ns : List ℕ) (e b : ℕ) where
-  pub stands-room : (d : Dtype) → Stands t ns e b d → e < length t
+  stands-room : (d : Dtype) → Stands t ns e b d → e < length t
   stands-room d s = omega (arith, listed-room t e d (s .listed), some-entry d)
 
   module _ (x : Entry) (q : x ≡ entryAt t e) where
@@ -82,22 +82,6 @@ module _ (t ns : List ℕ) (e b : ℕ) where
     plain-walked k old at out p h (array n d) s = absurd (omega (arith, kind-is (array n d) s))
     plain-walked k old at out p h (record-of fs) s = absurd (omega (arith, kind-is (record-of fs) s))
 
-    inner-stands : (n : ℕ) (d : Dtype) → Stands t ns e b (array n d) → Stands t ns (e + 1) b d
-    inner-stands n d s = record { listed = listed-inner t e n d (s .listed); later = s .later; named = s .named; inside = s .inside; typed = s .typed }
-
-    pub inner-asks : x .kind ≡ 1 → (d : Dtype) × Stands t ns e b d → (d : Dtype) × Stands t ns (e + 1) b d
-    inner-asks k (plain ty, s) = absurd (omega (arith, kind-is (plain ty) s))
-    inner-asks k (array n d, s) = (d, inner-stands n d s)
-    inner-asks k (record-of fs, s) = absurd (omega (arith, kind-is (record-of fs) s))
-
-    pub inner-walked : x .kind ≡ 1 → (old : List ℕ) (at : ℕ) (out : List ℕ) (r : Spot)
-        → ((d : Dtype) → Stands t ns (e + 1) b d → Walked (print (descrLayout d)) (entriesOf d) (nameBytes d) old (e + 1) b at out r)
-        → (d : Dtype) → Stands t ns e b d → Walked (print (descrLayout d)) (entriesOf d) (nameBytes d) old e b at out r
-    inner-walked k old at out r h (plain ty) s = absurd (omega (arith, kind-is (plain ty) s))
-    inner-walked k old at out r h (array n d) s =
-        let w = h d (inner-stands n d s) in record { emits = w .emits; next = omega (arith, w .next); next-name = w .next-name }
-    inner-walked k old at out r h (record-of fs) s = absurd (omega (arith, kind-is (record-of fs) s))
-
     module _ (not-plain : x .kind ≡ 0 → ⊥) (not-array : x .kind ≡ 1 → ⊥) where
       fields-stand : (fs : Fields) → Stands t ns e b (record-of fs) → StandsIn t ns (e + 1) b fs
       fields-stand fs s = record { listed = listed-fields t e fs (s .listed); later = s .later; named = s .named; inside = s .inside; typed = s .typed }
@@ -105,7 +89,7 @@ module _ (t ns : List ℕ) (e b : ℕ) where
       count-is : (fs : Fields) → Stands t ns e b (record-of fs) → x .number ≡ fieldCount fs
       count-is fs s = ap (λ (a : Entry). a .number) (entry-is (record-of fs) s)
 
-      pub fields-asks : (d : Dtype) × Stands t ns e b d → (fs : Fields) × (x .number ≡ fieldCount fs) × StandsIn t ns (e + 1) b fs
+      fields-asks : (d : Dtype) × Stands t ns e b d → (fs : Fields) × (x .number ≡ fieldCount fs) × StandsIn t ns (e + 1) b fs
       fields-asks (plain ty, s) = absurd (not-plain (kind-is (plain ty) s))
       fields-asks (array n d, s) = absurd (not-array (kind-is (array n d) s))
       fields-asks (record-of fs, s) = (fs, count-is fs s, fields-stand fs s)
@@ -124,6 +108,36 @@ module _ (t ns : List ℕ) (e b : ℕ) where
             next = omega (arith, w .next);
             next-name = w .next-name;
           }
+
+-- ---- `put_descr` where array levels stand over the type: its entry is r
+module _ (t ns : List ℕ) (e b r : ℕ) (under : (d : Dtype) → Listed t e d → Innermost t e d r) where
+  under-stands : (d : Dtype) → Stands t ns e b d → Stands t ns r b (innermostOf d)
+  under-stands d s =
+      record {
+        listed = under d (s .listed) .listed;
+        later = s .later;
+        named = s .named ∙ sym (innermost-names d (s .later));
+        inside = s .inside;
+        typed = innermost-typed d ∙ s .typed;
+      }
+
+  pub under-room : (d : Dtype) → Stands t ns e b d → (e ≤ r) × (r < length t)
+  under-room d s = (omega (arith, under d (s .listed) .passed), stands-room t ns r b (innermostOf d) (under-stands d s))
+
+  pub under-walked : (old : List ℕ) (at : ℕ) (out : List ℕ) (w : Spot)
+      → ((d : Dtype) → Stands t ns r b d → Walked (print (descrLayout d)) (entriesOf d) (nameBytes d) old r b at out w)
+      → (d : Dtype) → Stands t ns e b d → Walked (print (descrLayout d)) (entriesOf d) (nameBytes d) old e b at out w
+  under-walked old at out w h d s =
+      let v = h (innermostOf d) (under-stands d s) in
+      record {
+        emits = subst (λ (l : Layout). Emits (print l) old at out (w .at)) (innermost-descr d) (v .emits);
+        next = omega (arith, v .next, under d (s .listed) .passed, innermost-entries d);
+        next-name = omega (arith, v .next-name, innermost-bytes d);
+      }
+
+  module _ (x : Entry) (q : x ≡ entryAt t r) (not-plain : x .kind ≡ 0 → ⊥) where
+    pub under-asks : (d : Dtype) × Stands t ns e b d → (fs : Fields) × (x .number ≡ fieldCount fs) × StandsIn t ns (r + 1) b fs
+    under-asks (d, s) = fields-asks t ns r b x q not-plain (under-record t e r under x q d (s .listed)) (innermostOf d, under-stands d s)
 
 -- ---- `put_fields`
 -- a field's text, in the pieces that the code writes

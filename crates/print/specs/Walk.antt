@@ -9,8 +9,8 @@ use lib.ListN.{length, drop}
 use Rattle.emit.specs.Emits.{Emits}
 use Rattle.grammar.specs.Print.{print}
 use Rattle.type_str.specs.Text.{isType}
-use Rattle.dtype.specs.Dtype.{Dtype, Fields}
-use Rattle.dtype.specs.Entries.{someEntryIn, plainOnly}
+use Rattle.dtype.specs.Dtype.{Dtype, Fields, plain, array, record-of}
+use Rattle.dtype.specs.Entries.{levels, someEntryIn, plainOnly}
 use Rattle.dtype.specs.Names.{namesOf, namesIn}
 use Rattle.dtype.specs.Flat.{entry-width, flat, flats}
 use Rattle.record.specs.Layout.{shapeLayout}
@@ -34,6 +34,17 @@ pub record ListedIn (t : List ℕ) (e : ℕ) (fs : Fields) : Type 0 where
   pub up : ℕ
   pub rest : List ℕ
   pub is : drop (entry-width * e) t ≡ flats fs e up rest
+
+-- the type under the array levels that a dtype begins with
+abbrev pub innermostOf : Dtype → Dtype
+innermostOf (plain t) = plain t
+innermostOf (array n d) = innermostOf d
+innermostOf (record-of fs) = record-of fs
+
+-- where d is listed from entry e on, that type is listed from entry r on, one entry further for each level
+pub record Innermost (t : List ℕ) (e : ℕ) (d : Dtype) (r : ℕ) : Type 0 where
+  pub listed : Listed t r (innermostOf d)
+  pub passed : r ≡ e + levels d
 
 -- d is listed from entry e on and its names from byte b on, and type strings give its types
 pub record Stands (t ns : List ℕ) (e b : ℕ) (d : Dtype) : Type 0 where

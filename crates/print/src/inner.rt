@@ -1,5 +1,6 @@
-// The walk over a table: `put_descr` and `put_fields` call each other in a cycle, and so do `within` and `fields_within`. Entries and names are met in
-// their order. What stands between the names and types of the text is written by small functions, `open_field`, `close_field` and `put_type`.
+// The walk over a table: `put_descr` and `put_fields` call each other in a cycle, and so do `within` and `fields_within`, once for each record; array levels
+// are passed in a loop, `innermost`. Entries and names are met in their order. What stands between the names and types of the text is written by small
+// functions, `open_field`, `close_field` and `put_type`.
 use super::Spot;
 use dtype::ARRAY;
 use dtype::Entry;
@@ -20,7 +21,7 @@ ghost use Rattle.dtype.specs.Names.{nameBytes, nameBytesIn};
 ghost use Rattle.record.specs.Layout.{dimensionRow, levelsOf, descrLayout, fieldRow};
 ghost use Rattle.record.specs.Within.{within as isWithin, allWithin};
 ghost use Rattle.table.specs.EntryType.{typeOf};
-ghost use Rattle.print.specs.Walk.{subText, Listed, ListedIn, Stands, StandsIn, Walked};
+ghost use Rattle.print.specs.Walk.{subText, Listed, ListedIn, Innermost, Stands, StandsIn, Walked};
 
 // A type string in its quotes. An entry that has no type writes nothing.
 fn put_type(out: &mut [u8], at: usize, entry: Entry) -> usize
@@ -77,25 +78,39 @@ fn close_field(out: &mut [u8], at: usize, table: &[u64], e: usize) -> usize
     emit::put_bytes(out, at, b"), ")
 }
 
+// The entry of the type under the array levels from entry e on: e itself where there is none.
+fn innermost(table: &[u64], e: usize) -> usize
+    requires { ⌜ ((d : Dtype) × Listed (now table) e d) ⌝ }
+    ensures { λ r. ⌜ ((d : Dtype) → Listed (now (table .entry)) e d → Innermost (now (table .entry)) e d r) ⌝ }
+{
+    let mut c = e;
+    let first = table::entry_at(table, e);
+    let mut kind = first.kind;
+    while kind == ARRAY {
+        c += 1;
+        let next = table::entry_at(table, c);
+        kind = next.kind;
+    }
+    c
+}
+
 // The text of the dtype at entry e, its names from byte b on. Array levels are their field's to write.
 pub fn put_descr(table: &[u64], names: &[u8], e: usize, b: usize, out: &mut [u8], at: usize) -> Spot
     requires { ⌜ ((d : Dtype) × Stands (now table) (now names) e b d) ⌝ }
     ensures { λ r. ⌜ ((d : Dtype) → Stands (now (table .entry)) (now (names .entry)) e b d → Walked (print (descrLayout d)) (entriesOf d) (nameBytes d) (now (out .entry)) e b at (now (out .exit)) r) ⌝ }
 {
-    let entry = table::entry_at(table, e);
+    let under = innermost(table, e);
+    let entry = table::entry_at(table, under);
     if entry.kind == PLAIN {
         let behind = put_type(out, at, entry);
         return Spot {
-            entry: e + 1,
+            entry: under + 1,
             byte: b,
             at: behind,
         };
     }
-    if entry.kind == ARRAY {
-        return put_descr(table, names, e + 1, b, out, at);
-    }
     let inside = emit::put(out, at, 91);
-    let last = put_fields(table, names, entry.number, e + 1, b, out, inside);
+    let last = put_fields(table, names, entry.number, under + 1, b, out, inside);
     let behind = emit::put(out, last.at, 93);
     Spot {
         entry: last.entry,
@@ -143,17 +158,15 @@ pub fn within(table: &[u64], e: usize, k: u64) -> bool
     requires { ⌜ ((d : Dtype) × Listed (now table) e d) ⌝ }
     ensures { λ r. ⌜ ((d : Dtype) → Listed (now (table .entry)) e d → r ≡ isWithin (valueOf (descrLayout d)) k) ⌝ }
 {
-    let entry = table::entry_at(table, e);
+    let under = innermost(table, e);
+    let entry = table::entry_at(table, under);
     if entry.kind == PLAIN {
         return true;
-    }
-    if entry.kind == ARRAY {
-        return within(table, e + 1, k);
     }
     if k == 0 {
         return false;
     }
-    fields_within(table, entry.number, e + 1, k - 1)
+    fields_within(table, entry.number, under + 1, k - 1)
 }
 
 // The same of so many fields, the first at entry e.

@@ -4,16 +4,16 @@
 // byte; how much room is lent, how many numbers the index has and how many the path, one byte each; the length of the file; index and path. `n` asks for a place, `i`
 // for the number of the item, `b` reads bytes and `p` code points, of as much of the file as its length says. Lent bytes are AA before, lent code points 2A2A2A2A.
 // An answer is a refusal's number, or START LENGTH TYPE, the item's number, or `+` and how many were written; where room was lent, all of it follows in hexadecimal.
+use area::Run;
 use counts::Bytes;
 use counts::Number;
 use dtype::Order;
-use element::BytesElement;
-use element::PointsElement;
 use frames::Frame;
+use items::ItemNumber;
 use libc::STDOUT_FILENO;
-use places::ItemNumber;
+use placed::BytesElement;
+use placed::PointsElement;
 use places::Placed;
-use places::Run;
 use spelling::Endianness;
 use type_str::TypePrint;
 use type_str::TypeStr;
@@ -186,7 +186,7 @@ fn ask(
             ask_bytes(lent, held, start, table, names, shape, order, index, path);
         }
         105 => {
-            tell_item(places::item_number(shape, order, index));
+            tell_item(items::item_number(shape, order, index));
         }
         112 => {
             ask_points(lent, held, start, table, names, shape, order, index, path);

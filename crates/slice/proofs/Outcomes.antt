@@ -5,21 +5,15 @@ use mathlib.Core.Path.{_≡_, refl}
 use mathlib.Core.Bool.{cond}
 use mathlib.Core.List.{List}
 use lib.Dec.{eqb}
-use lib.ListN.{length}
-use Rattle.counts.specs.Outcome.{Outcome, gives, refused, each}
+use Rattle.counts.specs.Outcome.{Outcome, gives, refused}
 use Rattle.counts.specs.OneOutcome.{OneOutcome}
-use Rattle.counts.proofs.OneOutcome.{by-equation, by-inverse, beside}
 use Rattle.type_str.specs.declared.TypeStr.{TypeStr}
-use Rattle.slice.specs.Rooms.{after, readBytes, readPoints, writeBytes, writePoints, bytesAnswer, pointsAnswer, wroteAnswer, Owes}
+use Rattle.strings.specs.Rooms.{readBytes, readPoints, writeBytes, writePoints, Owes}
+use Rattle.strings.proofs.Outcomes.{owes-one}
+use Rattle.slice.specs.Answer.{bytesAnswer, pointsAnswer, wroteAnswer}
 use Rattle.slice.specs.declared.BytesRead.{BytesRead}
 use Rattle.slice.specs.declared.PointsRead.{PointsRead}
 use Rattle.slice.specs.declared.Wrote.{Wrote}
-
--- an outcome is the answer and the room's final content
-pub owes-one : {A : Type 0} (answer : A → Outcome ℕ) (back : Outcome ℕ → A) → ((x : A) → back (answer x) ≡ x) → (put : Outcome (List ℕ)) (room : List ℕ)
-    → OneOutcome {A = A × List ℕ} (λ r. Owes put room (answer (r .0)) (r .1))
-owes-one answer back same put room x y p q =
-    beside (by-inverse answer back same (each length put)) (by-equation (after room put)) x y (p .answered, p .room-after) (q .answered, q .room-after)
 
 bytes-back : Outcome ℕ → BytesRead
 bytes-back (gives n) = BytesRead.Read (record { 0 = n })

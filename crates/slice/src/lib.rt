@@ -1,30 +1,24 @@
 // String elements (document 01): the run of one element and its type in, what it stands for out to lent room, and back. The run is all the bytes of the
-// element, as its place in a file gives them. What each answer stands for is in specs/Rooms.antt. No public function has a `requires`.
+// element, as its place in a file gives them. What each answer stands for is in specs/Answer.antt. No public function has a `requires`.
 use counts::ByteCount;
 use counts::Bytes;
-use counts::Number;
 use counts::Points;
+use points::Judged;
+use points::PointRead;
 use spelling::Endianness;
 use spelling::TypeChar;
+use strings::Kind;
 use type_str::TypeStr;
 ghost use mathlib.Core.Path.{_≡_};
 ghost use mathlib.Core.List.{[], _++_};
 ghost use Prim.Native.Nat.{_≤_};
 ghost use lib.ListN.{length, getD, take, drop};
-ghost use Rattle.counts.specs.Outcome.{gives, each};
+ghost use Rattle.counts.specs.Outcome.{gives};
 ghost use Rattle.emit.specs.Emits.{Emits};
-ghost use Rattle.slice.specs.Elements.{kindOf, trimmed, point, points, found};
-ghost use Rattle.slice.specs.Runs.{filled, allScalars, pointBytes};
-ghost use Rattle.slice.specs.Rooms.{roomed, readBytes, readPoints, writeBytes, writePoints, bytesAnswer, pointsAnswer, wroteAnswer, Owes};
-ghost use Rattle.slice.specs.Answer.{pointAnswer, judgedAnswer};
-
-// What the elements of a type are: S, U, V, or no strings.
-enum Kind {
-    ByteStr,
-    UnicodeStr,
-    RawData,
-    Other,
-}
+ghost use Rattle.strings.specs.Elements.{kindOf, points, found};
+ghost use Rattle.strings.specs.Runs.{filled, pointBytes};
+ghost use Rattle.strings.specs.Rooms.{roomed, readBytes, readPoints, writeBytes, writePoints, Owes};
+ghost use Rattle.slice.specs.Answer.{bytesAnswer, pointsAnswer, wroteAnswer};
 
 // What reading bytes answers: how many were written, that the type has none, or that the room is too small.
 pub enum BytesRead {
@@ -49,17 +43,6 @@ pub enum Wrote {
     BadScalar,
     NoFit,
     Room,
-}
-
-enum PointRead {
-    Scalar(u32),
-    BadScalar,
-}
-
-// A run of U: so many code points are left of it without its trailing zeros.
-enum Judged {
-    Kept(Points),
-    BadScalar,
 }
 
 fn kind_of(letter: TypeChar) -> Kind
@@ -88,28 +71,13 @@ pub fn read_bytes(run: &[u8], t: TypeStr, out: &mut [u8]) -> BytesRead
     let kind = kind_of(letter);
     match kind {
         Kind::ByteStr => {
-            let n = kept(run);
+            let n = strings::kept(run);
             copy(&run[..n], out)
         }
         Kind::UnicodeStr => BytesRead::NoString,
         Kind::RawData => copy(run, out),
         Kind::Other => BytesRead::NoString,
     }
-}
-
-// How many bytes are left without the trailing zeros.
-fn kept(run: &[u8]) -> usize
-    ensures { λ r. ⌜ r ≡ length (trimmed (now (run .entry))) ⌝ }
-{
-    let mut n = run.len();
-    while n > 0 {
-        let last = n - 1;
-        if run[last] != 0 {
-            return n;
-        }
-        n = last;
-    }
-    0
 }
 
 fn copy(value: &[u8], out: &mut [u8]) -> BytesRead
@@ -131,56 +99,13 @@ pub fn read_points(run: &[u8], t: TypeStr, out: &mut [u32]) -> PointsRead
     if !letter.is_unicode() {
         return PointsRead::NoString;
     }
-    let Judged::Kept(n) = judge(run, order) else {
+    let Judged::Kept(n) = points::judge(run, order) else {
         return PointsRead::BadScalar;
     };
     if (out.len() as u64) < n.0 {
         return PointsRead::Room;
     }
     copy_points(run, order, n, out)
-}
-
-fn judge(run: &[u8], order: Endianness) -> Judged
-    ensures { λ r. ⌜ judgedAnswer r ≡ each (λ ps. length (trimmed ps)) (points order (now (run .entry))) ⌝ }
-{
-    let mut at: usize = 0;
-    let mut count: u64 = 0;
-    let mut kept: u64 = 0;
-    while at < run.len() {
-        let PointRead::Scalar(p) = point_at(run, order, at) else {
-            return Judged::BadScalar;
-        };
-        at += 4;
-        count += 1;
-        if p != 0 {
-            kept = count;
-        }
-    }
-    Judged::Kept(Points(kept))
-}
-
-// The code point in the four bytes from `at` on.
-fn point_at(run: &[u8], order: Endianness, at: usize) -> PointRead
-    ensures { λ r. ⌜ pointAnswer r ≡ point order (drop at (now (run .entry))) ⌝ }
-{
-    if run.len() < 4 {
-        return PointRead::BadScalar;
-    }
-    if run.len() - 4 < at {
-        return PointRead::BadScalar;
-    }
-    let end = at + 4;
-    let Number::Is(n) = numbers::read(&run[at..end], order) else {
-        return PointRead::BadScalar;
-    };
-    if n > 0x10FFFF {
-        return PointRead::BadScalar;
-    }
-    let value = n as u32;
-    if !utf8::is_scalar(value) {
-        return PointRead::BadScalar;
-    }
-    PointRead::Scalar(value)
 }
 
 // The first n code points of a run that was judged.
@@ -192,7 +117,7 @@ fn copy_points(run: &[u8], order: Endianness, n: Points, out: &mut [u32]) -> Poi
     let mut at: usize = 0;
     let mut i: usize = 0;
     while i < count {
-        let PointRead::Scalar(p) = point_at(run, order, at) else {
+        let PointRead::Scalar(p) = points::point_at(run, order, at) else {
             return PointsRead::BadScalar;
         };
         out[i] = p;
@@ -274,26 +199,13 @@ pub fn write_points(t: TypeStr, value: &[u32], out: &mut [u8]) -> Wrote
     if !letter.is_unicode() {
         return Wrote::NoString;
     }
-    if !all_scalars(value) {
+    if !points::all_scalars(value) {
         return Wrote::BadScalar;
     }
     if t.size < value.len() as u64 {
         return Wrote::NoFit;
     }
     place_points(order, Points(t.size), value, out)
-}
-
-fn all_scalars(value: &[u32]) -> bool
-    ensures { λ r. ⌜ r ≡ allScalars (now (value .entry)) ⌝ }
-{
-    let mut i: usize = 0;
-    while i < value.len() {
-        if !utf8::is_scalar(value[i]) {
-            return false;
-        }
-        i += 1;
-    }
-    true
 }
 
 // A value that fits, filled up. Bytes over 2^64-1 have no room anywhere.

@@ -1,5 +1,5 @@
 -- `element::read_bytes` meets its contract: the place in a file as long as it is, and then the element in it. Assumes nothing.
-use Rattle.element.proofs.Placed.{bytes-whole}
+use Rattle.element.proofs.Whole.{bytes-whole}
 use borrow.Author.Needs.{needs}
 use Rattle.element.proofs.read_bytes.Statement.{statement}
 use Rattle.element.proofs.read_bytes.Tie as tie

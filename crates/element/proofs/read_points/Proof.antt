@@ -1,5 +1,5 @@
 -- `element::read_points` meets its contract: the place in a file as long as it is, and then the element in it. Assumes nothing.
-use Rattle.element.proofs.Placed.{points-whole}
+use Rattle.element.proofs.Whole.{points-whole}
 use borrow.Author.Needs.{needs}
 use Rattle.element.proofs.read_points.Statement.{statement}
 use Rattle.element.proofs.read_points.Tie as tie

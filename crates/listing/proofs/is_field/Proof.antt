@@ -1,5 +1,5 @@
 -- The outermost entry, or the kind of its parent. Assumes nothing.
-use Rattle.listing.proofs.Pieces.{not-field, below}
+use Rattle.lines.proofs.Pieces.{not-field, below}
 use borrow.Author.Needs.{needs}
 use Rattle.listing.proofs.is_field.Statement.{statement}
 use Rattle.listing.proofs.is_field.Tie as tie

@@ -1,5 +1,5 @@
 -- The lines in turn. Assumes nothing.
-use Rattle.listing.proofs.Whole.{strided, all-there}
+use Rattle.lines.proofs.Text.{strided, all-there}
 use borrow.Author.Needs.{needs}
 use Rattle.listing.proofs.put_all.Statement.{statement}
 use Rattle.listing.proofs.put_all.Tie as tie

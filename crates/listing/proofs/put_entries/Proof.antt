@@ -4,7 +4,7 @@ use Prim.Native.Nat.{_-_, _/_}
 use mathlib.Core.Path.{_≡_, refl}
 use lib.ListN.{length}
 use Rattle.dtype.specs.Flat.{entry-width}
-use Rattle.listing.proofs.Lines.{Going, going-start, going-more, going-end, lines-known, past-ahead, past-inside}
+use Rattle.lines.proofs.Lines.{Going, going-start, going-more, going-end, lines-known, past-ahead, past-inside}
 use Rattle.listing.proofs.put_entries.Statement.{statement}
 use Rattle.listing.proofs.put_entries.Tie as tie
 

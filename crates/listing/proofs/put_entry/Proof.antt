@@ -1,5 +1,5 @@
 -- The pieces of a line in turn. Assumes nothing.
-use Rattle.listing.proofs.Pieces.{line-of}
+use Rattle.lines.proofs.Pieces.{line-of}
 use borrow.Author.Needs.{needs}
 use Rattle.listing.proofs.put_entry.Statement.{statement}
 use Rattle.listing.proofs.put_entry.Tie as tie

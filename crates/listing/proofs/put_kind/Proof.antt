@@ -1,5 +1,5 @@
 -- Each kind by itself. Assumes nothing.
-use Rattle.listing.proofs.Pieces.{kind-plain, kind-array, kind-record}
+use Rattle.lines.proofs.Pieces.{kind-plain, kind-array, kind-record}
 use borrow.Author.Needs.{needs}
 use Rattle.listing.proofs.put_kind.Statement.{statement}
 use Rattle.listing.proofs.put_kind.Tie as tie

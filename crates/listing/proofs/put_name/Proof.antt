@@ -1,6 +1,6 @@
 -- A field's name behind a space, or nothing. Assumes nothing.
 use borrow.Author.Tests.{not-true, not-false}
-use Rattle.listing.proofs.Pieces.{no-name, a-name}
+use Rattle.lines.proofs.Pieces.{no-name, a-name}
 use borrow.Author.Needs.{needs}
 use Rattle.listing.proofs.put_name.Statement.{statement}
 use Rattle.listing.proofs.put_name.Tie as tie

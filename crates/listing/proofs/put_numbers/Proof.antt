@@ -4,8 +4,8 @@ use Prim.Native.Nat.{_-_}
 use mathlib.Core.Path.{refl}
 use lib.ListN.{length}
 use Rattle.emit.proofs.Pieces.{Left, left-start, left-more, left-end}
-use Rattle.listing.specs.Listing.{numbers}
-use Rattle.listing.proofs.Pieces.{behind-space}
+use Rattle.lines.specs.Listing.{numbers}
+use Rattle.lines.proofs.Pieces.{behind-space}
 use Rattle.listing.proofs.put_numbers.Statement.{statement}
 use Rattle.listing.proofs.put_numbers.Tie as tie
 

@@ -1,5 +1,5 @@
 -- Each order by itself. Assumes nothing.
-use Rattle.listing.proofs.Pieces.{order-known}
+use Rattle.lines.proofs.Pieces.{order-known}
 use borrow.Author.Needs.{needs}
 use Rattle.listing.proofs.put_order.Statement.{statement}
 use Rattle.listing.proofs.put_order.Tie as tie

@@ -1,5 +1,5 @@
 -- A word, the numbers, the line's end. Assumes nothing.
-use Rattle.listing.proofs.Pieces.{three}
+use Rattle.lines.proofs.Pieces.{three}
 use borrow.Author.Needs.{needs}
 use Rattle.listing.proofs.put_shape.Statement.{statement}
 use Rattle.listing.proofs.put_shape.Tie as tie

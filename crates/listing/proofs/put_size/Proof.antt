@@ -1,5 +1,5 @@
 -- A size, or none. Assumes nothing.
-use Rattle.listing.proofs.Pieces.{three, size-known}
+use Rattle.lines.proofs.Pieces.{three, size-known}
 use borrow.Author.Needs.{needs}
 use Rattle.listing.proofs.put_size.Statement.{statement}
 use Rattle.listing.proofs.put_size.Tie as tie

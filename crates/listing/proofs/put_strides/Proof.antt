@@ -2,8 +2,8 @@
 use mathlib.Core.Path.{refl, sym, ap, _∙_}
 use lib.ListN.{length}
 use Rattle.dtype.proofs.Strides.{strides-length}
-use Rattle.listing.proofs.Pieces.{three}
-use Rattle.listing.proofs.Whole.{strides-held, strides-known}
+use Rattle.lines.proofs.Pieces.{three}
+use Rattle.lines.proofs.Text.{strides-held, strides-known}
 use borrow.Author.Needs.{needs}
 use Rattle.listing.proofs.put_strides.Statement.{statement}
 use Rattle.listing.proofs.put_strides.Tie as tie

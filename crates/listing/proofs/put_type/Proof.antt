@@ -1,5 +1,5 @@
 -- The type, or nothing. Assumes nothing.
-use Rattle.listing.proofs.Pieces.{type-none, type-given}
+use Rattle.lines.proofs.Pieces.{type-none, type-given}
 use borrow.Author.Needs.{needs}
 use Rattle.listing.proofs.put_type.Statement.{statement}
 use Rattle.listing.proofs.put_type.Tie as tie

@@ -1,5 +1,5 @@
 -- A word, the major number, the minor one. Assumes nothing.
-use Rattle.listing.proofs.Pieces.{three, number-known}
+use Rattle.lines.proofs.Pieces.{three, number-known}
 use borrow.Author.Needs.{needs}
 use Rattle.listing.proofs.put_version.Statement.{statement}
 use Rattle.listing.proofs.put_version.Tie as tie

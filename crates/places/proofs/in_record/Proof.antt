@@ -1,6 +1,7 @@
 -- `places::in_record` meets its contract: each answer by the tests that led there. Assumes nothing.
-use Rattle.places.proofs.Placing.{answer-24, answer-25, follow-asks, answer-26-path, answer-26-item, answer-26-first, answer-26-range, answer-at}
-use borrow.Author.Tests.{not-true, not-false}
+use Rattle.places.proofs.Placing.{answer-24, answer-25, follow-asks, answer-26-path, answer-26-item, answer-26-first, answer-at}
+use Rattle.counts.proofs.OneOutcome.{told}
+use Rattle.items.specs.Answer.{itemAnswer}
 use native.Mathlib.Omega.{arith}
 use mathlib.Core.Path.{sym, _∙_}
 use Prim.Native.Nat.{_^_, _<_}
@@ -45,20 +46,16 @@ returns-3 c = λ ns d a.
     answer-26-path _ ns _ _ d _ _ a _ _ _ _ _ sized (sym (c .before .before .before .before .is-short .ensures) ∙ c .before .before .before .if1 .left)
     (rw (c .enum-told2 .given .1) at (c .before .before .follow .ensures d (asks .0) (asks .1) (a .valid .typed)))
 
-item-of-requires : tie.Need-item-of-requires
-item-of-requires c κs = search needs
+item-number-requires : tie.Need-item-number-requires
+item-number-requires c κs = search needs
 
 enum-known-which : tie.Need-enum-known-which
 enum-known-which c = search needs
 
-enum-told-3 : tie.Need-enum-told-3
-enum-told-3 c = search needs
-
 returns-4 : tie.Need-returns-4
 returns-4 c = λ ns d a.
-    answer-26-item _ ns _ _ d _ _ a _ _ _ _ _ (c .before .before .before .before .before .before .before .before .before .before .size .given .1) (sym (c .before .before .before .before .before .before .before .before .is-short .ensures) ∙ c .before .before .before .before .before .before .before .if1 .left) _
-    (c .before .before .item-of .ensures)
-    (c .enum-told3 .given .1)
+    answer-26-item _ ns _ _ d _ _ a _ _ _ _ _ (c .before .before .before .before .before .before .before .before .before .size .given .1) (sym (c .before .before .before .before .before .before .before .is-short .ensures) ∙ c .before .before .before .before .before .before .if1 .left)
+    (c .before .item-number .result) (c .before .item-number .ensures) (c .match3 .keys2)
 
 first-byte-requires : tie.Need-first-byte-requires
 first-byte-requires c κs = search needs
@@ -66,38 +63,27 @@ first-byte-requires c κs = search needs
 enum-known-first : tie.Need-enum-known-first
 enum-known-first c = search needs
 
-enum-told-4 : tie.Need-enum-told-4
-enum-told-4 c = search needs
+enum-told-3 : tie.Need-enum-told-3
+enum-told-3 c = search needs
 
 returns-5 : tie.Need-returns-5
 returns-5 c = λ ns d a.
     let sized = c .before .before .before .before .before .before .before .before .before .before .before .before .before .before .size .given .1 in
     let asks = follow-asks _ ns _ _ d _ _ a _ sized in
     answer-26-first _ ns _ _ d _ _ a _ _ _ _ _ sized (sym (c .before .before .before .before .before .before .before .before .before .before .before .before .is-short .ensures) ∙ c .before .before .before .before .before .before .before .before .before .before .before .if1 .left) _
-    (c .before .before .before .before .before .before .item-of .ensures) _
-    (c .before .before .before .before .which .given .1) _
+    (told itemAnswer (c .before .before .before .before .before .before .item-number .ensures) (c .before .before .before .before .which .given .1)) _
     (rw (c .before .before .before .before .before .before .before .before .run .given .1) at (c .before .before .before .before .before .before .before .before .before .before .follow .ensures d (asks .0) (asks .1) (a .valid .typed)))
     (file-fits (c .before .before .before .before .before .before .before .before .before .before .before .before .before .before .before .before .before .before .before .before))
-    (sym (c .enum-told4 .given .1) ∙ c .before .before .first-byte .ensures)
-
-in-range-requires : tie.Need-in-range-requires
-in-range-requires c κs = search needs
+    (sym (c .enum-told3 .given .1) ∙ c .before .before .first-byte .ensures)
 
 returns-6 : tie.Need-returns-6
 returns-6 c = λ ns d a.
-    answer-26-range _ ns _ _ d _ _ a _ _ _ _ _ (c .before .before .before .before .before .before .before .before .before .before .before .before .before .before .before .before .before .size .given .1) (sym (c .before .before .before .before .before .before .before .before .before .before .before .before .before .before .before .is-short .ensures) ∙ c .before .before .before .before .before .before .before .before .before .before .before .before .before .before .if1 .left)
-    (sym (c .before .in-range .ensures) ∙ not-true _ (c .if2 .taken))
-
-returns-7 : tie.Need-returns-7
-returns-7 c = λ ns d a.
-    let sized = c .before .before .before .before .before .before .before .before .before .before .before .before .before .before .before .before .before .before .before .size .given .1 in
+    let sized = c .before .before .before .before .before .before .before .before .before .before .before .before .before .before .before .before .before .size .given .1 in
     let asks = follow-asks _ ns _ _ d _ _ a _ sized in
-    answer-at _ ns _ _ d _ _ a _ _ _ _ _ sized (sym (c .before .before .before .before .before .before .before .before .before .before .before .before .before .before .before .before .before .is-short .ensures) ∙ c .before .before .before .before .before .before .before .before .before .before .before .before .before .before .before .before .if1 .left) _
-    (c .before .before .before .before .before .before .before .before .before .before .before .item-of .ensures) _
-    (c .before .before .before .before .before .before .before .before .before .which .given .1) _
-    (rw (c .before .before .before .before .before .before .before .before .before .before .before .before .before .run .given .1) at (c .before .before .before .before .before .before .before .before .before .before .before .before .before .before .before .follow .ensures d (asks .0) (asks .1) (a .valid .typed))) _
-    (sym (c .before .before .before .before .before .first .given .1) ∙ c .before .before .before .before .before .before .before .first-byte .ensures)
-    (sym (c .before .before .before .in-range .ensures) ∙ not-false _ (c .before .before .if2 .left))
+    answer-at _ ns _ _ d _ _ a _ _ _ _ _ sized (sym (c .before .before .before .before .before .before .before .before .before .before .before .before .before .before .before .is-short .ensures) ∙ c .before .before .before .before .before .before .before .before .before .before .before .before .before .before .if1 .left) _
+    (told itemAnswer (c .before .before .before .before .before .before .before .before .before .item-number .ensures) (c .before .before .before .before .before .before .before .which .given .1)) _
+    (rw (c .before .before .before .before .before .before .before .before .before .before .before .run .given .1) at (c .before .before .before .before .before .before .before .before .before .before .before .before .before .follow .ensures d (asks .0) (asks .1) (a .valid .typed))) _
+    (sym (c .before .before .before .first .given .1) ∙ c .before .before .before .before .before .first-byte .ensures)
 
 pub in-record-spec : {M : Type 1} → statement M
 in-record-spec =
@@ -112,14 +98,11 @@ in-record-spec =
     enum-known-run
     enum-told-2
     returns-3
-    item-of-requires
+    item-number-requires
     enum-known-which
-    enum-told-3
     returns-4
     first-byte-requires
     enum-known-first
-    enum-told-4
+    enum-told-3
     returns-5
-    in-range-requires
-    returns-6
-    returns-7)
+    returns-6)

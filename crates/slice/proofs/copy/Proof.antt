@@ -1,7 +1,7 @@
 -- `slice::copy` meets its contract: the bytes are written where they have room. Assumes nothing.
 use mathlib.Core.Path.{refl}
 use mathlib.Core.List.{append-nil}
-use Rattle.slice.proofs.Places.{owes-short, owes-emitted}
+use Rattle.strings.proofs.Places.{owes-short, owes-emitted}
 use borrow.Author.Needs.{needs}
 use Rattle.slice.proofs.copy.Statement.{statement}
 use Rattle.slice.proofs.copy.Tie as tie

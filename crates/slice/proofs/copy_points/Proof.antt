@@ -4,10 +4,10 @@ use mathlib.Core.Path.{refl, sym, _∙_}
 use native.Mathlib.Omega.{arith}
 use borrow.Author.Needs.{needs}
 use Rattle.counts.proofs.OneOutcome.{told}
-use Rattle.slice.specs.Elements.{points, found}
-use Rattle.slice.specs.Answer.{pointAnswer}
-use Rattle.slice.proofs.Scalars.{apart}
-use Rattle.slice.proofs.Places.{Copying, copying-start, copying-more, copying-end, four-at, gives-same}
+use Rattle.strings.specs.Elements.{points, found}
+use Rattle.points.specs.Answer.{pointAnswer}
+use Rattle.strings.proofs.Scalars.{apart}
+use Rattle.strings.proofs.Places.{Copying, copying-start, copying-more, copying-end, four-at, gives-same}
 use Rattle.slice.proofs.copy_points.Statement.{statement}
 use Rattle.slice.proofs.copy_points.Tie as tie
 

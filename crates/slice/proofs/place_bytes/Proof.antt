@@ -2,8 +2,8 @@
 use mathlib.Core.Path.{sym}
 use mathlib.Core.List.{append-nil}
 use native.Mathlib.Omega.{arith}
-use Rattle.slice.specs.Runs.{filled}
-use Rattle.slice.proofs.Places.{length-filled, owes-short, owes-emitted}
+use Rattle.strings.specs.Runs.{filled}
+use Rattle.strings.proofs.Places.{length-filled, owes-short, owes-emitted}
 use borrow.Author.Needs.{needs}
 use Rattle.slice.proofs.place_bytes.Statement.{statement}
 use Rattle.slice.proofs.place_bytes.Tie as tie

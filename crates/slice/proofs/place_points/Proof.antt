@@ -1,8 +1,8 @@
 -- `slice::place_points` meets its contract: a filled value is four bytes long for each code point of its size, and more than 2^64-1 bytes have no room. Assumes nothing.
 use mathlib.Core.Path.{refl, sym, _∙_}
 use native.Mathlib.Omega.{arith}
-use Rattle.slice.proofs.Places.{length-filled-points, owes-short, owes-emitted}
-use Rattle.slice.proofs.Ways.{bytes-over, bytes-is}
+use Rattle.strings.proofs.Places.{length-filled-points, owes-short, owes-emitted}
+use Rattle.strings.proofs.Ways.{bytes-over, bytes-is}
 use borrow.Author.Needs.{needs}
 use Rattle.slice.proofs.place_points.Statement.{statement}
 use Rattle.slice.proofs.place_points.Tie as tie

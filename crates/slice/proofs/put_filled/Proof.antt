@@ -5,8 +5,8 @@ use mathlib.Core.List.{_∷_, _++_}
 use native.Mathlib.Omega.{arith}
 use borrow.Author.Needs.{needs}
 use Rattle.emit.proofs.Pieces.{Left, left-start, left-more, left-end, emits-byte}
-use Rattle.slice.specs.Runs.{filled}
-use Rattle.slice.proofs.Places.{length-filled, at-filled}
+use Rattle.strings.specs.Runs.{filled}
+use Rattle.strings.proofs.Places.{length-filled, at-filled}
 use Rattle.slice.proofs.put_filled.Statement.{statement}
 use Rattle.slice.proofs.put_filled.Tie as tie
 

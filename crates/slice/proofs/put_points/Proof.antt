@@ -6,8 +6,8 @@ use native.Mathlib.Omega.{arith}
 use borrow.Author.Needs.{needs}
 use Rattle.emit.proofs.Pieces.{Left, left-start, left-more, left-end, emits-same}
 use Rattle.numbers.specs.Numbers.{outOrder}
-use Rattle.slice.specs.Runs.{filled, pointBytes}
-use Rattle.slice.proofs.Places.{length-filled, at-filled}
+use Rattle.strings.specs.Runs.{filled, pointBytes}
+use Rattle.strings.proofs.Places.{length-filled, at-filled}
 use Rattle.slice.proofs.put_points.Statement.{statement}
 use Rattle.slice.proofs.put_points.Tie as tie
 

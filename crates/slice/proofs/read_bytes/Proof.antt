@@ -5,11 +5,11 @@ use mathlib.Core.List.{List}
 use native.Mathlib.Omega.{arith}
 use lib.ListN.{take}
 use lib.Seq.{length-take-le}
-use Rattle.slice.specs.Rooms.{roomed}
-use Rattle.slice.specs.declared.Kind.{Kind}
-use Rattle.slice.proofs.Trims.{trim-take, trim-length}
-use Rattle.slice.proofs.Places.{owes-refused, owes-same}
-use Rattle.slice.proofs.Ways.{read-bytes-by}
+use Rattle.strings.specs.Rooms.{roomed}
+use Rattle.strings.specs.declared.Kind.{Kind}
+use Rattle.strings.proofs.Trims.{trim-take, trim-length}
+use Rattle.strings.proofs.Places.{owes-refused, owes-same}
+use Rattle.strings.proofs.Ways.{read-bytes-by}
 use borrow.Author.Needs.{needs}
 use Rattle.slice.proofs.read_bytes.Statement.{statement}
 use Rattle.slice.proofs.read_bytes.Tie as tie

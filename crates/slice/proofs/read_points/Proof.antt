@@ -2,9 +2,9 @@
 use mathlib.Core.Path.{sym, _∙_}
 use borrow.Author.Tests.{not-true, not-false}
 use Rattle.counts.proofs.OneOutcome.{told}
-use Rattle.slice.specs.Answer.{judgedAnswer}
-use Rattle.slice.proofs.Places.{owes-refused, owes-same}
-use Rattle.slice.proofs.Ways.{read-points-none, read-points-bad, read-points-short, read-points-inside, read-points-whole}
+use Rattle.points.specs.Answer.{judgedAnswer}
+use Rattle.strings.proofs.Places.{owes-refused, owes-same}
+use Rattle.strings.proofs.Ways.{read-points-none, read-points-bad, read-points-short, read-points-inside, read-points-whole}
 use borrow.Author.Needs.{needs}
 use Rattle.slice.proofs.read_points.Statement.{statement}
 use Rattle.slice.proofs.read_points.Tie as tie

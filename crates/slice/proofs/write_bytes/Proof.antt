@@ -1,9 +1,9 @@
 -- `slice::write_bytes` meets its contract: 27, and then by the kind of the type. Assumes nothing.
 use mathlib.Core.Path.{sym, _∙_}
 use borrow.Author.Tests.{not-true, not-false}
-use Rattle.slice.specs.declared.Kind.{Kind}
-use Rattle.slice.proofs.Places.{owes-refused, owes-same}
-use Rattle.slice.proofs.Ways.{write-bytes-none, write-bytes-by, bytes-none, bytes-long, bytes-fit, raw-other, raw-fit}
+use Rattle.strings.specs.declared.Kind.{Kind}
+use Rattle.strings.proofs.Places.{owes-refused, owes-same}
+use Rattle.strings.proofs.Ways.{write-bytes-none, write-bytes-by, bytes-none, bytes-long, bytes-fit, raw-other, raw-fit}
 use borrow.Author.Needs.{needs}
 use Rattle.slice.proofs.write_bytes.Statement.{statement}
 use Rattle.slice.proofs.write_bytes.Tie as tie

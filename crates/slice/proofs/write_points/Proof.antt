@@ -1,8 +1,8 @@
 -- `slice::write_points` meets its contract: 27, 26, 29, 30, and then the room. Assumes nothing.
 use mathlib.Core.Path.{sym, _∙_}
 use borrow.Author.Tests.{not-true, not-false}
-use Rattle.slice.proofs.Places.{owes-refused, owes-same}
-use Rattle.slice.proofs.Ways.{write-points-none, write-points-other, write-points-by, points-bad, points-long, points-fit}
+use Rattle.strings.proofs.Places.{owes-refused, owes-same}
+use Rattle.strings.proofs.Ways.{write-points-none, write-points-other, write-points-by, points-bad, points-long, points-fit}
 use borrow.Author.Needs.{needs}
 use Rattle.slice.proofs.write_points.Statement.{statement}
 use Rattle.slice.proofs.write_points.Tie as tie

@@ -1,5 +1,5 @@
 -- The cycle of calls {within, fields_within}. The measure is twice the table's numbers from the entry on, and one more where fields are handed on: a record's
--- fields and an array's type stand behind its entry. Assumes nothing.
+-- fields stand behind its entry, and that behind its array levels. Assumes nothing.
 use Prim.Native.Nat.{_+_, _-_, _*_}
 use native.Mathlib.Omega.{arith}
 use mathlib.Core.Path.{_≡_}
@@ -9,7 +9,8 @@ use borrow.Author.Tests.{not-true, not-false}
 use Rattle.dtype.specs.Dtype.{Fields}
 use Rattle.dtype.specs.Entries.{fieldCount}
 use Rattle.print.specs.Walk.{ListedIn}
-use Rattle.print.proofs.Nesting.{listed-inside, plain-within, inner-listed, inner-within, fields-listed, record-none, record-within, brackets-some, Passing, passing-start, passing-asks, passing-few, passing-no, passing-more, passing-end}
+use Rattle.print.proofs.Listing.{under-record}
+use Rattle.print.proofs.Nesting.{plain-within, record-none, record-within, under-inside, under-within, under-listed, brackets-some, Passing, passing-start, passing-asks, passing-few, passing-no, passing-more, passing-end}
 use Prim.Native.Nat.{ℕ, _<_}
 use borrow.Fn.Kinds.{In}
 use borrow.Fn.PlainCycle.{Measures, is, falls, and}
@@ -20,6 +21,7 @@ use Rattle.print.proofs.inner.within.Reads as within
 use Rattle.print.proofs.inner.within.Kinds as within-kinds
 use Rattle.print.proofs.inner.+fields_within+within.Lts-within as within-lts
 use Rattle.print.proofs.inner.brackets.Reads as brackets-reads
+use Rattle.print.proofs.inner.innermost.Reads as innermost-reads
 use Rattle.table.proofs.entry_at.Reads as entry-at-reads
 use Rattle.print.proofs.inner.+fields_within+within.{statement}
 use Rattle.print.proofs.inner.+fields_within+within.Tie.{close}
@@ -58,7 +60,7 @@ abbrev fields-within-told : ℕ → fields-within-lts.Claims
 fields-within-told t = (entry-at-reads.Asked, entry-at-reads.Learnt, brackets-reads.Asked, brackets-reads.Learnt, within-below t, within.Post)
 
 abbrev within-told : ℕ → within-lts.Claims
-within-told t = (entry-at-reads.Asked, entry-at-reads.Learnt, within-below t, within.Post, fields-within-below t, fields-within.Post)
+within-told t = (innermost-reads.Asked, innermost-reads.Learnt, entry-at-reads.Asked, entry-at-reads.Learnt, fields-within-below t, fields-within.Post)
 
 fields-within-loop-holds : (t : ℕ) → fields-within-lts.Need-loop-holds (fields-within-told t) (fields-within-at t) fields-within.Post fields-within-Inv-loop fields-within-μ-loop
 fields-within-loop-holds t c = λ fs n l. passing-start _ _ _ _ fs n l
@@ -109,37 +111,41 @@ fields-within-loop-again t c = λ fs n l.
 fields-within-returns-3 : (t : ℕ) → fields-within-lts.Need-returns-3 (fields-within-told t) (fields-within-at t) fields-within.Post fields-within-Inv-loop fields-within-μ-loop
 fields-within-returns-3 t c = λ fs n l. let o = c .before .loop in passing-end _ _ _ (o .c) (o .left) fs (o .inv fs n l) (c .loop-test .left)
 
+within-innermost-requires : (t : ℕ) → within-lts.Need-innermost-requires (within-told t) (within-at t) within.Post
+within-innermost-requires t c κs = c .before .pre .1
+
 within-entry-at-requires : (t : ℕ) → within-lts.Need-entry-at-requires (within-told t) (within-at t) within.Post
 within-entry-at-requires t c κs = search needs
 
 within-returns : (t : ℕ) → within-lts.Need-returns (within-told t) (within-at t) within.Post
-within-returns t c = plain-within _ _ _ (c .before .before .entry-at .ensures) _ (c .if1 .taken)
-
-within-add-within : (t : ℕ) → within-lts.Need-add-within (within-told t) (within-at t) within.Post
-within-add-within t c = let x = c .before .before .before .before .before .before .pre .1 in omega (arith, listed-inside _ _ (x .0) (x .1))
-
-within-within-requires : (t : ℕ) → within-lts.Need-within-requires (within-told t) (within-at t) within.Post
-within-within-requires t c κs = let x = c .before .before .before .before .before .before .pre .1 in (omega (arith, listed-inside _ _ (x .0) (x .1)), inner-listed _ _ _ (c .before .before .before .before .entry-at .ensures) (c .before .before .before .before .before .before .args .k) (c .if2 .taken) x)
+within-returns t c = under-within _ _ _ (c .before .before .before .innermost .ensures) _ _ (plain-within _ _ _ (c .before .before .entry-at .ensures) _ (c .if1 .taken))
 
 within-returns-2 : (t : ℕ) → within-lts.Need-returns-2 (within-told t) (within-at t) within.Post
-within-returns-2 t c = inner-within _ _ _ (c .before .before .before .before .before .entry-at .ensures) _ (c .before .if2 .taken) _ (c .within .ensures)
-
-within-returns-3 : (t : ℕ) → within-lts.Need-returns-3 (within-told t) (within-at t) within.Post
-within-returns-3 t c = record-none _ _ _ (c .before .before .before .before .before .entry-at .ensures) _ (c .before .before .before .if1 .left) (c .before .if2 .left) (c .if3 .taken)
+within-returns-2 t c =
+    let x = c .before .before .before .before .before .before .pre .1 in
+    let under = c .before .before .before .before .innermost .ensures in
+    let entry = c .before .before .before .entry-at .ensures in
+    under-within _ _ _ under _ _ (record-none _ _ _ entry _ (c .before .if1 .left) (under-record _ _ _ under _ entry (x .0) (x .1)) (c .if2 .taken))
 
 within-add-fields-within : (t : ℕ) → within-lts.Need-add-fields-within (within-told t) (within-at t) within.Post
-within-add-fields-within t c = let x = c .before .before .before .before .before .before .before .pre .1 in omega (arith, listed-inside _ _ (x .0) (x .1))
+within-add-fields-within t c = let x = c .before .before .before .before .before .before .pre .1 in omega (arith, under-inside _ _ _ (c .before .before .before .before .innermost .ensures) (x .0) (x .1) .1)
 
 within-sub-fields-within : (t : ℕ) → within-lts.Need-sub-fields-within (within-told t) (within-at t) within.Post
 within-sub-fields-within t c = search needs
 
 within-fields-within-requires : (t : ℕ) → within-lts.Need-fields-within-requires (within-told t) (within-at t) within.Post
 within-fields-within-requires t c κs =
-    let x = c .before .before .before .before .before .before .before .pre .1 in
-    (omega (arith, listed-inside _ _ (x .0) (x .1)), fields-listed _ _ _ (c .before .before .before .before .before .entry-at .ensures) (c .before .before .before .before .before .before .before .args .k) (c .before .before .before .if1 .left) (c .before .if2 .left) x)
+    let x = c .before .before .before .before .before .before .pre .1 in
+    let under = c .before .before .before .before .innermost .ensures in
+    let r = under-inside _ _ _ under (x .0) (x .1) in
+    (omega (arith, r .0, r .1), under-listed _ _ _ under _ (c .before .before .before .entry-at .ensures) (c .before .if1 .left) x)
 
-within-returns-4 : (t : ℕ) → within-lts.Need-returns-4 (within-told t) (within-at t) within.Post
-within-returns-4 t c = record-within _ _ _ (c .before .before .before .before .before .before .entry-at .ensures) _ (c .before .before .before .before .if1 .left) (c .before .before .if2 .left) (c .before .if3 .left) _ (c .fields-within .ensures)
+within-returns-3 : (t : ℕ) → within-lts.Need-returns-3 (within-told t) (within-at t) within.Post
+within-returns-3 t c =
+    let x = c .before .before .before .before .before .before .before .pre .1 in
+    let under = c .before .before .before .before .before .innermost .ensures in
+    let entry = c .before .before .before .before .entry-at .ensures in
+    under-within _ _ _ under _ _ (record-within _ _ _ entry _ (c .before .before .if1 .left) (under-record _ _ _ under _ entry (x .0) (x .1)) (c .before .if2 .left) _ (c .fields-within .ensures))
 
 pub +fields-within+within-spec : {M : Type 1} → statement M
 +fields-within+within-spec = close μ-fields-within μ-within (λ t. fields-within-lts.spec (
@@ -167,22 +173,20 @@ pub +fields-within+within-spec : {M : Type 1} → statement M
     (fields-within-loop-again t)
     (fields-within-returns-3 t))
     λ t. within-lts.spec (
+      innermost-reads.Asked,
+      innermost-reads.Learnt,
       entry-at-reads.Asked,
       entry-at-reads.Learnt,
-      within-below t,
-      within.Post,
       fields-within-below t,
       fields-within.Post,
     )
     (within-at t)
     within.Post
+    (within-innermost-requires t)
     (within-entry-at-requires t)
     (within-returns t)
-    (within-add-within t)
-    (within-within-requires t)
     (within-returns-2 t)
-    (within-returns-3 t)
     (within-add-fields-within t)
     (within-sub-fields-within t)
     (within-fields-within-requires t)
-    (within-returns-4 t)
+    (within-returns-3 t)

@@ -1,5 +1,5 @@
 -- The cycle of calls {put_descr, put_fields}. The measure is twice the table's numbers from the entry on, and one more where fields are handed on: a
--- record's fields and an array's type stand behind its entry. The loop keeps `Going`. Assumes nothing.
+-- record's fields stand behind its entry, and that behind its array levels. The loop keeps `Going`. Assumes nothing.
 use Prim.Native.Nat.{_+_, _-_, _*_}
 use native.Mathlib.Omega.{arith}
 use mathlib.Core.Path.{_≡_}
@@ -9,7 +9,8 @@ use Rattle.emit.proofs.Pieces.{emits-length}
 use Rattle.dtype.specs.Dtype.{Fields}
 use Rattle.dtype.specs.Entries.{fieldCount}
 use Rattle.print.specs.Walk.{StandsIn}
-use Rattle.print.proofs.Walking.{stands-room, plain-walked, inner-asks, inner-walked, fields-asks, record-walked, Going, going-start, going-next, going-more, going-end}
+use Rattle.print.proofs.Listing.{under-record}
+use Rattle.print.proofs.Walking.{plain-walked, record-walked, under-room, under-walked, under-asks, Going, going-start, going-next, going-more, going-end}
 use Prim.Native.Nat.{ℕ, _<_}
 use borrow.Fn.Kinds.{In}
 use borrow.Fn.PlainCycle.{Measures, is, falls, and}
@@ -21,6 +22,7 @@ use Rattle.print.proofs.inner.put_fields.Kinds as put-fields-kinds
 use Rattle.print.proofs.inner.+put_descr+put_fields.Lts-put_fields as put-fields-lts
 use Rattle.emit.proofs.put.Reads as put-reads
 use Rattle.print.proofs.inner.close_field.Reads as close-field-reads
+use Rattle.print.proofs.inner.innermost.Reads as innermost-reads
 use Rattle.print.proofs.inner.open_field.Reads as open-field-reads
 use Rattle.print.proofs.inner.put_type.Reads as put-type-reads
 use Rattle.table.proofs.entry_at.Reads as entry-at-reads
@@ -49,10 +51,13 @@ put-fields-below t =
     and 3 put-fields-kinds.ps (falls 3 put-fields-kinds.ps _<_ μ-put-fields t) put-fields.Pre
 
 abbrev put-descr-told : ℕ → put-descr-lts.Claims
-put-descr-told t = (entry-at-reads.Asked, entry-at-reads.Learnt, put-type-reads.Asked, put-type-reads.Learnt, put-descr-below t, put-descr.Post, put-reads.Asked, put-reads.Learnt, put-fields-below t, put-fields.Post)
+put-descr-told t = (innermost-reads.Asked, innermost-reads.Learnt, entry-at-reads.Asked, entry-at-reads.Learnt, put-type-reads.Asked, put-type-reads.Learnt, put-reads.Asked, put-reads.Learnt, put-fields-below t, put-fields.Post)
 
 abbrev put-fields-told : ℕ → put-fields-lts.Claims
 put-fields-told t = (entry-at-reads.Asked, entry-at-reads.Learnt, open-field-reads.Asked, open-field-reads.Learnt, put-descr-below t, put-descr.Post, close-field-reads.Asked, close-field-reads.Learnt)
+
+put-descr-innermost-requires : (t : ℕ) → put-descr-lts.Need-innermost-requires (put-descr-told t) (put-descr-at t) put-descr.Post
+put-descr-innermost-requires t c κs = let x = c .before .before .before .pre .1 in (x .0, x .1 .listed)
 
 put-descr-entry-at-requires : (t : ℕ) → put-descr-lts.Need-entry-at-requires (put-descr-told t) (put-descr-at t) put-descr.Post
 put-descr-entry-at-requires t c κs = search needs
@@ -60,50 +65,44 @@ put-descr-entry-at-requires t c κs = search needs
 put-descr-put-type-requires : (t : ℕ) → put-descr-lts.Need-put-type-requires (put-descr-told t) (put-descr-at t) put-descr.Post
 put-descr-put-type-requires t c κs = search needs
 
-put-descr-add-t15 : (t : ℕ) → put-descr-lts.Need-add-t15 (put-descr-told t) (put-descr-at t) put-descr.Post
-put-descr-add-t15 t c = let x = c .before .before .before .before .before .before .before .before .before .before .pre .1 in omega (arith, stands-room _ _ _ _ (x .0) (x .1))
+put-descr-add-t16 : (t : ℕ) → put-descr-lts.Need-add-t16 (put-descr-told t) (put-descr-at t) put-descr.Post
+put-descr-add-t16 t c = let x = c .before .before .before .before .before .before .before .before .before .before .before .pre .1 in omega (arith, under-room _ _ _ _ _ (c .before .before .before .before .before .before .before .innermost .ensures) (x .0) (x .1) .1)
 
 put-descr-same-length : (t : ℕ) → put-descr-lts.Need-same-length (put-descr-told t) (put-descr-at t) put-descr.Post
-put-descr-same-length t c = let x = c .before .before .before .before .before .before .before .before .before .before .pre .1 in emits-length _ _ _ _ _ (plain-walked _ _ _ _ _ (c .before .before .before .before .before .before .entry-at .ensures) (c .before .before .before .before .if1 .taken) _ _ _ _ (c .before .before .put-type .ensures) (x .0) (x .1) .emits)
+put-descr-same-length t c = let x = c .before .before .before .before .before .before .before .before .before .before .before .pre .1 in emits-length _ _ _ _ _ (under-walked _ _ _ _ _ (c .before .before .before .before .before .before .before .innermost .ensures) _ _ _ _ (plain-walked _ _ _ _ _ (c .before .before .before .before .before .before .entry-at .ensures) (c .before .before .before .before .if1 .taken) _ _ _ _ (c .before .before .put-type .ensures)) (x .0) (x .1) .emits)
 
 put-descr-returns : (t : ℕ) → put-descr-lts.Need-returns (put-descr-told t) (put-descr-at t) put-descr.Post
-put-descr-returns t c = plain-walked _ _ _ _ _ (c .before .before .before .before .before .before .entry-at .ensures) (c .before .before .before .before .if1 .taken) _ _ _ _ (c .before .before .put-type .ensures)
-
-put-descr-add-put-descr : (t : ℕ) → put-descr-lts.Need-add-put-descr (put-descr-told t) (put-descr-at t) put-descr.Post
-put-descr-add-put-descr t c = let x = c .before .before .before .before .before .before .before .before .pre .1 in omega (arith, stands-room _ _ _ _ (x .0) (x .1))
-
-put-descr-put-descr-requires : (t : ℕ) → put-descr-lts.Need-put-descr-requires (put-descr-told t) (put-descr-at t) put-descr.Post
-put-descr-put-descr-requires t c κs =
-    let x = c .before .before .before .before .before .before .before .before .before .pre .1 in
-    (omega (arith, stands-room _ _ _ _ (x .0) (x .1)), inner-asks _ _ _ _ _ (c .before .before .before .before .before .entry-at .ensures) (c .before .if2 .taken) x)
-
-put-descr-same-length-2 : (t : ℕ) → put-descr-lts.Need-same-length-2 (put-descr-told t) (put-descr-at t) put-descr.Post
-put-descr-same-length-2 t c = let x = c .before .before .before .before .before .before .before .before .before .before .before .before .pre .1 in emits-length _ _ _ _ _ (inner-walked _ _ _ _ _ (c .before .before .before .before .before .before .before .before .entry-at .ensures) (c .before .before .before .before .if2 .taken) _ _ _ _ (c .before .before .put-descr .ensures) (x .0) (x .1) .emits)
-
-put-descr-returns-2 : (t : ℕ) → put-descr-lts.Need-returns-2 (put-descr-told t) (put-descr-at t) put-descr.Post
-put-descr-returns-2 t c = inner-walked _ _ _ _ _ (c .before .before .before .before .before .before .before .before .entry-at .ensures) (c .before .before .before .before .if2 .taken) _ _ _ _ (c .before .before .put-descr .ensures)
+put-descr-returns t c = under-walked _ _ _ _ _ (c .before .before .before .before .before .before .before .innermost .ensures) _ _ _ _ (plain-walked _ _ _ _ _ (c .before .before .before .before .before .before .entry-at .ensures) (c .before .before .before .before .if1 .taken) _ _ _ _ (c .before .before .put-type .ensures))
 
 put-descr-put-requires : (t : ℕ) → put-descr-lts.Need-put-requires (put-descr-told t) (put-descr-at t) put-descr.Post
 put-descr-put-requires t c κs = search needs
 
 put-descr-add-put-fields : (t : ℕ) → put-descr-lts.Need-add-put-fields (put-descr-told t) (put-descr-at t) put-descr.Post
-put-descr-add-put-fields t c = let x = c .before .before .before .before .before .before .before .before .before .before .before .before .pre .1 in omega (arith, stands-room _ _ _ _ (x .0) (x .1))
+put-descr-add-put-fields t c = let x = c .before .before .before .before .before .before .before .before .before .before .before .pre .1 in omega (arith, under-room _ _ _ _ _ (c .before .before .before .before .before .before .before .innermost .ensures) (x .0) (x .1) .1)
 
 put-descr-put-fields-requires : (t : ℕ) → put-descr-lts.Need-put-fields-requires (put-descr-told t) (put-descr-at t) put-descr.Post
 put-descr-put-fields-requires t c κs =
-    let x = c .before .before .before .before .before .before .before .before .before .before .before .before .before .pre .1 in
-    (omega (arith, stands-room _ _ _ _ (x .0) (x .1)), fields-asks _ _ _ _ _ (c .before .before .before .before .before .before .before .before .before .entry-at .ensures) (c .before .before .before .before .before .before .before .if1 .left) (c .before .before .before .before .before .if2 .left) x)
+    let x = c .before .before .before .before .before .before .before .before .before .before .before .before .pre .1 in
+    let under = c .before .before .before .before .before .before .before .before .innermost .ensures in
+    let r = under-room _ _ _ _ _ under (x .0) (x .1) in
+    (omega (arith, r .0, r .1), under-asks _ _ _ _ _ under _ (c .before .before .before .before .before .before .before .entry-at .ensures) (c .before .before .before .before .before .if1 .left) x)
 
 put-descr-put-requires-2 : (t : ℕ) → put-descr-lts.Need-put-requires-2 (put-descr-told t) (put-descr-at t) put-descr.Post
 put-descr-put-requires-2 t c κs = search needs
 
-put-descr-same-length-3 : (t : ℕ) → put-descr-lts.Need-same-length-3 (put-descr-told t) (put-descr-at t) put-descr.Post
-put-descr-same-length-3 t c =
-    let x = c .before .before .before .before .before .before .before .before .before .before .before .before .before .before .before .before .before .before .before .before .pre .1 in
-    emits-length _ _ _ _ _ (record-walked _ _ _ _ _ (c .before .before .before .before .before .before .before .before .before .before .before .before .before .before .before .before .entry-at .ensures) (c .before .before .before .before .before .before .before .before .before .before .before .before .before .before .if1 .left) (c .before .before .before .before .before .before .before .before .before .before .before .before .if2 .left) _ _ _ _ _ _ _ _ (c .before .before .before .before .before .before .before .before .before .before .put .ensures) (c .before .before .before .before .before .before .put-fields .ensures) (c .before .before .put2 .ensures) (x .0) (x .1) .emits)
+put-descr-same-length-2 : (t : ℕ) → put-descr-lts.Need-same-length-2 (put-descr-told t) (put-descr-at t) put-descr.Post
+put-descr-same-length-2 t c =
+    let x = c .before .before .before .before .before .before .before .before .before .before .before .before .before .before .before .before .before .before .before .pre .1 in
+    let under = c .before .before .before .before .before .before .before .before .before .before .before .before .before .before .before .innermost .ensures in
+    let entry = c .before .before .before .before .before .before .before .before .before .before .before .before .before .before .entry-at .ensures in
+    emits-length _ _ _ _ _ (under-walked _ _ _ _ _ under _ _ _ _ (record-walked _ _ _ _ _ entry (c .before .before .before .before .before .before .before .before .before .before .before .before .if1 .left) (under-record _ _ _ under _ entry (x .0) (x .1 .listed)) _ _ _ _ _ _ _ _ (c .before .before .before .before .before .before .before .before .before .before .put .ensures) (c .before .before .before .before .before .before .put-fields .ensures) (c .before .before .put2 .ensures)) (x .0) (x .1) .emits)
 
-put-descr-returns-3 : (t : ℕ) → put-descr-lts.Need-returns-3 (put-descr-told t) (put-descr-at t) put-descr.Post
-put-descr-returns-3 t c = record-walked _ _ _ _ _ (c .before .before .before .before .before .before .before .before .before .before .before .before .before .before .before .before .entry-at .ensures) (c .before .before .before .before .before .before .before .before .before .before .before .before .before .before .if1 .left) (c .before .before .before .before .before .before .before .before .before .before .before .before .if2 .left) _ _ _ _ _ _ _ _ (c .before .before .before .before .before .before .before .before .before .before .put .ensures) (c .before .before .before .before .before .before .put-fields .ensures) (c .before .before .put2 .ensures)
+put-descr-returns-2 : (t : ℕ) → put-descr-lts.Need-returns-2 (put-descr-told t) (put-descr-at t) put-descr.Post
+put-descr-returns-2 t c =
+    let x = c .before .before .before .before .before .before .before .before .before .before .before .before .before .before .before .before .before .before .before .pre .1 in
+    let under = c .before .before .before .before .before .before .before .before .before .before .before .before .before .before .before .innermost .ensures in
+    let entry = c .before .before .before .before .before .before .before .before .before .before .before .before .before .before .entry-at .ensures in
+    under-walked _ _ _ _ _ under _ _ _ _ (record-walked _ _ _ _ _ entry (c .before .before .before .before .before .before .before .before .before .before .before .before .if1 .left) (under-record _ _ _ under _ entry (x .0) (x .1 .listed)) _ _ _ _ _ _ _ _ (c .before .before .before .before .before .before .before .before .before .before .put .ensures) (c .before .before .before .before .before .before .put-fields .ensures) (c .before .before .put2 .ensures))
 
 abbrev put-fields-Inv-loop : put-fields-lts.InvT-loop
 put-fields-Inv-loop table names count e b out₀ at c₀ start₀ p₀ left₀ out c start p left =
@@ -175,12 +174,12 @@ put-fields-returns t c = λ fs n s. let l = c .before .loop in going-end _ _ _ _
 
 pub +put-descr+put-fields-spec : {M : Type 1} → statement M
 +put-descr+put-fields-spec = close μ-put-descr μ-put-fields (λ t. put-descr-lts.spec (
+  innermost-reads.Asked,
+  innermost-reads.Learnt,
   entry-at-reads.Asked,
   entry-at-reads.Learnt,
   put-type-reads.Asked,
   put-type-reads.Learnt,
-  put-descr-below t,
-  put-descr.Post,
   put-reads.Asked,
   put-reads.Learnt,
   put-fields-below t,
@@ -188,21 +187,18 @@ pub +put-descr+put-fields-spec : {M : Type 1} → statement M
 )
     (put-descr-at t)
     put-descr.Post
+    (put-descr-innermost-requires t)
     (put-descr-entry-at-requires t)
     (put-descr-put-type-requires t)
-    (put-descr-add-t15 t)
+    (put-descr-add-t16 t)
     (put-descr-same-length t)
     (put-descr-returns t)
-    (put-descr-add-put-descr t)
-    (put-descr-put-descr-requires t)
-    (put-descr-same-length-2 t)
-    (put-descr-returns-2 t)
     (put-descr-put-requires t)
     (put-descr-add-put-fields t)
     (put-descr-put-fields-requires t)
     (put-descr-put-requires-2 t)
-    (put-descr-same-length-3 t)
-    (put-descr-returns-3 t))
+    (put-descr-same-length-2 t)
+    (put-descr-returns-2 t))
     λ t. put-fields-lts.spec (
       entry-at-reads.Asked,
       entry-at-reads.Learnt,

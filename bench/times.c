@@ -1,0 +1,283 @@
+// Times the proved library against the plain C reader, in one process and in turns, and measures the library's stack.
+//
+//     times FOLDER         the files of bench/inputs.py, named in FOLDER/names.txt
+//
+// Writes lines `WHO WHAT INPUT NUMBER`: the median of nanoseconds for one call (`ours`, `plain`), the median of the pairs' ratios (`ratio`), that of an input of 128 KiB to the one of
+// 64 KiB, which stands before it (`doubled`), bytes of stack (`stack`), or what was found (`bytes`, `entries`, `refused`). Time is the thread's own on the processor. The two readers must give the same answer and the same rooms, or the exit status is 1.
+#define _GNU_SOURCE
+#include "../include/npy.h"
+#include "plain.h"
+
+#include <pthread.h>
+#include <stdbool.h>
+#include <stdio.h>
+#include <stdlib.h>
+#include <string.h>
+#include <sys/mman.h>
+#include <time.h>
+
+enum { PAIRS = 41, SAMPLE_NS = 2000000, MOST_FILE = 200000, MOST_NUMBERS = 9 * 512, MOST_NAMES = 65536, MOST_RANK = 32, PLACES = 1000, STACK = 262144, PAINT = 0xA5 };
+
+// A file, and the record that was read of it.
+struct input {
+    char name[32];
+    uint8_t file[MOST_FILE];
+    size_t length;
+    uint8_t refusal, names[MOST_NAMES];
+    uint64_t table[MOST_NUMBERS], shape[MOST_RANK], said[6];
+};
+
+struct question {
+    uint64_t index[MOST_RANK], path[512];
+    size_t length;
+};
+
+// A call that is timed, of an input.
+typedef void call(struct input *in);
+
+static struct question asked[PLACES];
+static uint64_t table[MOST_NUMBERS], shape[MOST_RANK], said[6], written, run[6];
+static uint8_t names[MOST_NAMES], out[MOST_FILE];
+static unsigned sink;
+
+static void read_ours(struct input *in)
+{
+    sink += npy_read(in->file, in->length, table, MOST_NUMBERS, names, MOST_NAMES, shape, MOST_RANK, said);
+}
+
+static void read_plain(struct input *in)
+{
+    sink += plain_read(in->file, in->length, table, MOST_NUMBERS, names, MOST_NAMES, shape, MOST_RANK, said);
+}
+
+static void write_ours(struct input *in)
+{
+    sink += npy_write_header(in->table, 9 * in->said[3], in->names, in->said[4], in->shape, in->said[2], (uint8_t)in->said[1], out, MOST_FILE, &written);
+}
+
+// The k-th question for a place: the item k in C order, and a path to a plain type. Of a record whose first field is a record, or that has one field alone, that field is taken, and
+// else field k; of an array its item k; round and round.
+static void question(const struct input *in, uint64_t k, struct question *q)
+{
+    uint64_t item = k;
+    size_t e = 0;
+    for (size_t d = in->said[2]; d-- > 0; item /= in->shape[d])
+        q->index[d] = item % in->shape[d];
+    for (q->length = 0; in->table[9 * e + 1] != 0; q->length++) {
+        const uint64_t *entry = in->table + 9 * e++;
+        uint64_t chosen = entry[4] ? k % entry[4] : 0;
+        if (entry[1] == 2 && entry[10] == 2)
+            chosen = 0;
+        for (uint64_t field = 0; entry[1] == 2 && field < chosen; field++)
+            e += in->table[9 * e + 6];
+        q->path[q->length] = chosen;
+    }
+}
+
+static uint8_t place_ours(struct input *in, const struct question *q)
+{
+    return npy_place(UINT64_MAX, in->said[5], in->table, 9 * in->said[3], in->names, in->said[4], in->shape, in->said[2], (uint8_t)in->said[1], q->index, in->said[2], q->path, q->length, run);
+}
+
+static void places_ours(struct input *in)
+{
+    for (size_t k = 0; k < PLACES; k++)
+        sink += place_ours(in, &asked[k]);
+}
+
+static double now(void)
+{
+    struct timespec t;
+    clock_gettime(CLOCK_THREAD_CPUTIME_ID, &t);
+    return 1e9 * (double)t.tv_sec + (double)t.tv_nsec;
+}
+
+// Nanoseconds for one call, of so many.
+static double sample(call *one, struct input *in, long times)
+{
+    double from = now();
+    for (long i = 0; i < times; i++)
+        one(in);
+    return (now() - from) / (double)times;
+}
+
+// How many calls fill a sample.
+static long calls(call *one, struct input *in)
+{
+    long times = 1;
+    while (sample(one, in, times) * (double)times < SAMPLE_NS)
+        times *= 2;
+    return times;
+}
+
+static int compare(const void *a, const void *b)
+{
+    double x = *(const double *)a, y = *(const double *)b;
+    return (x > y) - (x < y);
+}
+
+static double median(double *of)
+{
+    qsort(of, PAIRS, sizeof *of, compare);
+    return of[PAIRS / 2];
+}
+
+static void time_alone(const char *what, call *one, struct input *in)
+{
+    double found[PAIRS];
+    long times = calls(one, in);
+    for (int i = 0; i < PAIRS; i++)
+        found[i] = sample(one, in, times);
+    printf("ours %s %s %.1f\n", what, in->name, median(found));
+}
+
+static void time_pair(struct input *in)
+{
+    double ours[PAIRS], plain[PAIRS], ratio[PAIRS];
+    long of_ours = calls(read_ours, in), of_plain = calls(read_plain, in);
+    for (int i = 0; i < PAIRS; i++) {
+        if (i % 2)
+            plain[i] = sample(read_plain, in, of_plain);
+        ours[i] = sample(read_ours, in, of_ours);
+        if (i % 2 == 0)
+            plain[i] = sample(read_plain, in, of_plain);
+        ratio[i] = ours[i] / plain[i];
+    }
+    printf("ours read %s %.1f\nplain read %s %.1f\nratio read %s %.3f\n", in->name, median(ours), in->name, median(plain), in->name, median(ratio));
+}
+
+// An input and the one that has twice its text, in turns.
+static void time_doubled(struct input *half, struct input *whole)
+{
+    double ratio[PAIRS];
+    long of_half = calls(read_ours, half), of_whole = calls(read_ours, whole);
+    for (int i = 0; i < PAIRS; i++) {
+        double time = sample(read_ours, half, of_half);
+        ratio[i] = sample(read_ours, whole, of_whole) / time;
+    }
+    printf("doubled read %s %.3f\n", whole->name, median(ratio));
+}
+
+static void fail(const char *why, const char *name)
+{
+    fprintf(stderr, "times: %s: %s\n", name, why);
+    exit(1);
+}
+
+// Reads the file by both readers, into rooms of fives, and keeps what was read.
+static void read_both(struct input *in)
+{
+    uint8_t refusal;
+    memset(table, 5, sizeof table);
+    memset(names, 5, sizeof names);
+    memset(shape, 5, sizeof shape);
+    memset(said, 5, sizeof said);
+    memcpy(in->table, table, sizeof table);
+    memcpy(in->names, names, sizeof names);
+    memcpy(in->shape, shape, sizeof shape);
+    memcpy(in->said, said, sizeof said);
+    in->refusal = npy_read(in->file, in->length, in->table, MOST_NUMBERS, in->names, MOST_NAMES, in->shape, MOST_RANK, in->said);
+    refusal = plain_read(in->file, in->length, table, MOST_NUMBERS, names, MOST_NAMES, shape, MOST_RANK, said);
+    if (refusal != in->refusal || memcmp(table, in->table, sizeof table) || memcmp(names, in->names, sizeof names) || memcmp(shape, in->shape, sizeof shape) || memcmp(said, in->said, sizeof said))
+        fail("the readers differ", in->name);
+    printf("found bytes %s %zu\nfound refused %s %d\n", in->name, in->length, in->name, in->refusal);
+    if (!refusal)
+        printf("found entries %s %zu\n", in->name, (size_t)in->said[3]);
+}
+
+// The stack that a call takes: a thread's stack is painted, and what is no longer painted afterwards was used. A thread that calls nothing is subtracted.
+
+struct called {
+    call *one;
+    struct input *in;
+};
+
+static void *in_thread(void *given)
+{
+    struct called *c = given;
+    if (c->one)
+        c->one(c->in);
+    return NULL;
+}
+
+static size_t touched(call *one, struct input *in)
+{
+    struct called c = { one, in };
+    pthread_attr_t attr;
+    pthread_t thread;
+    size_t at = 0;
+    uint8_t *stack = mmap(NULL, STACK, PROT_READ | PROT_WRITE, MAP_PRIVATE | MAP_ANONYMOUS, -1, 0);
+    if (stack == MAP_FAILED)
+        fail("no memory", in->name);
+    memset(stack, PAINT, STACK);
+    if (pthread_attr_init(&attr) || pthread_attr_setstack(&attr, stack, STACK) || pthread_create(&thread, &attr, in_thread, &c) || pthread_join(thread, NULL))
+        fail("no thread", in->name);
+    while (at < STACK && stack[at] == PAINT)
+        at++;
+    munmap(stack, STACK);
+    return STACK - at;
+}
+
+static void stack_of(const char *what, call *one, struct input *in)
+{
+    size_t alone, with;
+    one(in);
+    alone = touched(NULL, in);
+    with = touched(one, in);
+    printf("stack %s %s %zu\n", what, in->name, with > alone ? with - alone : 0);
+}
+
+// All that is asked of one input.
+static void measure(struct input *in)
+{
+    read_both(in);
+    time_pair(in);
+    stack_of("read", read_ours, in);
+    stack_of("plain", read_plain, in);
+    if (in->refusal)
+        return;
+    sink = 0;
+    write_ours(in);
+    if (sink)
+        fail("not written", in->name);
+    time_alone("write", write_ours, in);
+    stack_of("write", write_ours, in);
+    for (uint64_t k = 0; k < PLACES; k++)
+        question(in, k, &asked[k]);
+    places_ours(in);
+    if (sink) {
+        // an empty array has no places
+        if (place_ours(in, &asked[0]) != 26)
+            fail("no place", in->name);
+        return;
+    }
+    time_alone("places", places_ours, in);
+    stack_of("places", places_ours, in);
+}
+
+int main(int argc, char **argv)
+{
+    // one input, and the one before it
+    static struct input held[2];
+    char path[4096];
+    FILE *list = NULL, *file;
+    if (argc == 2) {
+        snprintf(path, sizeof path, "%s/names.txt", argv[1]);
+        list = fopen(path, "r");
+    }
+    if (!list)
+        fail("times FOLDER", "usage");
+    for (int n = 0; fscanf(list, "%31s", held[n % 2].name) == 1; n++) {
+        struct input *in = &held[n % 2], *before = &held[1 - n % 2];
+        snprintf(path, sizeof path, "%s/%s.npy", argv[1], in->name);
+        if (!(file = fopen(path, "rb")))
+            fail("not there", in->name);
+        in->length = fread(in->file, 1, MOST_FILE, file);
+        fclose(file);
+        measure(in);
+        if (strstr(in->name, "128") && strstr(before->name, "64"))
+            time_doubled(before, in);
+    }
+    fclose(list);
+    return 0;
+}

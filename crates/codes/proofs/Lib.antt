@@ -1,0 +1,3 @@
+mod Told
+mod Given
+pub mod Outcomes

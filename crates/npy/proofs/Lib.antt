@@ -1,0 +1,3 @@
+mod Given
+mod Putting
+pub mod Outcomes

@@ -1,0 +1,30 @@
+-- What goes to a room, told in C: as crate slice and crate element owe it, or, where what a caller's numbers name is refused, nothing. Assumes nothing.
+use Prim.Native.Nat.{ℕ}
+use mathlib.Core.Path.{_≡_, ap, _∙_}
+use mathlib.Core.List.{List}
+use lib.ListN.{length}
+use Rattle.counts.specs.Outcome.{Outcome, gives, refused, then, each}
+use Rattle.strings.specs.Rooms.{after, Owes}
+use Rattle.codes.specs.Codes.{code, left, Tells, alone}
+use Rattle.npy.specs.Calls.{Puts}
+use Rattle.npy.proofs.Given.{retold}
+
+module _ {A : Type 0} {given : Outcome A} (next : A → Outcome (List ℕ)) where
+  pub then-put : {a : A} {answer : Outcome ℕ} {room room′ count count′ : List ℕ} {r : ℕ}
+      → gives a ≡ given → Owes (next a) room answer room′ → Tells alone answer count r count′ → Puts (then given next) room count r room′ count′
+  then-put {room = room} is owes tells =
+      record {
+        told = retold (owes .answered ∙ ap (λ (g : Outcome A). each length (then g next)) is) tells;
+        room-after = owes .room-after ∙ ap (λ (g : Outcome A). after room (then g next)) is;
+      }
+
+  pub none-put : {room count : List ℕ} {n : ℕ} → refused n ≡ given → Puts (then given next) room count n room count
+  none-put {room = room} {count = count} is =
+      record {
+        told =
+            record {
+              answered = ap (λ (g : Outcome A). code (each length (then g next))) is;
+              after = ap (λ (g : Outcome A). left alone (each length (then g next)) count) is;
+            };
+        room-after = ap (λ (g : Outcome A). after room (then g next)) is;
+      }

@@ -1,0 +1,50 @@
+-- What is given, and then what goes to the room. Assumes nothing.
+use Rattle.counts.specs.Outcome.{then}
+use Rattle.counts.proofs.OneOutcome.{told}
+use Rattle.table.specs.Answer.{typeAnswer}
+use Rattle.strings.specs.Rooms.{readPoints}
+use Rattle.npy.proofs.Putting.{then-put, none-put}
+use borrow.Author.Needs.{needs}
+use Rattle.npy.proofs.npy_read_points.Statement.{statement}
+use Rattle.npy.proofs.npy_read_points.Tie as tie
+
+type-for-requires : tie.Need-type-for-requires
+type-for-requires c κs = search needs
+
+enum-known-t : tie.Need-enum-known-t
+enum-known-t c = search needs
+
+enum-told : tie.Need-enum-told
+enum-told c = search needs
+
+returns : tie.Need-returns
+returns c =
+    let a = c .before .before .before .before .before .args in
+    none-put (λ t. readPoints t (a .run .now) (a .out .now)) (told typeAnswer (c .before .before .type-for .ensures) (c .enum-told .given .1))
+
+read-points-requires : tie.Need-read-points-requires
+read-points-requires c κs = search needs
+
+tell-points-requires : tie.Need-tell-points-requires
+tell-points-requires c κs = search needs
+
+same-length : tie.Need-same-length
+same-length c = search needs
+
+returns-2 : tie.Need-returns-2
+returns-2 c =
+    let a = c .before .before .before .before .before .before .before .before .before .before .before .before .args in
+    then-put (λ t. readPoints t (a .run .now) (a .out .now)) (told typeAnswer (c .before .before .before .before .before .before .before .before .before .type-for .ensures) (c .before .before .before .before .before .before .before .t .given .1)) (c .before .before .before .before .read-points .ensures) (c .tell-points .ensures)
+
+pub npy-read-points-spec : {M : Type 1} → statement M
+npy-read-points-spec =
+    tie.close
+    (tie.spec
+    type-for-requires
+    enum-known-t
+    enum-told
+    returns
+    read-points-requires
+    tell-points-requires
+    same-length
+    returns-2)

@@ -1,0 +1,36 @@
+-- The answer told, and the rooms as the reader left them. Assumes nothing.
+use Rattle.counts.proofs.OneOutcome.{told}
+use Rattle.npy.proofs.Given.{retold}
+use borrow.Author.Needs.{needs}
+use Rattle.npy.proofs.npy_read_text.Statement.{statement}
+use Rattle.npy.proofs.npy_read_text.Tie as tie
+
+read-text-requires : tie.Need-read-text-requires
+read-text-requires c κs = search needs
+
+tell-text-requires : tie.Need-tell-text-requires
+tell-text-requires c κs = search needs
+
+same-length : tie.Need-same-length
+same-length c = search needs
+
+same-length-2 : tie.Need-same-length-2
+same-length-2 c = search needs
+
+same-length-3 : tie.Need-same-length-3
+same-length-3 c = search needs
+
+returns : tie.Need-returns
+returns c =
+    record { told = retold (c .before .before .before .before .before .before .before .before .read-text .ensures .answered) (c .tell-text .ensures); rooms = c .before .before .before .before .before .before .before .before .read-text .ensures .after }
+
+pub npy-read-text-spec : {M : Type 1} → statement M
+npy-read-text-spec =
+    tie.close
+    (tie.spec
+    read-text-requires
+    tell-text-requires
+    same-length
+    same-length-2
+    same-length-3
+    returns)

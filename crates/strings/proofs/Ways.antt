@@ -1,0 +1,186 @@
+-- The four functions by the kind of the type: what each owes where it ends. Assumes nothing.
+use Prim.Native.Nat.{ℕ, _^_, _<_, _≤_}
+use native.Mathlib.Omega.{arith}
+use mathlib.Core.Path.{_≡_, refl, sym, ap, _∙_}
+use mathlib.Core.Bool.{true, false}
+use mathlib.Core.List.{List, [], _++_}
+use lib.ListN.{length, take, drop}
+use borrow.Author.Tests.{lt-ltb, le-ltb, eq-eqb, ne-eqb}
+use Rattle.counts.specs.Outcome.{Outcome, gives, refused, then, each}
+use Rattle.counts.specs.Number.{number}
+use Rattle.counts.specs.Counts.{bytes}
+use Rattle.counts.specs.declared.Number.{Number}
+use Rattle.counts.specs.declared.Bytes.{Bytes}
+use Rattle.counts.specs.declared.ByteCount.{ByteCount}
+use Rattle.counts.proofs.Fits.{number-is-back, number-over-back}
+use Rattle.counts.proofs.Alike.{true-false}
+use Rattle.spelling.specs.Classes.{isUnicode}
+use Rattle.type_str.specs.Text.{isType}
+use Rattle.spelling.specs.declared.Endianness.{Endianness}
+use Rattle.spelling.specs.declared.TypeChar.{TypeChar}
+use Rattle.spelling.specs.declared.TypeChar.the-variants.{Bool as Boolean, Int, Uint, Float as Floating, Complex, TimeDelta, DateTime, ByteStr, UnicodeStr, Object, RawData}
+use Rattle.type_str.specs.declared.TypeStr.{TypeStr}
+use Rattle.strings.specs.Elements.{kindOf, trimmed, bytesIn, points, pointsIn, found}
+use Rattle.strings.specs.Runs.{filled, bytesOut, allScalars, pointBytes, pointsOut}
+use Rattle.strings.specs.Rooms.{roomed, readBytes, readPoints, writeBytes, writePoints, Owes}
+use Rattle.strings.specs.declared.Kind.{Kind}
+use Rattle.strings.proofs.Trims.{trim-take, trim-length}
+use Rattle.strings.proofs.Scalars.{apart}
+use Rattle.strings.proofs.Places.{filled-exact, owes-same, owes-short, owes-whole}
+
+-- ---- U and no other letter has code points
+unicode-kind : (l : TypeChar) → isUnicode l ≡ true → kindOf l ≡ Kind.UnicodeStr
+unicode-kind Boolean h = true-false (sym h)
+unicode-kind Int h = true-false (sym h)
+unicode-kind Uint h = true-false (sym h)
+unicode-kind Floating h = true-false (sym h)
+unicode-kind Complex h = true-false (sym h)
+unicode-kind TimeDelta h = true-false (sym h)
+unicode-kind DateTime h = true-false (sym h)
+unicode-kind ByteStr h = true-false (sym h)
+unicode-kind UnicodeStr h = refl
+unicode-kind Object h = true-false (sym h)
+unicode-kind RawData h = true-false (sym h)
+
+-- what each kind but U says is the same
+other-kind : {A : Type 0} (f : Kind → A) (a : A) → f Kind.ByteStr ≡ a → f Kind.RawData ≡ a → f Kind.Other ≡ a → (l : TypeChar) → isUnicode l ≡ false → a ≡ f (kindOf l)
+other-kind f a s v o Boolean h = sym o
+other-kind f a s v o Int h = sym o
+other-kind f a s v o Uint h = sym o
+other-kind f a s v o Floating h = sym o
+other-kind f a s v o Complex h = sym o
+other-kind f a s v o TimeDelta h = sym o
+other-kind f a s v o DateTime h = sym o
+other-kind f a s v o ByteStr h = sym s
+other-kind f a s v o UnicodeStr h = true-false h
+other-kind f a s v o Object h = sym o
+other-kind f a s v o RawData h = sym v
+
+-- ---- reading
+pub read-bytes-by : (t : TypeStr) (run room : List ℕ) (kind : Kind) → kind ≡ kindOf (t .letter) → then (bytesIn kind run) (roomed 23 room) ≡ readBytes t run room
+unfolding readBytes
+read-bytes-by t run room kind e = ap (λ (k : Kind). then (bytesIn k run) (roomed 23 room)) e
+
+-- what was judged tells what was found
+judged-bad : {A : Type 0} (f : List ℕ → A) (o : Outcome (List ℕ)) (n : ℕ) → refused n ≡ each f o → o ≡ refused n
+judged-bad f (gives ps) n e = apart (sym e)
+judged-bad f (refused m) n e = cc
+
+judged-found : {A : Type 0} (f : List ℕ → A) (o : Outcome (List ℕ)) (k : A) → gives k ≡ each f o → (o ≡ gives (found o)) × (k ≡ f (found o))
+judged-found f (gives ps) k e = (refl, cc)
+judged-found f (refused m) k e = apart e
+
+module _ (t : TypeStr) (run room : List ℕ) where
+  pub read-points-none : isUnicode (t .letter) ≡ false → refused 26 ≡ readPoints t run room
+  unfolding readPoints
+  read-points-none h = other-kind (λ k. then (pointsIn k (t .order) run) (roomed 23 room)) (refused 26) refl refl refl (t .letter) h
+
+  module _ (u : isUnicode (t .letter) ≡ true) where
+    in-points : then (each trimmed (points (t .order) run)) (roomed 23 room) ≡ readPoints t run room
+    unfolding readPoints
+    in-points = ap (λ (k : Kind). then (pointsIn k (t .order) run) (roomed 23 room)) (sym (unicode-kind (t .letter) u))
+
+    pub read-points-bad : refused 29 ≡ each (λ (ps : List ℕ). length (trimmed ps)) (points (t .order) run) → refused 29 ≡ readPoints t run room
+    read-points-bad j =
+        sym (ap (λ (o : Outcome (List ℕ)). then (each trimmed o) (roomed 23 room)) (judged-bad (λ ps. length (trimmed ps)) (points (t .order) run) 29 j)) ∙ in-points
+
+    module _ (k : ℕ) (j : gives k ≡ each (λ (ps : List ℕ). length (trimmed ps)) (points (t .order) run)) where
+      left-of : k ≡ length (trimmed (found (points (t .order) run)))
+      left-of = judged-found (λ ps. length (trimmed ps)) (points (t .order) run) k j .1
+
+      pub read-points-inside : k ≤ length (found (points (t .order) run))
+      read-points-inside = omega (arith, left-of, trim-length (found (points (t .order) run)))
+
+      in-room : roomed 23 room (trimmed (found (points (t .order) run))) ≡ readPoints t run room
+      in-room =
+          sym (ap (λ (o : Outcome (List ℕ)). then (each trimmed o) (roomed 23 room)) (judged-found (λ ps. length (trimmed ps)) (points (t .order) run) k j .0)) ∙ in-points
+
+      pub read-points-short : length room < k → Owes (readPoints t run room) room (refused 23) room
+      read-points-short h = owes-same _ _ _ _ _ in-room (owes-short 23 room (trimmed (found (points (t .order) run))) (omega (arith, left-of)))
+
+      pub read-points-whole : (answer : Outcome ℕ) (out : List ℕ) → k ≤ length room → answer ≡ gives k → out ≡ take k (found (points (t .order) run)) ++ drop k room
+          → Owes (readPoints t run room) room answer out
+      read-points-whole answer out h a e =
+          let ps = found (points (t .order) run) in
+          let o : out ≡ trimmed ps ++ drop (length (trimmed ps)) room =
+          e ∙ ap (λ (n : ℕ). take n ps ++ drop n room) left-of ∙ ap (λ (l : List ℕ). l ++ drop (length (trimmed ps)) room) (trim-take ps) in
+          owes-same _ _ _ _ _ in-room
+          (rw (a, o) (owes-whole 23 room (trimmed ps) k (omega (arith, left-of)) left-of))
+
+-- ---- writing bytes
+module _ (t : TypeStr) (value room : List ℕ) where
+  pub write-bytes-none : isType t ≡ false → refused 27 ≡ writeBytes t value room
+  unfolding writeBytes
+  write-bytes-none h = rw (writeBytes, h)
+
+  pub write-points-none : isType t ≡ false → refused 27 ≡ writePoints t value room
+  unfolding writePoints
+  write-points-none h = rw (writePoints, h)
+
+  module _ (h : isType t ≡ true) where
+    pub write-bytes-by : (kind : Kind) (put : Outcome (List ℕ)) → kind ≡ kindOf (t .letter) → bytesOut kind (t .size) value ≡ put → then put (roomed 28 room) ≡ writeBytes t value room
+    unfolding writeBytes
+    write-bytes-by kind put e p =
+        rw (writeBytes, h) (ap (λ (o : Outcome (List ℕ)). then o (roomed 28 room)) (sym p) ∙ ap (λ (k : Kind). then (bytesOut k (t .size) value) (roomed 28 room)) e)
+
+    pub write-points-other : isUnicode (t .letter) ≡ false → refused 26 ≡ writePoints t value room
+    unfolding writePoints pointsOut
+    write-points-other u = rw (writePoints, h) (other-kind (λ k. then (pointsOut k (t .order) (t .size) value) (roomed 28 room)) (refused 26) refl refl refl (t .letter) u)
+
+    pub write-points-by : (put : Outcome (List ℕ)) → isUnicode (t .letter) ≡ true → pointsOut Kind.UnicodeStr (t .order) (t .size) value ≡ put → then put (roomed 28 room) ≡ writePoints t value room
+    unfolding writePoints
+    write-points-by put u p =
+        rw (writePoints, h) (ap (λ (o : Outcome (List ℕ)). then o (roomed 28 room)) (sym p) ∙ ap (λ (k : Kind). then (pointsOut k (t .order) (t .size) value) (roomed 28 room)) (sym (unicode-kind (t .letter) u)))
+
+-- ---- the run of a value
+module _ (size : ℕ) (value : List ℕ) where
+  pub bytes-none : (bytesOut Kind.UnicodeStr size value ≡ refused 26) × (bytesOut Kind.Other size value ≡ refused 26)
+  unfolding bytesOut
+  bytes-none = (refl, refl)
+
+  pub bytes-long : size < length value → bytesOut Kind.ByteStr size value ≡ refused 30
+  unfolding bytesOut
+  bytes-long h = rw (lt-ltb size (length value) h)
+
+  pub bytes-fit : length value ≤ size → bytesOut Kind.ByteStr size value ≡ gives (filled size value)
+  unfolding bytesOut
+  bytes-fit h = rw (le-ltb size (length value) h)
+
+  pub raw-other : (size ≡ length value → ⊥) → bytesOut Kind.RawData size value ≡ refused 30
+  unfolding bytesOut
+  raw-other h = rw (ne-eqb size (length value) h)
+
+  pub raw-fit : size ≡ length value → bytesOut Kind.RawData size value ≡ gives (filled size value)
+  unfolding bytesOut
+  raw-fit h = rw (eq-eqb size (length value) h, filled-exact size value h)
+
+  module _ (order : Endianness) where
+    pub points-bad : allScalars value ≡ false → pointsOut Kind.UnicodeStr order size value ≡ refused 29
+    unfolding pointsOut
+    points-bad s = rw s
+
+    pub points-long : allScalars value ≡ true → size < length value → pointsOut Kind.UnicodeStr order size value ≡ refused 30
+    unfolding pointsOut
+    points-long s h = rw (s, lt-ltb size (length value) h)
+
+    pub points-fit : allScalars value ≡ true → length value ≤ size → pointsOut Kind.UnicodeStr order size value ≡ gives (pointBytes order (filled size value) [])
+    unfolding pointsOut
+    points-fit s h = rw (s, le-ltb size (length value) h)
+
+-- ---- a count of bytes that fits, and one that does not
+pub bytes-over : (n : ℕ) → bytes (number n) ≡ ByteCount.Over → 2 ^ 64 ≤ n
+bytes-over n e = go (number n) refl e
+  where
+    go : (m : Number) → number n ≡ m → bytes m ≡ ByteCount.Over → 2 ^ 64 ≤ n
+    go (Number.Is k) r b = let z : _≡_ {A = ℕ} 0 1 = cc in absurd (omega arith)
+    go Number.Over r b = number-over-back n r
+
+pub bytes-is : (n : ℕ) (b : Bytes) → bytes (number n) ≡ ByteCount.Is b → n ≡ b .0
+bytes-is n b e = go (number n) refl e
+  where
+    same : (k : ℕ) → bytes (Number.Is k) ≡ ByteCount.Is b → k ≡ b .0
+    same k e = cc
+
+    go : (m : Number) → number n ≡ m → bytes m ≡ ByteCount.Is b → n ≡ b .0
+    go (Number.Is k) r b = number-is-back n k r .0 ∙ same k b
+    go Number.Over r b = let z : _≡_ {A = ℕ} 0 1 = cc in absurd (omega arith)

@@ -1,0 +1,190 @@
+/* Calls every function of include/npy.h with an answer and with a refusal, and looks at all that was lent, before and after. Exit status 1 where one of them surprises. */
+#include "../../include/npy.h"
+#include <stdio.h>
+#include <string.h>
+
+static int asked, wrong;
+
+static void is(int holds, const char *what, int line) {
+    asked++;
+    if (!holds) {
+        wrong++;
+        printf("line %d: %s\n", line, what);
+    }
+}
+#define IS(x) is((x), #x, __LINE__)
+
+/* The rooms of one call, filled with marks so that a byte written by mistake shows. */
+static struct rooms {
+    uint64_t table[NPY_MOST_ENTRIES * NPY_ENTRY], shape[NPY_MOST_RANK], said[6], strides[NPY_MOST_RANK];
+    uint8_t names[256], out[1024];
+    uint32_t points[16];
+} now, marks;
+
+static void mark(void) {
+    memset(&marks, 0xA5, sizeof marks);
+    now = marks;
+}
+static int untouched(void) { return memcmp(&now, &marks, sizeof now) == 0; }
+
+/* Document 01's header of 80 bytes: three <i4 in C order. */
+static size_t small(uint8_t file[96]) {
+    memcpy(file, "\x93NUMPY\x01\x00\x46\x00", 10);
+    memset(file + 10, ' ', 70);
+    memcpy(file + 10, "{'descr': '<i4', 'fortran_order': False, 'shape': (3, ), }", 58);
+    file[79] = '\n';
+    memset(file + 80, 7, 16);
+    return 80;
+}
+
+static uint8_t read_into(const uint8_t *file, size_t n) {
+    return npy_read(file, n, now.table, NPY_MOST_ENTRIES * NPY_ENTRY, now.names, sizeof now.names, now.shape, NPY_MOST_RANK, now.said);
+}
+
+static void reading(void) {
+    uint8_t file[96];
+    size_t n = small(file);
+    const uint64_t entry[NPY_ENTRY] = {0, 0, '<', 'i', 4, 0, 1, 4, 0}, said[6] = {1, 0, 1, 1, 0, 80};
+    for (size_t k = 0; k < n; k++) {
+        mark();
+        IS(read_into(file, k) == (k < 8 ? 1 : 3));
+        IS(untouched());
+        mark();
+        IS(npy_read_held(file, k, true, now.table, 9, now.names, 0, now.shape, 1, now.said) == (k < 8 ? 1 : k < 10 ? 3 : 23));
+        IS(untouched());
+    }
+    mark();
+    IS(read_into(file, n) == 0);
+    IS(memcmp(now.said, said, sizeof said) == 0 && memcmp(now.table, entry, sizeof entry) == 0 && now.shape[0] == 3);
+    memcpy(marks.said, said, sizeof said), memcpy(marks.table, entry, sizeof entry), marks.shape[0] = 3;
+    IS(untouched());
+    mark();
+    IS(npy_read_held(file, n, true, now.table, 9, now.names, 0, now.shape, 1, now.said) == 0 && now.said[5] == 80);
+    mark();
+    IS(npy_read(file, n, now.table, 8, now.names, 0, now.shape, 1, now.said) == 23 && untouched());
+    IS(npy_read(file, n, now.table, 9, now.names, 0, now.shape, 0, now.said) == 23 && untouched());
+    IS(npy_read_text(file + 10, 70, now.table, 9, now.names, 0, now.shape, 1, now.said) == 0);
+    IS(now.said[0] == 0 && now.said[1] == 1 && now.said[2] == 1 && now.said[3] == 0);
+    mark();
+    IS(npy_read_text(file + 10, 57, now.table, 9, now.names, 0, now.shape, 1, now.said) == 6 && untouched());
+}
+
+/* A record of two fields, `a` of S3 and `b` of <U2, two items in Fortran order, read from text. */
+static const char pair[] = "{'descr': [('a', '|S3'), ('b', '<U2'), ], 'fortran_order': True, 'shape': (2, ), }";
+
+static void read_pair(void) {
+    mark();
+    IS(npy_read_text((const uint8_t *)pair, sizeof pair - 1, now.table, 27, now.names, 2, now.shape, 1, now.said) == 0);
+    IS(now.said[0] == 1 && now.said[1] == 1 && now.said[2] == 3 && now.said[3] == 2 && memcmp(now.names, "ab", 2) == 0);
+}
+
+#define RECORD now.table, 27, now.names, 2, now.shape, 1
+
+static void records(void) {
+    read_pair();
+    const uint64_t said[5] = {1, 3, 1, 11, 2};
+    IS(npy_check(RECORD, 1, now.said) == 0 && memcmp(now.said, said, sizeof said) == 0);
+    marks = now;
+    IS(npy_check(RECORD, 2, now.said) == 27 && untouched());
+    IS(npy_check(now.table, 26, now.names, 2, now.shape, 1, 1, now.said) == 27 && untouched());
+    uint64_t count[1] = {7};
+    IS(npy_write_header(RECORD, 1, now.out, sizeof now.out, count) == 0 && count[0] == 96);
+    IS(memcmp(now.out, "\x93NUMPY\x01\x00\x56\x00", 10) == 0 && memcmp(now.out + 10, pair, sizeof pair - 1) == 0 && now.out[95] == '\n' && now.out[96] == 0xA5);
+    marks = now, count[0] = 7;
+    IS(npy_write_header(RECORD, 1, now.out, 95, count) == 28 && count[0] == 7 && untouched());
+    IS(npy_write_header(RECORD, 256, now.out, sizeof now.out, count) == 27 && count[0] == 7 && untouched());
+    const char text[] = "version 1.0\norder F\nshape 2\nstrides 1\ncount 2\nitem 11\ndata 96\n0 - record 2\n1 0 plain |S3 'a'\n2 0 plain <U2 'b'\n";
+    IS(npy_list(1, 96, RECORD, 1, now.out, sizeof now.out, count) == 0 && count[0] == sizeof text - 1 && memcmp(now.out, text, sizeof text - 1) == 0);
+    marks = now, count[0] = 7;
+    IS(npy_list(4, 96, RECORD, 1, now.out, sizeof now.out, count) == 2 && npy_list(1, 96, RECORD, 9, now.out, sizeof now.out, count) == 27);
+    IS(npy_list(1, 96, RECORD, 1, now.out, 10, count) == 28 && count[0] == 7 && untouched());
+}
+
+static void shapes(void) {
+    const uint64_t shape[3] = {2, 3, 4}, c[3] = {12, 4, 1}, fortran[3] = {1, 2, 6}, index[3] = {1, 2, 3}, big[2] = {4294967296u, 4294967296u};
+    uint64_t count[1] = {7};
+    mark();
+    IS(npy_count(shape, 3, 0, count) == 0 && count[0] == 24);
+    count[0] = 7;
+    IS(npy_count(big, 2, 0, count) == 22 && npy_count(shape, 3, 2, count) == 27 && count[0] == 7);
+    IS(npy_strides(shape, 3, 0, now.strides, 32, count) == 0 && count[0] == 24 && memcmp(now.strides, c, sizeof c) == 0);
+    IS(npy_strides(shape, 3, 1, now.strides, 3, count) == 0 && memcmp(now.strides, fortran, sizeof fortran) == 0);
+    marks = now, count[0] = 7;
+    IS(npy_strides(shape, 3, 1, now.strides, 2, count) == 23 && npy_strides(big, 2, 1, now.strides, 2, count) == 22 && npy_strides(shape, 3, 7, now.strides, 3, count) == 27);
+    IS(untouched() && count[0] == 7);
+    IS(npy_item_number(shape, 3, 0, index, 3, count) == 0 && count[0] == 23);
+    count[0] = 7;
+    IS(npy_item_number(shape, 3, 0, index, 2, count) == 26 && npy_item_number(shape, 3, 3, index, 3, count) == 27 && count[0] == 7);
+}
+
+static void places(void) {
+    read_pair();
+    uint8_t file[96 + 22] = {0};
+    uint64_t one[1] = {1}, two[1] = {2}, path[1] = {1}, count[1] = {7}, run[6];
+    const uint64_t there[6] = {96 + 11 + 3, 8, '<', 'U', 2, 0};
+    memcpy(file + 96 + 11, "xy", 2);
+    file[96 + 14] = 0xE9;
+    marks = now;
+    memset(run, 0, sizeof run);
+    IS(npy_place(sizeof file, 96, RECORD, 1, one, 1, path, 1, run) == 0 && memcmp(run, there, sizeof run) == 0);
+    IS(npy_place(sizeof file - 1, 96, RECORD, 1, one, 1, path, 1, run) == 25 && npy_place(sizeof file, 96, RECORD, 1, two, 1, path, 1, run) == 26);
+    IS(npy_place(sizeof file, 96, RECORD, 2, one, 1, path, 1, run) == 27 && memcmp(run, there, sizeof run) == 0);
+    IS(npy_element_points(file, sizeof file, 96, RECORD, 1, one, 1, path, 1, now.points, 16, count) == 0 && count[0] == 1 && now.points[0] == 0xE9);
+    IS(now.points[1] == 0xA5A5A5A5);
+    marks = now, count[0] = 7;
+    IS(npy_element_points(file, sizeof file, 96, RECORD, 1, one, 1, path, 1, now.points, 0, count) == 23 && untouched());
+    path[0] = 0;
+    IS(npy_element_points(file, sizeof file, 96, RECORD, 1, one, 1, path, 1, now.points, 16, count) == 26 && untouched() && count[0] == 7);
+    IS(npy_element_bytes(file, sizeof file, 96, RECORD, 1, one, 1, path, 1, now.out, 2, count) == 0 && count[0] == 2 && memcmp(now.out, "xy", 2) == 0);
+    marks = now, count[0] = 7;
+    IS(npy_element_bytes(file, sizeof file, 96, RECORD, 1, one, 1, path, 1, now.out, 1, count) == 23 && untouched() && count[0] == 7);
+    IS(npy_element_bytes(file, sizeof file, 96, RECORD, 5, one, 1, path, 1, now.out, 2, count) == 27 && untouched() && count[0] == 7);
+}
+
+static void elements(void) {
+    const uint32_t points[2] = {0x1F600, 'a'}, half[1] = {0xD800};
+    const uint8_t run[12] = {0, 1, 0xF6, 0, 0, 0, 0, 'a'};
+    uint64_t count[1] = {7};
+    mark();
+    IS(npy_write_points('>', 'U', 3, 0, points, 2, now.out, 12, count) == 0 && count[0] == 12 && memcmp(now.out, run, 12) == 0 && now.out[12] == 0xA5);
+    marks = now, count[0] = 7;
+    IS(npy_write_points('>', 'U', 3, 0, half, 1, now.out, 12, count) == 29 && npy_write_points('>', 'U', 1, 0, points, 2, now.out, 12, count) == 30);
+    IS(npy_write_points('>', 'U', 3, 0, points, 2, now.out, 11, count) == 28 && npy_write_points('|', 'U', 3, 0, points, 2, now.out, 12, count) == 27);
+    IS(npy_write_points('>', 'S', 3, 0, points, 2, now.out, 12, count) == 26 && untouched() && count[0] == 7);
+    IS(npy_read_points(run, 12, '>', 'U', 3, 0, now.points, 2, count) == 0 && count[0] == 2 && memcmp(now.points, points, 8) == 0 && now.points[2] == 0xA5A5A5A5);
+    marks = now, count[0] = 7;
+    IS(npy_read_points(run, 12, '<', 'U', 3, 0, now.points, 2, count) == 29 && npy_read_points(run, 12, '>', 'U', 3, 0, now.points, 1, count) == 23);
+    IS(npy_read_points(run, 12, '>', 'V', 12, 0, now.points, 2, count) == 26 && npy_read_points(run, 12, 0, 'U', 3, 0, now.points, 2, count) == 27);
+    IS(untouched() && count[0] == 7);
+    IS(npy_write_bytes('|', 'S', 4, 0, (const uint8_t *)"xy", 2, now.out, 4, count) == 0 && count[0] == 4 && memcmp(now.out, "xy\0\0", 4) == 0);
+    IS(npy_read_bytes(now.out, 4, '|', 'S', 4, 0, now.names, 2, count) == 0 && count[0] == 2 && memcmp(now.names, "xy", 2) == 0);
+    marks = now, count[0] = 7;
+    IS(npy_write_bytes('|', 'V', 4, 0, (const uint8_t *)"xy", 2, now.out, 4, count) == 30 && npy_write_bytes('|', 'S', 4, 14, (const uint8_t *)"xy", 2, now.out, 4, count) == 27);
+    IS(npy_read_bytes(now.out, 4, '|', 'V', 4, 0, now.names, 3, count) == 23 && npy_read_bytes(now.out, 4, '<', 'i', 4, 0, now.names, 9, count) == 26);
+    IS(untouched() && count[0] == 7);
+}
+
+static uint8_t type_read(const char *text, uint64_t type[4]) { return npy_type_read((const uint8_t *)text, strlen(text), type); }
+
+static void types(void) {
+    const uint64_t date[4] = {'<', 'M', 8, 10};
+    uint64_t type[4] = {1, 2, 3, 4}, before[4] = {1, 2, 3, 4}, count[1] = {7};
+    IS(type_read("", type) == 15 && type_read("<i18446744073709551616", type) == 16 && type_read("|i4", type) == 17 && type_read("<i3", type) == 18 && type_read("<M8", type) == 19);
+    IS(memcmp(type, before, sizeof type) == 0);
+    IS(type_read("<M8[ns]", type) == 0 && memcmp(type, date, sizeof type) == 0);
+    mark();
+    IS(npy_type_print('<', 'M', 8, 10, now.out, 7, count) == 0 && count[0] == 7 && memcmp(now.out, "<M8[ns]", 7) == 0 && now.out[7] == 0xA5);
+    marks = now, count[0] = 8;
+    IS(npy_type_print('<', 'M', 8, 10, now.out, 6, count) == 28 && npy_type_print('<', 'M', 8, 0, now.out, 7, count) == 27 && untouched() && count[0] == 8);
+}
+
+int main(void) {
+    reading();
+    records();
+    shapes();
+    places();
+    elements();
+    types();
+    printf("%d asked, %d wrong\n", asked, wrong);
+    return wrong != 0;
+}
