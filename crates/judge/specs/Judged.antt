@@ -22,10 +22,10 @@ use Rattle.tokens.specs.Got.{Got, got}
 use Rattle.literal.specs.Forget.{forget, forgot}
 use Rattle.literal.specs.Literal.{value, literalOf, most-open}
 use Rattle.dims.specs.Answer.{valueOr}
-use Rattle.dims.specs.Outline.{outlineOf}
-use Rattle.dims.specs.declared.Outline.{Outline}
+use Rattle.products.specs.Outline.{outlineOf}
+use Rattle.products.specs.declared.Outline.{Outline}
 use Rattle.keys.specs.Pairs.{nodeFor}
-use Rattle.descr.specs.Totals.{totalsOf}
+use Rattle.sums.specs.Totals.{totalsOf}
 use Rattle.judge.specs.declared.Shape.{Shape}
 use Rattle.judge.specs.declared.Descr.{Descr}
 use Rattle.judge.specs.declared.Plan.{Plan}

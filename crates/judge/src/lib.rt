@@ -1,13 +1,13 @@
 // A header's text judged (document 01, "The refusal numbers", the order of reading): refusals 5 to 22, and where in the text an accepted record stands. No
 // public function here has a `requires`. What each answer stands for is in specs/Judged.antt.
-use descr::Rule;
-use descr::Totals;
-use dims::Outline;
 use dtype::Order;
 use grammar::OPEN;
 use keys::Declared;
 use keys::Found;
+use products::Outline;
 use refusal::Refusal;
+use sums::Rule;
+use sums::Totals;
 use tokens::Parsed;
 use tokens::bytes::blanks;
 use utf8::Text;
@@ -22,7 +22,7 @@ ghost use Rattle.literal.specs.Literal.{value, most-open};
 ghost use Rattle.dims.specs.Answer.{valueOr};
 ghost use Rattle.judge.specs.Judged.{reading, orderAt, shapeAt, dtypeAt, behindShape, behindOrder, orderAnswer, ShapeIs, ShapeOf, DescrIs, RankedOf, LimitsOf, JudgedIs};
 ghost use Rattle.refusal.specs.Numbers.{numberOf};
-ghost use Rattle.descr.specs.Verdict as rules;
+ghost use Rattle.sums.specs.Verdict as rules;
 
 // Where the value of `shape` stands, and what later refusals need of it.
 pub struct Shape {
@@ -123,7 +123,7 @@ fn within_limits(order: Order, shape: Shape, descr: Descr) -> Judged
     if !totals.object & totals.over {
         return Judged::Refused(Refusal::Size);
     }
-    if dims::over(outline, order) {
+    if products::over(outline, order) {
         return Judged::Refused(Refusal::Shape);
     }
     Judged::Fits(Plan {
@@ -158,9 +158,9 @@ fn shape_in(text: &[u8], at: usize) -> ShapeRead
     let judged = dims::judge(text, p, OPEN - 1);
     let verdict = judged.verdict;
     match verdict {
-        dims::Verdict::Good(outline) => ranked(p, outline),
-        dims::Verdict::Form => ShapeRead::Refused(Refusal::NotShape),
-        dims::Verdict::Large => ShapeRead::Refused(Refusal::LargeDimension),
+        products::Verdict::Good(outline) => ranked(p, outline),
+        products::Verdict::Form => ShapeRead::Refused(Refusal::NotShape),
+        products::Verdict::Large => ShapeRead::Refused(Refusal::LargeDimension),
     }
 }
 
@@ -188,11 +188,11 @@ fn descr_in(text: &[u8], at: usize) -> DescrRead
     let judged = descr::inner::judge(text, p, OPEN - 1);
     let verdict = judged.verdict;
     match verdict {
-        descr::Verdict::Fits(totals) => DescrRead::Is(Descr {
+        sums::Verdict::Fits(totals) => DescrRead::Is(Descr {
             at: p,
             totals: totals,
         }),
-        descr::Verdict::Bad(rule) => DescrRead::Refused(refusal_of(rule)),
+        sums::Verdict::Bad(rule) => DescrRead::Refused(refusal_of(rule)),
     }
 }
 

@@ -2,7 +2,7 @@
 use Rattle.refusal.specs.declared.Refusal.{Refusal}
 use mathlib.Core.Path.{refl, ap}
 use Rattle.record.specs.Dict.{key-shape}
-use Rattle.dims.specs.Answer.{outlined}
+use Rattle.products.specs.Answer.{outlined}
 use Rattle.judge.proofs.Found.{found-at, found-none, shape-good, shape-bad, shape-none}
 use borrow.Author.Needs.{needs}
 use Rattle.judge.proofs.shape_in.Statement.{statement}
