@@ -3,10 +3,9 @@
 use dtype::ARRAY;
 use dtype::ENTRY;
 use dtype::Entry;
-use dtype::PLAIN;
 use dtype::RECORD;
-use held::held_bytes;
 use held::held_product;
+use plain::plain_entry;
 use spelling::Endianness;
 use spelling::TypeChar;
 use type_str::TypeRead;
@@ -19,7 +18,6 @@ ghost use lib.ListN.{length};
 ghost use lib.Seq.{sets};
 ghost use Rattle.dtype.specs.Dtype.{Dtype, plain, sizeOf};
 ghost use Rattle.dtype.specs.Flat.{saturated, entryOf, numbers};
-ghost use Rattle.dtype.specs.TypeNumbers.{unitsNumber};
 ghost use Rattle.entry.specs.Written.{noType, typeIn, upOf, nameOf, Levelled, LevelsOver, LevelsDueAt, Levels};
 
 // The type that was read.
@@ -171,46 +169,6 @@ fn put_entry(table: &mut [u64], at: usize, e: Entry)
     table[i + 6] = e.extent;
     table[i + 7] = e.bytes;
     table[i + 8] = e.name;
-}
-
-fn plain_entry(t: TypeStr, up: u64, name: u64) -> Entry
-    ensures { λ r. ⌜ r ≡ entryOf (plain t) up name ⌝ }
-{
-    let order = t.order;
-    let letter = t.letter;
-    let units = t.units;
-    Entry {
-        parent: up,
-        kind: PLAIN,
-        order: order.to_byte() as u64,
-        letter: letter.to_byte() as u64,
-        number: t.size,
-        units: units_number(units),
-        extent: 1,
-        bytes: held_bytes(t),
-        name: name,
-    }
-}
-
-fn units_number(u: TimeUnits) -> u64
-    ensures { λ r. ⌜ r ≡ unitsNumber u ⌝ }
-{
-    match u {
-        TimeUnits::Absent => 0,
-        TimeUnits::Year => 1,
-        TimeUnits::Month => 2,
-        TimeUnits::Week => 3,
-        TimeUnits::Day => 4,
-        TimeUnits::Hour => 5,
-        TimeUnits::Minute => 6,
-        TimeUnits::Second => 7,
-        TimeUnits::Millisecond => 8,
-        TimeUnits::Microsecond => 9,
-        TimeUnits::Nanosecond => 10,
-        TimeUnits::Picosecond => 11,
-        TimeUnits::Femtosecond => 12,
-        TimeUnits::Attosecond => 13,
-    }
 }
 
 // An entry that is not of a plain type.
