@@ -619,7 +619,7 @@ static void put_table(struct reader *r, uint64_t *table, uint8_t *names)
     }
 }
 
-uint8_t plain_read(const uint8_t *file, size_t file_len, uint64_t *table, size_t table_len, uint8_t *names, size_t names_len, uint64_t *shape, size_t shape_len, uint64_t said[6])
+uint8_t plain_read_held(const uint8_t *file, size_t file_len, bool longer, uint64_t *table, size_t table_len, uint8_t *names, size_t names_len, uint64_t *shape, size_t shape_len, uint64_t said[6])
 {
     struct reader r;
     size_t start, length;
@@ -637,7 +637,7 @@ uint8_t plain_read(const uint8_t *file, size_t file_len, uint64_t *table, size_t
     if (length > MOST_TEXT)
         return 4;
     if (file_len - start < length)
-        return 3;
+        return longer ? 23 : 3;
     r.end = file + start + length;
     if (!is_utf8(file + start, r.end))
         return 5;
@@ -658,4 +658,9 @@ uint8_t plain_read(const uint8_t *file, size_t file_len, uint64_t *table, size_t
     said[4] = r.names;
     said[5] = start + length;
     return 0;
+}
+
+uint8_t plain_read(const uint8_t *file, size_t file_len, uint64_t *table, size_t table_len, uint8_t *names, size_t names_len, uint64_t *shape, size_t shape_len, uint64_t said[6])
+{
+    return plain_read_held(file, file_len, false, table, table_len, names, names_len, shape, shape_len, said);
 }

@@ -1,4 +1,4 @@
-// Asks two readers with the C interface, npy_read and plain_read (bench/plain.c), the same questions: the framed cases of standard input (vectors/HOW-MADE.md, "Whole headers"), and
+// Asks two readers with the C interface, npy_read and plain_read (bench/plain.c), the same questions: the framed cases of standard input (docs/FRAMES.md), and
 // each of them damaged in N ways. The answers, `said` and all three rooms must be the same, byte for byte.
 //
 //     agree N         the last line says how many were asked and how many differ; exit status 1 where one does
@@ -95,11 +95,11 @@ int main(int argc, char **argv)
     long ways = argc > 1 ? strtol(argv[1], NULL, 10) : 0;
     while (fread(length, 1, 4, stdin) == 4) {
         size_t n = four(length);
-        if (n < 12 || n > MOST_CASE || fread(held, 1, n, stdin) != n)
+        if (n < 13 || n > MOST_CASE || fread(held, 1, n, stdin) != n)
             return 1;
-        ask(held, held + 12, n - 12);
+        ask(held, held + 13, n - 13);
         for (long k = 0; k < ways; k++)
-            ask(held, damaged, damage(held + 12, n - 12));
+            ask(held, damaged, damage(held + 13, n - 13));
     }
     for (int k = 0; k <= 23; k++)
         printf("%s%d: %lu", k ? ", " : "answers ", k, seen[k]);

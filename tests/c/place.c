@@ -1,4 +1,4 @@
-// Replays the questions for places on standard input through npy_place (vectors/HOW-MADE.md, "Places"): a frame of 4 bytes of length and a case, one line a case, with the answers to its questions `n`
+// Replays the questions for places on standard input through npy_place (docs/FRAMES.md): a frame of 4 bytes of length and a case, one line a case, with the answers to its questions `n`
 // alone, parted by `; `. A refusal that changed `run` is followed by ` changed`.
 #include "../../include/npy.h"
 

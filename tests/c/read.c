@@ -1,4 +1,4 @@
-// Replays files from standard input through a reader with the C interface, as the program of crates/run_header does (vectors/HOW-MADE.md): a frame of 4 bytes of length and a
+// Replays files from standard input through a reader with the C interface, as the program of crates/run_header does (docs/FRAMES.md): a frame of 4 bytes of length and a
 // case, one line a case. READ is the reader's name. With any argument a line has all that the reader wrote: `said`, the table's numbers, the names in hex, and the shape.
 #include <inttypes.h>
 #include <stdbool.h>
@@ -7,10 +7,10 @@
 #include <string.h>
 
 #ifndef READ
-#define READ npy_read
+#define READ npy_read_held
 #endif
 
-uint8_t READ(const uint8_t *file, size_t file_len, uint64_t *table, size_t table_len, uint8_t *names, size_t names_len, uint64_t *shape, size_t shape_len, uint64_t said[6]);
+uint8_t READ(const uint8_t *file, size_t file_len, bool longer, uint64_t *table, size_t table_len, uint8_t *names, size_t names_len, uint64_t *shape, size_t shape_len, uint64_t said[6]);
 
 enum { ENTRY = 9, MOST_ENTRIES = 512, MOST_NAMES = 65536, MOST_RANK = 64, MOST_CASE = 1 << 20 };
 
@@ -138,13 +138,13 @@ int main(int argc, char **argv)
         size_t n = four(length), before = 6;
         uint64_t said[6] = { 5, 5, 5, 5, 5, 5 };
         uint8_t *file, refusal;
-        if (n < 12 || n > MOST_CASE || fread(held, 1, n, stdin) != n)
+        if (n < 13 || n > MOST_CASE || fread(held, 1, n, stdin) != n)
             return 1;
         // a file of its own size, so that a look past its end can be seen
-        file = malloc(n - 12 + (n == 12));
-        memcpy(file, held + 12, n - 12);
+        file = malloc(n - 13 + (n == 13));
+        memcpy(file, held + 13, n - 13);
         fill_rooms();
-        refusal = READ(file, n - 12, table, ENTRY * at_most(four(held), MOST_ENTRIES), names, at_most(four(held + 4), MOST_NAMES), shape, at_most(four(held + 8), MOST_RANK), said);
+        refusal = READ(file, n - 13, held[12], table, ENTRY * at_most(four(held), MOST_ENTRIES), names, at_most(four(held + 4), MOST_NAMES), shape, at_most(four(held + 8), MOST_RANK), said);
         free(file);
         if (refusal) {
             while (before > 0 && said[before - 1] == 5)

@@ -1,4 +1,4 @@
-// Replays records from standard input through npy_write_header, as the program of crates/run_write does (vectors/HOW-MADE.md): a frame of 4 bytes of length and a case, one line a case. A line ends in
+// Replays records from standard input through npy_write_header, as the program of crates/run_write does (docs/FRAMES.md): a frame of 4 bytes of length and a case, one line a case. A line ends in
 // ` changed` where a refusal changed the room or the count, or an answer the room behind its own.
 #include "../../include/npy.h"
 

@@ -171,14 +171,12 @@ def record_of(value):
     return record
 
 
-def read(file, entries=512, name_bytes=65_536, dimensions_room=32, held=None):
-    """The record, or the number of its refusal. `held` is how many bytes of the file a program holds: "a longer file whose header ends past those gets 23 right after 4"."""
+def read(file, entries=512, name_bytes=65_536, dimensions_room=32, longer=False):
+    """The record, or the number of its refusal. Of a file that is longer than what is held of it: "a longer file whose header ends past those gets 23 right after 4"."""
     try:
         version, start, end = preamble(file)
-        if held is not None and len(file) > held and end > held:
-            refuse(23)
         if end > len(file):
-            refuse(3)
+            refuse(23 if longer else 3)
         text = file[start:end]
         try:
             text.decode('utf-8')
@@ -222,5 +220,5 @@ def line(found):
 
 def listing(file):
     """What the small program writes for a file."""
-    record = read(file, name_bytes=16_384, held=65_536)
+    record = read(file[:65_536], name_bytes=16_384, longer=len(file) > 65_536)
     return b'refused %d\n' % record if isinstance(record, int) else b'\n'.join(lines_of(record)) + b'\n'

@@ -1,4 +1,4 @@
-"""Headers to be read and records to be written, in the form in which they go to a program (HOW-MADE.md), and document 01's answers by the models of tests/model."""
+"""Headers to be read and records to be written, in the form in which they go to a program (docs/FRAMES.md), and document 01's answers by the models of tests/model."""
 import itertools
 import os
 import random
@@ -63,12 +63,27 @@ def long_reads():
         yield read_case(FULL, files.file_of(text, (3, 0)))
 
 
-def read_case(rooms, file):
-    return struct.pack('<3I', *rooms) + file
+def held_reads():
+    """The first bytes of files that are longer, cut around each part of the prefix and of the text; and 16,384 name bytes, and one more, in the room of the listing program."""
+    for file in (files.H(), files.file_of(files.header(), (2, 0)), files.file_of(files.header(b"[('\xc3\xa9','<U3',(2,))]"), (3, 0)), files.H(b"'=i4'"), files.file_of(files.padded(files.header(), 131_073), (2, 0))[:200]):
+        for cut in sorted({0, 5, 6, 7, 8, 9, 10, 11, 12, 13, len(file) // 2, len(file) - 1, len(file)}):
+            yield read_case(FULL, file[:cut], True)
+        yield read_case(FULL, file + b'\0', True)
+        yield read_case((0, 0, 0), file, True)
+    for count in (16_384, 16_385):
+        file = files.file_of(files.header(b"[('" + b'n' * count + b"','<i4')]"))
+        for longer in (False, True):
+            yield read_case((512, 16_384, 32), file, longer)
+            yield read_case((512, 16_384, 32), file[:-1], longer)
+
+
+def read_case(rooms, file, longer=False):
+    return struct.pack('<3IB', *rooms, longer) + file
 
 
 def read_answer(case):
-    return reader.line(reader.read(case[12:], *struct.unpack_from('<3I', case)))
+    *rooms, longer = struct.unpack_from('<3IB', case)
+    return reader.line(reader.read(case[13:], *rooms, longer))
 
 
 def writes():

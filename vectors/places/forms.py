@@ -1,4 +1,4 @@
-"""Records with a file and what is asked of them, in the form in which they go to a program (HOW-MADE.md), and document 01's answers by the models of tests/model."""
+"""Records with a file and what is asked of them, in the form in which they go to a program (docs/FRAMES.md), and document 01's answers by the models of tests/model."""
 import collections
 import os
 import struct

@@ -11,49 +11,30 @@ use lib.ListN.{length}
 use native.Mathlib.Nat.{mul-suc}
 use borrow.Author.Tests.{leb-true}
 use Rattle.counts.specs.Outcome.{Outcome, gives, refused, then, each}
-use Rattle.counts.specs.Number.{number}
 use Rattle.counts.specs.declared.Number.{Number}
-use Rattle.counts.specs.declared.Number.the-variants.{Is, Over}
-use Rattle.counts.proofs.Fits.{number-is, number-over}
 use Rattle.grammar.specs.Value.{Value, Values, string, integer, True, False, None, list, tuple, dict, end-of-values, value-then}
-use Rattle.counts.specs.Counts.{bytes}
 use Rattle.type_str.specs.declared.TypeStr.{TypeStr}
-use Rattle.spelling.specs.declared.TypeChar.{TypeChar}
-use Rattle.spelling.specs.declared.TypeChar.the-variants.{Bool as Boolean, Int, Uint, Float as Floating, Complex, TimeDelta, DateTime, ByteStr, UnicodeStr, Object, RawData}
-use Rattle.type_str.specs.declared.TypeBytes.{TypeBytes}
-use Rattle.type_str.specs.declared.TypeBytes.the-variants.{Sized, Unsized, TooLarge}
-use Rattle.type_str.specs.Bytes.{typeBytes, countedBytes, numBytes}
-use Rattle.spelling.specs.Spelling.{letterByte}
-use Rattle.dtype.specs.PlainBytes as byte
-use Rattle.dtype.specs.PlainBytes.{plainBytes}
-use Rattle.dtype.proofs.Types.{plain-bytes-type}
-use Rattle.spelling.specs.Classes.{isObject}
 use Rattle.type_str.specs.TypeString.{typeString}
-use Rattle.dtype.specs.Dtype.{Dtype, Fields, plain, array, record-of, field-then, sizeOf, sizesOf}
+use Rattle.dtype.specs.Dtype.{Dtype, Fields, plain, record-of, field-then, sizeOf, sizesOf}
 use Rattle.dtype.specs.Entries.{someEntryIn, levels}
 use Rattle.dtype.specs.Limits.{over, someOver, overLevels}
 use Rattle.record.specs.Parts.{stringOr}
 use Rattle.record.specs.Dimensions.{subShape}
 use Rattle.record.specs.Descr.{Field, arrays, descrOf, fieldsOf, fieldOf}
-use Rattle.dims.specs.Outline.{hasZero, behindZero, outlineOf}
-use Rattle.dims.proofs.Levels.{arrays-outline, arrays-over, arrays-entries, arrays-wide, arrays-object, arrays-name-bytes}
-use Rattle.descr.specs.declared.Totals.{Totals}
-use Rattle.descr.specs.Totals.{capped, largest, saturated, isOver, timesBy, nothing, oneEntry, nameTotals, totalsOf, totalsIn, fieldTotals, together, arrayed}
-use Rattle.descr.specs.Verdict.{both}
+use Rattle.products.specs.Outline.{hasZero, behindZero, outlineOf, isOver, largestIn}
+use Rattle.products.proofs.Levels.{largest-is, arrays-outline, arrays-over, arrays-entries, arrays-wide, arrays-object, arrays-name-bytes}
+use Rattle.sums.specs.declared.Totals.{Totals}
+use Rattle.sums.specs.Totals.{capped, largest, saturated, nothing, oneEntry, nameTotals, totalsOf, totalsIn, fieldTotals, together, arrayed}
+use Rattle.sums.specs.Verdict.{both}
+use Rattle.sums.proofs.Sums.{totals-eq, or-true, or-false, over-never, over-not, over-more, over-number, saturated-number, cap-front}
+use Rattle.sums.proofs.Limits.{own-over}
 use Rattle.descr.specs.Judges.{itemsBy}
-use Rattle.descr.proofs.Sums.{totals-eq, or-true, or-false, over-never, over-not, over-more, over-number, saturated-number, cap-front}
 
 false-true : {A : Type 0} → false ≡ true → A
 false-true h = absurd (let z : _≡_ {A = ℕ} 0 1 = cc in omega arith)
 
 over-front : (n : ℕ) → over (0 + capped largest n) ≡ false
 over-front n = over-never (0 + capped largest n) (omega arith)
-
--- an entry counts itself
-pub own-over : (d : Dtype) → over (sizeOf d) ≡ true → someOver d ≡ true
-own-over (plain t) h = h
-own-over (array n d) h = rw h
-own-over (record-of fs) h = rw h
 
 -- ---- fields
 cap-two : (m a b : ℕ) → capped m (a + b) ≡ capped m (capped m (0 + capped m a) + capped m b)
@@ -159,24 +140,6 @@ flat (list vs) = go (fieldsOf vs)
 flat (tuple vs) = tt
 flat (dict es) = tt
 
-times-over : (b s : ℕ) → isOver (timesBy (number b) s) ≡ over (b * s)
-times-over b zero = let e : b * 0 ≡ 0 = omega arith in sym (ap over e)
-times-over b (suc s) = go (over b) refl
-  where
-    go : (t : Bool) → over b ≡ t → isOver (timesBy (number b) (suc s)) ≡ over (b * suc s)
-    go true h = ap (λ (x : Number). isOver (timesBy x (suc s))) (number-over b (leb-true (2 ^ 64) b h)) ∙ sym (over-more b (b * suc s) (omega (arith, mul-suc b s)) h)
-    go false h = ap (λ (x : Number). isOver (timesBy x (suc s))) (number-is b (over-not b h)) ∙ over-number (b * suc s)
-
-times-held : (b s : ℕ) → saturated (timesBy (number b) s) ≡ capped largest (b * s)
-times-held b zero = let e : b * 0 ≡ 0 = omega arith in sym (ap (λ (x : ℕ). capped largest x) e)
-times-held b (suc s) = go (over b) refl
-  where
-    go : (t : Bool) → over b ≡ t → saturated (timesBy (number b) (suc s)) ≡ capped largest (b * suc s)
-    go true h =
-        let le = leb-true (2 ^ 64) b h in
-        ap (λ (x : Number). saturated (timesBy x (suc s))) (number-over b le) ∙ omega (arith, mul-suc b s)
-    go false h = ap (λ (x : Number). saturated (timesBy x (suc s))) (number-is b (over-not b h)) ∙ saturated-number (b * suc s)
-
 -- a size that is capped, so many times
 cap-times : (b s : ℕ) → capped largest (b * capped largest s) ≡ capped largest (b * s)
 cap-times b s = go (over s) refl
@@ -195,26 +158,26 @@ cap-times b s = go (over s) refl
         let e : capped largest s ≡ s = omega arith in
         rw e
 
-over-levels : (b s : ℕ) (own : Bool) → (over s ≡ true → own ≡ true) → (over (b * s) || own) ≡ (isOver (timesBy (number b) (capped largest s)) || own)
-over-levels b s true h = or-true (over (b * s)) ∙ sym (or-true (isOver (timesBy (number b) (capped largest s))))
-over-levels b s false h = ap (λ (t : Bool). t || false) (go (over s) refl)
+over-levels : (ns : List ℕ) (s : ℕ) (own : Bool) → (over s ≡ true → own ≡ true) → (over (behindZero ns * s) || own) ≡ (isOver (largestIn (outlineOf ns) (capped largest s)) || own)
+over-levels ns s true h = or-true (over (behindZero ns * s)) ∙ sym (or-true (isOver (largestIn (outlineOf ns) (capped largest s))))
+over-levels ns s false h = ap (λ (t : Bool). t || false) (go (over s) refl)
   where
-    go : (t : Bool) → over s ≡ t → over (b * s) ≡ isOver (timesBy (number b) (capped largest s))
+    go : (t : Bool) → over s ≡ t → over (behindZero ns * s) ≡ isOver (largestIn (outlineOf ns) (capped largest s))
     go true k = false-true (h k)
     go false k =
         let lt = over-not s k in
         let e : capped largest s ≡ s = omega arith in
-        sym (ap (λ (x : ℕ). isOver (timesBy (number b) x)) e ∙ times-over b s)
+        sym (ap (λ (x : ℕ). isOver (largestIn (outlineOf ns) x)) e ∙ (ap (λ (x : Number). isOver x) (largest-is ns s) ∙ over-number (behindZero ns * s)))
 
 cap-right : (m a b : ℕ) → capped m (a + b) ≡ capped m (a + capped m b)
 cap-right m a b = omega arith
 
-held-levels : (ns : List ℕ) (s : ℕ) → capped largest (cond (hasZero ns) 0 (behindZero ns * s)) ≡ cond (hasZero ns) 0 (saturated (timesBy (number (behindZero ns)) (capped largest s)))
+held-levels : (ns : List ℕ) (s : ℕ) → capped largest (cond (hasZero ns) 0 (behindZero ns * s)) ≡ cond (hasZero ns) 0 (saturated (largestIn (outlineOf ns) (capped largest s)))
 held-levels ns s = go (hasZero ns)
   where
-    go : (t : Bool) → capped largest (cond t 0 (behindZero ns * s)) ≡ cond t 0 (saturated (timesBy (number (behindZero ns)) (capped largest s)))
+    go : (t : Bool) → capped largest (cond t 0 (behindZero ns * s)) ≡ cond t 0 (saturated (largestIn (outlineOf ns) (capped largest s)))
     go true = refl
-    go false = sym (times-held (behindZero ns) (capped largest s) ∙ cap-times (behindZero ns) s)
+    go false = sym (ap (λ (x : Number). saturated x) (largest-is ns (capped largest s)) ∙ (saturated-number (behindZero ns * capped largest s) ∙ cap-times (behindZero ns) s))
 
 arrays-totals : (ns : List ℕ) (d : Dtype) → levels d ≡ 0 → totalsOf (arrays ns d) ≡ arrayed (outlineOf ns) (totalsOf d)
 unfolding arrayed outlineOf
@@ -222,7 +185,7 @@ arrays-totals ns d h =
     let e : length ns + levels d ≡ length ns = omega arith in
     totals-eq (ap (λ (x : ℕ). capped 513 x) (arrays-entries ns d) ∙ cap-right 513 (length ns) _) (ap (λ (x : ℕ). capped 65537 x) (arrays-name-bytes ns d)) (arrays-object ns d)
     (arrays-wide ns d ∙ ap (λ (x : ℕ). ltb 32 x || overLevels d) e)
-    (arrays-over ns d ∙ over-levels (behindZero ns) (sizeOf d) (someOver d) (own-over d))
+    (arrays-over ns d ∙ over-levels ns (sizeOf d) (someOver d) (own-over d))
     (ap (λ (x : ℕ). capped largest x) (arrays-outline ns d) ∙ held-levels ns (sizeOf d))
 
 -- ---- a field's items: its name, its inner descr, perhaps its sub-shape
@@ -252,63 +215,3 @@ two-items a b = two-by (stringOr 14 a) (descrOf b)
 pub three-items : (a b c : Value)
     → both (nameBy a) (then (descrBy b) (λ t. each (λ u. arrayed u t) (each outlineOf (subShape c)))) ≡ itemsBy (value-then a (value-then b (value-then c end-of-values)))
 three-items a b c = three-by (stringOr 14 a) (descrOf b) (subShape c) (flat b)
-
--- ---- a plain type
-abbrev pub plainTotals : TypeBytes → Totals
-plainTotals (Sized n) = record { entries = 1; names = 0; object = false; wide = false; over = false; size = n .0 }
-plainTotals Unsized = record { entries = 1; names = 0; object = true; wide = false; over = false; size = 0 }
-plainTotals TooLarge = record { entries = 1; names = 0; object = false; wide = false; over = true; size = largest }
-
--- a letter and its byte tell the same of an object
-object-byte : (l : TypeChar) → byte.isObject (letterByte l) ≡ isObject l
-object-byte Boolean = refl
-object-byte Int = refl
-object-byte Uint = refl
-object-byte Floating = refl
-object-byte Complex = refl
-object-byte TimeDelta = refl
-object-byte DateTime = refl
-object-byte ByteStr = refl
-object-byte UnicodeStr = refl
-object-byte Object = refl
-object-byte RawData = refl
-
-plain-sized : (n : ℕ) → plainTotals (countedBytes (bytes (number n))) ≡ record { entries = 1; names = 0; object = false; wide = false; over = over n; size = capped largest n }
-plain-sized n = go (over n) refl
-  where
-    go : (t : Bool) → over n ≡ t → plainTotals (countedBytes (bytes (number n))) ≡ record { entries = 1; names = 0; object = false; wide = false; over = over n; size = capped largest n }
-    go true h =
-        let le = leb-true (2 ^ 64) n h in
-        ap (λ (x : Number). plainTotals (countedBytes (bytes x))) (number-over n le) ∙ totals-eq refl refl refl refl (sym h) (omega arith)
-    go false h =
-        let lt = over-not n h in
-        ap (λ (x : Number). plainTotals (countedBytes (bytes x))) (number-is n lt) ∙ totals-eq refl refl refl refl (sym h) (omega arith)
-
-module _ (t : TypeStr) where
-  object-bytes : isObject (t .letter) ≡ true → (numBytes t ≡ Unsized) × (typeBytes t ≡ 0)
-  unfolding numBytes typeBytes
-  object-bytes h = (rw (numBytes, h), rw (typeBytes, h))
-
-  counted-bytes : isObject (t .letter) ≡ false → numBytes t ≡ countedBytes (bytes (number (typeBytes t)))
-  unfolding numBytes
-  counted-bytes h = rw (numBytes, h)
-
-pub plain-totals : (t : TypeStr) → plainTotals (numBytes t) ≡ totalsOf (plain t)
-plain-totals t = go (isObject (t .letter)) refl
-  where
-    of-bytes : (o : Bool) → byte.isObject (letterByte (t .letter)) ≡ o → (n : ℕ) → plainBytes t ≡ n
-        → record { entries = 1; names = 0; object = o; wide = false; over = over n; size = capped largest n } ≡ totalsOf (plain t)
-    of-bytes o ho n hn = totals-eq refl refl (sym ho) refl (ap over (sym hn)) (ap (λ (x : ℕ). capped largest x) (sym hn))
-
-    go : (o : Bool) → isObject (t .letter) ≡ o → plainTotals (numBytes t) ≡ totalsOf (plain t)
-    go true h = ap plainTotals (object-bytes t h .0) ∙ of-bytes true (object-byte (t .letter) ∙ h) 0 (plain-bytes-type t ∙ object-bytes t h .1)
-    go false h = ap plainTotals (counted-bytes t h) ∙ (plain-sized (typeBytes t) ∙ of-bytes false (object-byte (t .letter) ∙ h) (typeBytes t) (plain-bytes-type t))
-
--- ---- so many times a size that is not 0
-pub times-is : (n size : ℕ) → (size ≡ 0 → ⊥) → timesBy (Is n) size ≡ number (n * size)
-times-is n zero h = absurd (h refl)
-times-is n (suc size) h = refl
-
-pub times-more : (size : ℕ) → (size ≡ 0 → ⊥) → timesBy Over size ≡ Over
-times-more zero h = absurd (h refl)
-times-more (suc size) h = refl

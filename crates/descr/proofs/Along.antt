@@ -1,9 +1,8 @@
--- Walks over the items of a bracket. `Along was g`: the row that begins behind the bracket has the items `was` and goes on at the gap g; each item that is
--- read moves it one on, and where the bracket closes the whole row is known. `Turn` is the same for the loop over fields, with their verdicts joined.
--- Every law speaks of whichever row stands there, so that no reading is inverted. Assumes nothing.
+-- Walks over the items of a bracket, one item after the other. `Turn` is what the loop over fields keeps: the verdict on the fields so far and those that
+-- are left give the verdict on all. Every law speaks of whichever row stands there, so that no reading is inverted. Assumes nothing.
 use Prim.Native.Nat.{ℕ, _<_, _≤_}
 use mathlib.Core.Path.{_≡_, refl, sym, ap, subst, _∙_}
-use mathlib.Core.List.{List, [], _∷_, _++_, append-nil, append-assoc}
+use mathlib.Core.List.{List, [], _∷_}
 use lib.ListN.{length}
 use lib.Dec.{lit<}
 use denote.Enum.Declared.{tagOf}
@@ -24,18 +23,20 @@ use Rattle.tokens.specs.declared.Parsed.the-variants.{Value}
 use Rattle.literal.proofs.Ends.{Ahead, value-ahead, then-ahead}
 use Rattle.literal.proofs.Rows.{row-step, row-shut, row-stray}
 use Rattle.literal.proofs.Steps.{gapLeft, gap-falls}
-use Rattle.descr.specs.declared.Totals.{Totals}
-use Rattle.descr.specs.declared.Verdict.{Verdict}
+use Rattle.field.specs.Begins.{gapPlace}
+use Rattle.sums.specs.declared.Totals.{Totals}
+use Rattle.sums.specs.declared.Verdict.{Verdict}
 use Rattle.descr.specs.declared.Judged.{Judged}
 use Rattle.record.specs.Dimensions.{subShape}
-use Rattle.dims.specs.Outline.{outlineOf}
-use Rattle.dims.specs.declared.Outline.{Outline}
+use Rattle.products.specs.Outline.{outlineOf}
+use Rattle.products.specs.declared.Outline.{Outline}
 use Rattle.dims.specs.declared.Judged as dims
 use Rattle.dims.specs.Answer as answers
-use Rattle.descr.specs.Totals.{nothing, arrayed}
-use Rattle.descr.specs.Verdict.{verdict, both}
-use Rattle.descr.specs.Judges.{Judges, JudgesRow, StandsRow, gapPlace, itemsBy}
-use Rattle.descr.proofs.Sums.{both-assoc, both-nothing}
+use Rattle.products.specs.Answer.{outlined}
+use Rattle.sums.specs.Totals.{nothing, arrayed}
+use Rattle.sums.specs.Verdict.{verdict, both}
+use Rattle.descr.specs.Judges.{Judges, JudgesRow, StandsRow, behindBy, itemsBy}
+use Rattle.sums.proofs.Sums.{both-assoc, both-nothing}
 use Rattle.descr.proofs.Adds.{fieldsBy, fieldBy, nameBy, descrBy, fields-step, fields-start, two-items, three-items}
 
 abbrev pub valuesOf : List Node → Values
@@ -67,51 +68,6 @@ module _ (k : ℕ) (s : List ℕ) (close : ℕ) where
   pub row-next : (ns : List Node) (g : Gap) (p e : ℕ) → g ≡ Item p → Row (value k s) s close ns g e
       → (n : Node) × (us : List Node) × (q : ℕ) × (ns ≡ n ∷ us) × (value k s p ≡ got n q) × Row (value k s) s close us (thenAt s q close) e
   row-next ns g p e hg h = row-step (value k s) s close ns p e (subst (λ (x : Gap). Row (value k s) s close ns x e) hg h)
-
-  module _ (from : ℕ) where
-    abbrev pub Along : List Node → Gap → Type 0
-    Along was g = (ns : List Node) (e : ℕ) → Row (value k s) s close ns (gapAt s from close) e → (us : List Node) × Row (value k s) s close us g e × (ns ≡ was ++ us)
-
-    pub along-start : (g : Gap) → g ≡ gapAt s from close → Along [] g
-    along-start g hg ns e h = (ns, subst (λ (x : Gap). Row (value k s) s close ns x e) (sym hg) h, refl)
-
-    pub along-item : (was : List Node) (g : Gap) (p : ℕ) → StandsRow k s close (gapAt s from close) → Along was g → g ≡ Item p → Stands k s p
-    along-item was g p st al hg =
-        let o = al (st .0) (st .1) (st .2) in
-        let r = row-next (o .0) g p (st .1) hg (o .1) in
-        (r .0, r .2, r .4)
-
-    pub along-more : (was : List Node) (g g′ : Gap) (p q : ℕ) (n : Node) → Along was g → g ≡ Item p → value k s p ≡ got n q → g′ ≡ thenAt s q close → Along (was ++ n ∷ []) g′
-    along-more was g g′ p q n al hg hv hg′ ns e h =
-        let o = al ns e h in
-        let r = row-next (o .0) g p e hg (o .1) in
-        let same = one-value (r .4) hv in (
-          r .1,
-          subst (λ (x : Gap). Row (value k s) s close (r .1) x e) (ap (λ (z : ℕ). thenAt s z close) (same .1) ∙ sym hg′) (r .5),
-          o .2 ∙ (ap (λ (x : List Node). was ++ x) (r .3 ∙ ap (λ (z : Node). z ∷ r .1) (same .0)) ∙ sym (append-assoc was (n ∷ []) (r .1))),
-        )
-
-    pub along-end : (was : List Node) (g : Gap) (f : Values → Outcome Totals) (r : Judged) → Along was g → OneOf (0 ∷ 2 ∷ []) (tagOf the-type g)
-        → r .end ≡ gapPlace g → verdict (r .verdict) ≡ f (valuesOf was) → JudgesRow k s from close f r
-    along-end was g f r al o he hv =
-        record {
-          of-row = λ ns e h.
-              let w = al ns e h in
-              let z = row-over (w .0) g e o (w .1) in
-              (he ∙ z .1, hv ∙ sym (ap (λ (x : List Node). f (valuesOf x)) (w .2 ∙ (ap (λ (x : List Node). was ++ x) (z .0) ∙ append-nil was))));
-        }
-
-    -- the row goes on, and its end has been found
-    pub along-rest : (was : List Node) (g : Gap) (p : ℕ) (f : Values → Outcome Totals) (r : Judged) → Along was g → g ≡ Item p
-        → ((ns : List Node) (e : ℕ) → Row (value k s) s close ns (Item p) e → r .end ≡ e) → ((n : Node) (us : List Node) → verdict (r .verdict) ≡ f (valuesOf (was ++ n ∷ us)))
-        → JudgesRow k s from close f r
-    along-rest was g p f r al hg he hv =
-        record {
-          of-row = λ ns e h.
-              let w = al ns e h in
-              let x = row-next (w .0) g p e hg (w .1) in
-              (he (w .0) e (subst (λ (y : Gap). Row (value k s) s close (w .0) y e) hg (w .1)), hv (x .0) (x .1) ∙ sym (ap (λ (y : List Node). f (valuesOf y)) (w .2 ∙ ap (λ (y : List Node). was ++ y) (x .3))));
-        }
 
 -- ---- the loop over fields
 module _ (k : ℕ) (s : List ℕ) (from : ℕ) where
@@ -194,6 +150,13 @@ items-three a b c x y w z hx hy hz hw =
     let e : w ≡ levelsOver (descrBy (forget b)) (each outlineOf (subShape (forget c))) = hw ∙ (ap (λ (u : Outcome Totals). levelsOver u z) hy ∙ ap (λ (u : Outcome Outline). levelsOver (descrBy (forget b)) u) hz) in
     ap (λ (u : Outcome Totals). both u w) hx ∙ (ap (λ (u : Outcome Totals). both (nameBy (forget a)) u) e ∙ three-items (forget a) (forget b) (forget c))
 
+-- what stands behind a field's name and inner descr
+pub items-behind : (a b : Node) (ns : List Node) (x y : Outcome Totals) → x ≡ nameBy (forget a) → y ≡ descrBy (forget b) → behindBy x y (valuesOf ns) ≡ itemsBy (valuesOf (a ∷ b ∷ ns))
+unfolding forgetAll
+items-behind a b [] x y hx hy = items-two a b x y hx hy
+items-behind a b (c ∷ []) x y hx hy = items-three a b c x y (levelsOver y (each outlineOf (subShape (forget c)))) (each outlineOf (subShape (forget c))) hx hy refl refl
+items-behind a b (c ∷ d ∷ ns) x y hx hy = items-many a b c d ns
+
 -- ---- one item more is read, of which nothing is judged
 pub rest-more : (k : ℕ) (s : List ℕ) (close : ℕ) (ns : List Node) (g g′ : Gap) (p q e : ℕ) (r : Parsed) → g ≡ Item p → r ≡ Value q → r ≡ pos (value k s p) → g′ ≡ thenAt s q close
     → Row (value k s) s close ns g e → (us : List Node) × Row (value k s) s close us g′ e
@@ -204,5 +167,5 @@ rest-more k s close ns g g′ p q e r hg hq hr hg′ h =
     (x .1, subst (λ (y : Gap). Row (value k s) s close (x .1) y e) (ap (λ (z : ℕ). thenAt s z close) i ∙ sym hg′) (x .5))
 
 -- ---- a sub-shape, as crate dims judges it
-pub sub-judged : (p : ℕ) (g : Got Node) (n : Node) (q : ℕ) (r : dims.Judged) → answers.Judges p g r → g ≡ got n q → (r .end ≡ q) × (answers.outlined (r .verdict) ≡ each outlineOf (subShape (forget n)))
+pub sub-judged : (p : ℕ) (g : Got Node) (n : Node) (q : ℕ) (r : dims.Judged) → answers.Judges p g r → g ≡ got n q → (r .end ≡ q) × (outlined (r .verdict) ≡ each outlineOf (subShape (forget n)))
 sub-judged p g n q r j h = (j .ends ∙ ap (λ (x : Got Node). answers.endOr p x) h, j .says ∙ ap (λ (x : Got Node). each outlineOf (answers.dimensionsAt x)) h)

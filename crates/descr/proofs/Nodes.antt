@@ -23,28 +23,17 @@ use Rattle.literal.specs.Rows.{Row, kindOfNode}
 use Rattle.literal.specs.Forget.{forget}
 use Rattle.tokens.specs.declared.bytes.Kind.{Kind}
 use Rattle.tokens.specs.declared.bytes.Kind.the-variants.{Square, Round, Curly, Quote, Minus, Digit, TrueWord, FalseWord, NoneWord, Other}
-use Rattle.tokens.proofs.Positions.{kind-in}
 use Rattle.literal.proofs.View.{view, value-kind}
-use Rattle.descr.specs.Totals.{totalsOf, oneEntry, nameTotals}
-use Rattle.descr.specs.Verdict.{both}
-use Rattle.descr.specs.Judges.{isString, typedAt, namedAt, itemsBy}
+use Rattle.sums.specs.Totals.{totalsOf, oneEntry, nameTotals}
+use Rattle.sums.specs.Verdict.{both}
+use Rattle.field.specs.Begins.{isString}
+use Rattle.field.proofs.Begins.{string-kind}
+use Rattle.descr.specs.Judges.{typedAt, namedAt, itemsBy}
 use Rattle.descr.proofs.Adds.{fieldsBy, fieldBy, descrBy, nameBy, record-step}
 use Rattle.descr.proofs.Along.{valuesOf}
 
 true-false : {A : Type 0} → true ≡ false → A
 true-false h = absurd (let z : _≡_ {A = ℕ} 0 1 = cc in omega arith)
-
-pub string-kind : (k : Kind) → isString k ≡ true → k ≡ Quote
-string-kind Square h = true-false (sym h)
-string-kind Round h = true-false (sym h)
-string-kind Curly h = true-false (sym h)
-string-kind Quote h = refl
-string-kind Minus h = true-false (sym h)
-string-kind Digit h = true-false (sym h)
-string-kind TrueWord h = true-false (sym h)
-string-kind FalseWord h = true-false (sym h)
-string-kind NoneWord h = true-false (sym h)
-string-kind Other h = true-false (sym h)
 
 pub square-kind : (k : Kind) → closingOf k ≡ 93 → k ≡ Square
 square-kind Square h = refl
@@ -58,29 +47,11 @@ square-kind FalseWord h = absurd (omega arith)
 square-kind NoneWord h = absurd (omega arith)
 square-kind Other h = absurd (omega arith)
 
-closing-begins : (s : List ℕ) (at : ℕ) (k : Kind) → kindOf (byteAt s at) ≡ k → (closingOf k ≡ 0 → ⊥) → at < length s
-closing-begins s at Square e h = kind-in s at e refl
-closing-begins s at Round e h = kind-in s at e refl
-closing-begins s at Curly e h = absurd (h refl)
-closing-begins s at Quote e h = absurd (h refl)
-closing-begins s at Minus e h = absurd (h refl)
-closing-begins s at Digit e h = absurd (h refl)
-closing-begins s at TrueWord e h = absurd (h refl)
-closing-begins s at FalseWord e h = absurd (h refl)
-closing-begins s at NoneWord e h = absurd (h refl)
-closing-begins s at Other e h = absurd (h refl)
-
 each-plain : (o : Outcome TypeStr) → each totalsOf (each plain o) ≡ each (λ t. totalsOf (plain t)) o
 each-plain (gives t) = refl
 each-plain (refused n) = refl
 
 module _ (s : List ℕ) (at : ℕ) where
-  pub string-in : isString (kindOf (byteAt s at)) ≡ true → at < length s
-  string-in h = kind-in s at (string-kind (kindOf (byteAt s at)) h) refl
-
-  pub closing-in : (closingOf (kindOf (byteAt s at)) ≡ 0 → ⊥) → at < length s
-  closing-in h = closing-begins s at (kindOf (byteAt s at)) refl h
-
   module _ (k : ℕ) (n : Node) (e : ℕ) (h : valueOf k s at ≡ got n e) where
     pub end-is : place (pos (valueOf k s at)) ≡ e
     end-is = ap (λ (g : Got Node). place (pos g)) h

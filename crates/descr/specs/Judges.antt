@@ -3,10 +3,10 @@
 use Prim.Native.Nat.{ℕ, _+_}
 use mathlib.Core.Path.{_≡_}
 use mathlib.Core.List.{List}
-use mathlib.Core.Bool.{Bool, true, false, not, cond}
+use mathlib.Core.Bool.{not, cond}
 use lib.ListN.{length}
-use Rattle.counts.specs.Outcome.{Outcome, gives, refused, each, unless}
-use Rattle.grammar.specs.Value.{Value, Values}
+use Rattle.counts.specs.Outcome.{Outcome, gives, refused, then, each, unless}
+use Rattle.grammar.specs.Value.{Value, Values, end-of-values, value-then}
 use Rattle.type_str.specs.TypeString.{typeString}
 use Rattle.dtype.specs.Dtype.{plain}
 use Rattle.record.specs.Descr.{twoOrThree, namedOf}
@@ -18,44 +18,30 @@ use Rattle.literal.specs.Literal.{value}
 use Rattle.literal.specs.Brackets.{gapAt}
 use Rattle.literal.specs.Rows.{Row}
 use Rattle.literal.specs.Forget.{forget, forgetAll}
-use Rattle.tokens.specs.declared.bytes.Kind.{Kind}
-use Rattle.tokens.specs.declared.bytes.Kind.the-variants.{Square, Round, Curly, Quote, Minus, Digit, TrueWord, FalseWord, NoneWord, Other}
 use Rattle.literal.specs.declared.gaps.Gap.{Gap}
-use Rattle.literal.specs.declared.gaps.Gap.the-variants.{Shut, Item, Stray}
-use Rattle.descr.specs.declared.Totals.{Totals}
+use Rattle.sums.specs.declared.Totals.{Totals}
+use Rattle.record.specs.Dimensions.{subShape}
+use Rattle.products.specs.Outline.{outlineOf}
+use Rattle.field.specs.Begins.{isString}
+use Rattle.sums.specs.Totals.{totalsOf, fieldTotals, nameTotals, arrayed}
+use Rattle.sums.specs.Verdict.{verdict, both}
 use Rattle.descr.specs.declared.Judged.{Judged}
-use Rattle.descr.specs.Totals.{totalsOf, fieldTotals, nameTotals}
-use Rattle.descr.specs.Verdict.{verdict}
 
 -- of the value at `at`, where k brackets more may open
 pub record Judges (k : ℕ) (s : List ℕ) (at : ℕ) (f : Value → Outcome Totals) (r : Judged) : Type 0 where
   pub of-value : (n : Node) (e : ℕ) → value k s at ≡ got n e → (r .end ≡ e) × (verdict (r .verdict) ≡ f (forget n))
 
--- of the items from `from` up to the bracket
-pub record JudgesRow (k : ℕ) (s : List ℕ) (from close : ℕ) (f : Values → Outcome Totals) (r : Judged) : Type 0 where
-  pub of-row : (ns : List Node) (e : ℕ) → Row (value k s) s close ns (gapAt s from close) e → (r .end ≡ e) × (verdict (r .verdict) ≡ f (forgetAll (nodes ns)))
+-- of the items from the gap on
+pub record JudgesFrom (k : ℕ) (s : List ℕ) (close : ℕ) (g : Gap) (f : Values → Outcome Totals) (r : Judged) : Type 0 where
+  pub of-row : (ns : List Node) (e : ℕ) → Row (value k s) s close ns g e → (r .end ≡ e) × (verdict (r .verdict) ≡ f (forgetAll (nodes ns)))
+
+-- of those from `from` up to the bracket
+abbrev pub JudgesRow : (k : ℕ) (s : List ℕ) (from close : ℕ) (f : Values → Outcome Totals) (r : Judged) → Type 0
+JudgesRow k s from close f r = JudgesFrom k s close (gapAt s from close) f r
 
 -- items stand from the gap on
 abbrev pub StandsRow : ℕ → List ℕ → ℕ → Gap → Type 0
 StandsRow k s close g = (ns : List Node) × (e : ℕ) × Row (value k s) s close ns g e
-
-abbrev pub gapPlace : Gap → ℕ
-gapPlace (Shut e) = e
-gapPlace (Item p) = p
-gapPlace (Stray p) = p
-
--- what a string begins with
-abbrev pub isString : Kind → Bool
-isString Square = false
-isString Round = false
-isString Curly = false
-isString Quote = true
-isString Minus = false
-isString Digit = false
-isString TrueWord = false
-isString FalseWord = false
-isString NoneWord = false
-isString Other = false
 
 -- the string at `at`, as a type string
 abbrev pub typedAt : List ℕ → ℕ → Outcome Totals
@@ -68,3 +54,9 @@ namedAt s at = cond (isString (kindOf (byteAt s at))) (gives (nameTotals (length
 -- items as a field's: their count first
 abbrev pub itemsBy : Values → Outcome Totals
 itemsBy vs = each fieldTotals (unless (not (twoOrThree vs)) 14 (namedOf vs))
+
+-- what stands behind a field's inner descr, by the verdicts on its name and on that descr: nothing more, or its sub-shape
+abbrev pub behindBy : Outcome Totals → Outcome Totals → Values → Outcome Totals
+behindBy x y end-of-values = both x y
+behindBy x y (value-then v end-of-values) = both x (then y (λ t. each (λ o. arrayed o t) (each outlineOf (subShape v))))
+behindBy x y (value-then v (value-then w vs)) = refused 14

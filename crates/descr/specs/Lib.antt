@@ -1,3 +1,1 @@
-pub mod Totals
-pub mod Verdict
 pub mod Judges

@@ -6,6 +6,8 @@ use mathlib.Core.Path.{_≡_, refl, sym, ap, subst, _∙_}
 use mathlib.Core.List.{List, [], _∷_}
 use mathlib.Core.Bool.{false}
 use lib.ListN.{length}
+use denote.Enum.Declared.{tagOf}
+use types.Run.{OneOf, miss}
 use Rattle.counts.specs.Outcome.{Outcome, gives, refused, then, each}
 use Rattle.counts.specs.declared.Number.the-variants.{Is}
 use Rattle.counts.proofs.Fits.{number-is}
@@ -21,18 +23,33 @@ use Rattle.literal.specs.Rows.{Row}
 use Rattle.tokens.specs.declared.Parsed.the-variants.{Value}
 use Rattle.tokens.specs.declared.bytes.Kind.{Kind}
 use Rattle.tokens.specs.declared.bytes.Kind.the-variants.{Square, Round, Curly, Quote, Minus, Digit, TrueWord, FalseWord, NoneWord, Other}
+use Rattle.tokens.proofs.bytes.Kind.{the-type}
 use Rattle.tokens.proofs.Positions.{kind-in}
 use Rattle.literal.proofs.Steps.{Stops, thing}
 use Rattle.literal.proofs.View.{view}
-use Rattle.dims.specs.declared.Outline.{Outline}
-use Rattle.dims.specs.declared.Verdict.{Verdict}
-use Rattle.dims.specs.declared.Verdict.the-variants.{Good, Form, Large}
-use Rattle.dims.specs.declared.Member as member
-use Rattle.dims.specs.declared.Member.{Member}
-use Rattle.dims.specs.Outline.{outlineOf, extendedBy}
-use Rattle.dims.specs.Answer.{sized, outlined, endOr, dimensionsAt, Judges}
-use Rattle.dims.specs.Walk.{closingOf, dimensionsOf, rankOf}
-use Rattle.dims.proofs.Outlines.{extends, outline-whole}
+use Rattle.products.specs.declared.Outline.{Outline}
+use Rattle.products.specs.declared.Verdict.{Verdict}
+use Rattle.products.specs.declared.Verdict.the-variants.{Good, Form, Large}
+use Rattle.products.specs.declared.Member as member
+use Rattle.products.specs.declared.Member.{Member}
+use Rattle.products.specs.Outline.{outlineOf, extendedBy}
+use Rattle.products.specs.Answer.{sized, outlined, rankOf}
+use Rattle.products.proofs.Outlines.{extends, outline-whole}
+use Rattle.dims.specs.Answer.{endOr, dimensionsAt, Judges}
+use Rattle.dims.specs.Walk.{closingOf, dimensionsOf}
+
+-- every kind but a list's and a tuple's
+pub other-kind : (k : Kind) → OneOf (2 ∷ 3 ∷ 4 ∷ 5 ∷ 6 ∷ 7 ∷ 8 ∷ 9 ∷ []) (tagOf the-type k) → closingOf k ≡ 0
+other-kind Square o = absurd (miss (2 ∷ 3 ∷ 4 ∷ 5 ∷ 6 ∷ 7 ∷ 8 ∷ 9 ∷ []) 0 tt o)
+other-kind Round o = absurd (miss (2 ∷ 3 ∷ 4 ∷ 5 ∷ 6 ∷ 7 ∷ 8 ∷ 9 ∷ []) 1 tt o)
+other-kind Curly o = refl
+other-kind Quote o = refl
+other-kind Minus o = refl
+other-kind Digit o = refl
+other-kind TrueWord o = refl
+other-kind FalseWord o = refl
+other-kind NoneWord o = refl
+other-kind Other o = refl
 
 -- ---- the loop
 abbrev pub Met : Verdict → List Node → List Node → Type 0
@@ -69,10 +86,6 @@ unfolding forget forgetAll
 met-end (Good o) ns h = sym h
 met-end Form ns h = sym h
 met-end Large ns h = sym h
-
-pub joined-good : (v : Verdict) (m : Member) (o r : Outline) (n : ℕ) → v ≡ Good o → m ≡ member.Member.Is n → r ≡ extendedBy o n
-    → gives r ≡ then (outlined v) (λ o. each (extendedBy o) (sized m))
-joined-good v m o r n hv hm hr = rw (hv, hm) (ap gives hr)
 
 -- a verdict counts one more at most
 pub rank-more : (v v′ : Verdict) (m : Member) → outlined v′ ≡ then (outlined v) (λ o. each (extendedBy o) (sized m)) → rankOf v′ ≤ rankOf v + 1

@@ -1,7 +1,4 @@
 pub mod Numbers
-pub mod Outlines
-pub mod Levels
-pub mod Orders
 pub mod Goes
 pub mod Held
 pub mod Stored

@@ -2,34 +2,18 @@
 use Prim.Native.Nat.{ℕ}
 use mathlib.Core.Path.{_≡_, refl, sym, _∙_}
 use mathlib.Core.List.{List}
-use mathlib.Core.Bool.{Bool, cond}
-use lib.Dec.{eqb}
-use Rattle.counts.specs.Outcome.{Outcome, gives, refused}
 use Rattle.counts.specs.OneOutcome.{OneOutcome}
-use Rattle.counts.proofs.OneOutcome.{by-equation, by-inverse}
-use Rattle.counts.specs.declared.Number.{Number}
-use Rattle.dtype.specs.declared.Order.{Order}
+use Rattle.counts.proofs.OneOutcome.{by-equation}
 use Rattle.tokens.specs.Node.{Node}
 use Rattle.tokens.specs.Got.{Got}
 use Rattle.tokens.specs.declared.bytes.Kind.{Kind}
-use Rattle.dims.specs.declared.Outline.{Outline}
+use Rattle.products.specs.declared.Verdict.{Verdict}
+use Rattle.products.specs.Answer.{outlined}
+use Rattle.products.proofs.OneOutcome.{joined-one}
 use Rattle.dims.specs.declared.Judged.{Judged}
-use Rattle.dims.specs.declared.Verdict.{Verdict}
-use Rattle.dims.specs.declared.Verdict.the-variants.{Good, Form, Large}
-use Rattle.dims.specs.Outline.{largestIn, overIn}
-use Rattle.dims.specs.Answer.{outlined, Judges}
+use Rattle.dims.specs.Answer.{Judges}
 use Rattle.dims.specs.Walk.{closingOf}
 use Rattle.dims.specs.Fill.{Shape, Fills}
-
-verdictOf : Outcome Outline → Verdict
-verdictOf (gives o) = Good o
-verdictOf (refused n) = cond (eqb n 12) Large Form
-
-verdict-back : (v : Verdict) → verdictOf (outlined v) ≡ v
-unfolding verdictOf
-verdict-back (Good o) = refl
-verdict-back Form = refl
-verdict-back Large = refl
 
 judged-eq : {e e′ : ℕ} {v v′ : Verdict} → e ≡ e′ → v ≡ v′ → _≡_ {A = Judged} (record { end = e; verdict = v }) (record { end = e′; verdict = v′ })
 judged-eq he hv = cc
@@ -37,13 +21,7 @@ judged-eq he hv = cc
 pub judge-one : (at : ℕ) (g : Got Node) → OneOutcome (Judges at g)
 judge-one at g x y p q =
     judged-eq {e = x .end} {e′ = y .end} {v = x .verdict} {v′ = y .verdict} (p .ends ∙ sym (q .ends))
-    (by-inverse outlined verdictOf verdict-back (outlined (y .verdict)) (x .verdict) (y .verdict) (p .says ∙ sym (q .says)) refl)
-
-pub over-one : (o : Order) (shape : Outline) → OneOutcome {A = Bool} (λ r. r ≡ overIn o shape)
-over-one o shape = by-equation (overIn o shape)
-
-pub largest-one : (levels : Outline) (size : ℕ) → OneOutcome {A = Number} (λ r. r ≡ largestIn levels size)
-largest-one levels size = by-equation (largestIn levels size)
+    (joined-one (outlined (y .verdict)) (x .verdict) (y .verdict) (p .says ∙ sym (q .says)) refl)
 
 pub closing-one : (k : Kind) → OneOutcome {A = ℕ} (λ r. r ≡ closingOf k)
 closing-one k = by-equation (closingOf k)

@@ -32,10 +32,11 @@ use Rattle.tokens.proofs.Parsed as parsed
 use Rattle.literal.proofs.gaps.Gap as gap
 use Rattle.literal.proofs.Ends.{GapAhead, value-ahead, then-ahead}
 use Rattle.literal.proofs.Steps.{read-ahead}
-use Rattle.dims.proofs.Member.{the-type}
-use Rattle.dims.specs.declared.Member as member
-use Rattle.dims.specs.declared.Member.{Member}
-use Rattle.dims.specs.Answer.{sized, dimensionsAt}
+use Rattle.products.proofs.Member.{the-type}
+use Rattle.products.specs.declared.Member as member
+use Rattle.products.specs.declared.Member.{Member}
+use Rattle.products.specs.Answer.{sized}
+use Rattle.dims.specs.Answer.{dimensionsAt}
 use Rattle.dims.specs.Walk.{closingOf, dimensionsOf, SizeAt}
 use Rattle.dims.specs.Fill.{Stored, MembersFill}
 use Rattle.dims.proofs.Goes.{Goes, goes-start, goes-end, goes-item, goes-more, goes-stop, Counted, counted-none, counted-at, counted-more}

@@ -1,6 +1,5 @@
--- What each answer of this crate stands for: document 01's number, or what was read. Refusal 11: "shape or sub-shape not a list or tuple; member not an
--- integer, or negative". Refusal 12: "dimension over 2^64-1". The definitions of the record (crate record) say what a value gives; where no value
--- stands, the answer is as for a value of another kind, and the end is the position itself. Definitions only. Assumes nothing.
+-- What judging a shape or sub-shape owes. What a verdict stands for is crate products' Answer.antt. The definitions of the record (crate record) say what a
+-- value gives; where no value stands, the answer is as for a value of another kind, and the end is the position itself. Definitions only. Assumes nothing.
 use Prim.Native.Nat.{ℕ}
 use mathlib.Core.Path.{_≡_}
 use mathlib.Core.List.{List}
@@ -10,25 +9,9 @@ use Rattle.record.specs.Dimensions.{subShape}
 use Rattle.tokens.specs.Node.{Node}
 use Rattle.tokens.specs.Got.{Got, got, fault, deep}
 use Rattle.literal.specs.Forget.{forget}
-use Rattle.dims.specs.declared.Outline.{Outline}
-use Rattle.dims.specs.declared.Verdict.{Verdict}
-use Rattle.dims.specs.declared.Verdict.the-variants.{Good, Form, Large}
-use Rattle.dims.specs.declared.Member as member
-use Rattle.dims.specs.declared.Member.{Member}
+use Rattle.products.specs.Outline.{outlineOf}
+use Rattle.products.specs.Answer.{outlined}
 use Rattle.dims.specs.declared.Judged.{Judged}
-use Rattle.dims.specs.Outline.{outlineOf}
-
--- one dimension
-abbrev pub sized : Member → Outcome ℕ
-sized (member.Member.Is n) = gives n
-sized member.Member.Form = refused 11
-sized member.Member.Large = refused 12
-
--- a shape or sub-shape
-abbrev pub outlined : Verdict → Outcome Outline
-outlined (Good o) = gives o
-outlined Form = refused 11
-outlined Large = refused 12
 
 -- the value that was read, or refused with n
 abbrev pub valueOr : ℕ → Got Node → Outcome Value

@@ -1,4 +1,3 @@
-pub mod Outline
 pub mod Answer
 pub mod Walk
 pub mod Fill

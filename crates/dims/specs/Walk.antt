@@ -12,11 +12,10 @@ use Rattle.literal.specs.Brackets.{gapAt}
 use Rattle.literal.specs.Rows.{Row}
 use Rattle.tokens.specs.declared.bytes.Kind.{Kind}
 use Rattle.tokens.specs.declared.bytes.Kind.the-variants.{Square, Round, Curly, Quote, Minus, Digit, TrueWord, FalseWord, NoneWord, Other}
-use Rattle.dims.specs.declared.Verdict.{Verdict}
-use Rattle.dims.specs.declared.Verdict.the-variants.{Good, Form, Large}
-use Rattle.dims.specs.declared.Member.{Member}
-use Rattle.dims.specs.Outline.{outlineOf}
-use Rattle.dims.specs.Answer.{sized, outlined}
+use Rattle.products.specs.declared.Verdict.{Verdict}
+use Rattle.products.specs.declared.Member.{Member}
+use Rattle.products.specs.Outline.{outlineOf}
+use Rattle.products.specs.Answer.{sized, outlined}
 
 -- the closing bracket of a list or a tuple, by the kind of its first byte, or 0
 abbrev pub closingOf : Kind → ℕ
@@ -34,12 +33,6 @@ closingOf Other = 0
 -- the dimensions of members
 abbrev pub dimensionsOf : List Node → Outcome (List ℕ)
 dimensionsOf ns = dimensions (forgetAll (nodes ns))
-
--- how many dimensions a good verdict has seen
-abbrev pub rankOf : Verdict → ℕ
-rankOf (Good o) = o .rank
-rankOf Form = 0
-rankOf Large = 0
 
 -- what the dimension of the value at a position has to be, whichever value stands there
 abbrev pub SizeAt : List ℕ → ℕ → Member → Type 0

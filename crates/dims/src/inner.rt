@@ -1,11 +1,11 @@
 // Storing the dimensions of a shape that was judged good: for the crates of the header reader, which judge first.
-use super::Member;
 use super::closing;
 use super::dimension;
 use literal::gaps::Gap;
 use literal::gaps::gap_at;
 use literal::gaps::then_at;
 use literal::value;
+use products::Member;
 use tokens::Parsed;
 use tokens::bytes::kind_of;
 use tokens::bytes::peek;

@@ -3,56 +3,36 @@
 pub mod inner;
 
 use counts::Number;
-use dtype::Order;
 use literal::gaps::Gap;
 use literal::gaps::gap_at;
 use literal::gaps::then_at;
 use literal::value;
+use products::Member;
+use products::Outline;
+use products::Verdict;
+use products::inner::joined;
 use tokens::Parsed;
 use tokens::bytes::Kind;
 use tokens::bytes::kind_of;
 use tokens::bytes::peek;
 use tokens::tokens::natural;
 ghost use mathlib.Core.Path.{_≡_};
-ghost use Prim.Native.Nat.{ℕ, _<_, _^_, _-_};
+ghost use Prim.Native.Nat.{ℕ};
 ghost use Rattle.counts.specs.Number.{number};
-ghost use Rattle.counts.specs.Outcome.{then, each};
 ghost use Rattle.decimal.specs.Decimal.{decimal};
 ghost use Rattle.record.specs.Dimensions.{signed};
 ghost use mathlib.Core.Bool.{true, false};
 ghost use Rattle.literal.specs.Literal.{value as valueOf};
 ghost use Rattle.tokens.specs.Text.{part};
 ghost use Rattle.tokens.specs.Tokens.{naturalAt};
-ghost use Rattle.dims.specs.Outline.{scaledBy, extendedBy, isOver, largestIn, overIn};
-ghost use Rattle.dims.specs.Answer.{sized, outlined, Judges};
-ghost use Rattle.dims.specs.Walk.{closingOf, rankOf, SizeAt, MembersFrom};
-
-// How many dimensions there are, whether one is 0, and the products of those before the first 0 and behind the last 0.
-pub struct Outline {
-    pub rank: usize,
-    pub empty: bool,
-    pub before: Number,
-    pub behind: Number,
-}
-
-// A shape or sub-shape; or 11; or 12.
-pub enum Verdict {
-    Good(Outline),
-    Form,
-    Large,
-}
+ghost use Rattle.products.specs.Answer.{sized};
+ghost use Rattle.dims.specs.Answer.{Judges};
+ghost use Rattle.dims.specs.Walk.{closingOf, SizeAt, MembersFrom};
 
 // Where a value ends, and what it is as a shape or sub-shape.
 pub struct Judged {
     pub end: usize,
     pub verdict: Verdict,
-}
-
-// A dimension; or 11; or 12.
-pub enum Member {
-    Is(u64),
-    Form,
-    Large,
 }
 
 // Judges the value at `at`, where `room` brackets more may open at once. Every member is looked at, and the first bad one decides.
@@ -79,38 +59,6 @@ pub fn judge(text: &[u8], at: usize, room: usize) -> Judged
     }
 }
 
-// Whether the item count or a stride of the order is over 2^64-1 (22).
-pub fn over(shape: Outline, order: Order) -> bool
-    ensures { λ r. ⌜ r ≡ overIn order shape ⌝ }
-{
-    let before = shape.before;
-    let behind = shape.behind;
-    match order {
-        Order::C => is_over(behind),
-        Order::Fortran => is_over(before),
-    }
-}
-
-// The largest size that an array level of a sub-shape has, over items of `size` bytes (21).
-pub fn largest(levels: Outline, size: u64) -> Number
-    ensures { λ r. ⌜ r ≡ largestIn levels size ⌝ }
-{
-    let behind = levels.behind;
-    if size == 0 {
-        return Number::Is(0);
-    }
-    scaled(behind, size)
-}
-
-fn is_over(n: Number) -> bool
-    ensures { λ r. ⌜ r ≡ isOver n ⌝ }
-{
-    match n {
-        Number::Is(_) => false,
-        Number::Over => true,
-    }
-}
-
 // The bracket that closes a list or a tuple, by the kind of the byte that opens it; 0 for any other kind.
 pub fn closing(k: Kind) -> u8
     ensures { λ r. ⌜ r ≡ closingOf k ⌝ }
@@ -118,14 +66,14 @@ pub fn closing(k: Kind) -> u8
     match k {
         Kind::Square => 93,
         Kind::Round => 41,
-        Kind::Curly => 0,
-        Kind::Quote => 0,
-        Kind::Minus => 0,
-        Kind::Digit => 0,
-        Kind::TrueWord => 0,
-        Kind::FalseWord => 0,
-        Kind::NoneWord => 0,
-        Kind::Other => 0,
+        Kind::Curly
+        | Kind::Quote
+        | Kind::Minus
+        | Kind::Digit
+        | Kind::TrueWord
+        | Kind::FalseWord
+        | Kind::NoneWord
+        | Kind::Other => 0,
     }
 }
 
@@ -169,61 +117,6 @@ fn members(text: &[u8], from: usize, close: u8, room: usize) -> Verdict
         };
         verdict = joined(verdict, dimension(text, p));
         g = then_at(text, q, close);
-    }
-}
-
-// A verdict and one member more: the first refusal stays.
-fn joined(verdict: Verdict, member: Member) -> Verdict
-    requires { ⌜ rankOf verdict < 2 ^ 64 - 1 ⌝ }
-    ensures { λ r. ⌜ outlined r ≡ then (outlined verdict) (λ o. each (extendedBy o) (sized member)) ⌝ }
-{
-    match verdict {
-        Verdict::Form => Verdict::Form,
-        Verdict::Large => Verdict::Large,
-        Verdict::Good(o) => match member {
-            Member::Form => Verdict::Form,
-            Member::Large => Verdict::Large,
-            Member::Is(n) => Verdict::Good(extended(o, n)),
-        },
-    }
-}
-
-fn extended(o: Outline, n: u64) -> Outline
-    requires { ⌜ o .rank < 2 ^ 64 - 1 ⌝ }
-    ensures { λ r. ⌜ r ≡ extendedBy o n ⌝ }
-{
-    let before = o.before;
-    let behind = o.behind;
-    if n == 0 {
-        return Outline {
-            rank: o.rank + 1,
-            empty: true,
-            before: before,
-            behind: Number::Is(1),
-        };
-    }
-    if o.empty {
-        return Outline {
-            rank: o.rank + 1,
-            empty: true,
-            before: before,
-            behind: scaled(behind, n),
-        };
-    }
-    Outline {
-        rank: o.rank + 1,
-        empty: false,
-        before: scaled(before, n),
-        behind: scaled(behind, n),
-    }
-}
-
-fn scaled(a: Number, n: u64) -> Number
-    ensures { λ r. ⌜ r ≡ scaledBy a n ⌝ }
-{
-    match a {
-        Number::Is(a) => counts::product(a, n),
-        Number::Over => Number::Over,
     }
 }
 

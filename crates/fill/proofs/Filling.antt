@@ -12,15 +12,18 @@ use types.Run.{OneOf}
 use Rattle.counts.specs.Outcome.{Outcome, gives, refused, then, each}
 use Rattle.dtype.specs.declared.Entry.{Entry}
 use Rattle.dtype.specs.Dtype.{Dtype, Fields, plain, record-of, end-of-fields, field-then, sizeOf, sizesOf}
-use Rattle.dtype.specs.Entries.{entriesOf, entriesIn, fieldCount}
+use Rattle.dtype.specs.Entries.{entriesOf, entriesIn, fieldCount, levels}
 use Rattle.dtype.specs.Names.{nameBytes, nameBytesIn, namesOf, namesIn}
 use Rattle.dtype.specs.Flat.{entry-width, saturated, entryOf, numbers, flat, flats}
 use Rattle.dtype.proofs.Flat.{some-entry, flat-length, names-length}
 use Rattle.type_str.specs.declared.TypeStr.{TypeStr}
+use Rattle.type_str.specs.declared.TypeRead.{TypeRead}
+use Rattle.type_str.specs.Answer.{answer}
 use Rattle.type_str.specs.TypeString.{typeString}
 use Rattle.record.specs.Descr.{Field, arrays, descrOf, fieldOf, fieldsOf}
 use Rattle.tokens.specs.Node.{Node, nodes, string, integer, True, False, None, list, tuple, dict}
 use Rattle.tokens.specs.Got.{Got, got, pos}
+use Rattle.literal.specs.Answer.{place}
 use Rattle.literal.specs.Forget.{forget, forgetAll}
 use Rattle.tokens.specs.Text.{byteAt, kindOf}
 use Rattle.tokens.specs.Strings.{spelled}
@@ -38,10 +41,12 @@ use Rattle.literal.proofs.Steps.{gapLeft, gap-falls}
 use Rattle.fill.specs.declared.Spot.{Spot}
 use Rattle.fill.specs.declared.Many.{Many}
 use Rattle.fill.specs.declared.Parts.{Parts}
-use Rattle.fill.specs.Filled.{gapPlace, isString, upOf, nameOf, Narrow, NarrowIn, PartsOf, Levelled, Due, Filled, DueFields, FilledFields, DueField, FilledField, LevelsDue}
-use Rattle.fill.proofs.Stores.{sets-append, flat-front, names-front}
-use Rattle.fill.proofs.Parted.{refused-gives, row-none}
-use Rattle.fill.proofs.Levels.{entry-before, narrow-levels}
+use Rattle.field.specs.Begins.{gapPlace, isString}
+use Rattle.entry.specs.Written.{typeIn, upOf, nameOf, Levelled, LevelsDue, LevelsDueAt, Levels}
+use Rattle.entry.proofs.Stores.{sets-append, flat-front, names-front}
+use Rattle.entry.proofs.Levels.{entry-before}
+use Rattle.fill.specs.Filled.{Narrow, NarrowIn, PartsOf, Due, Fills, Filled, DueFields, DueFieldsFrom, FillsFields, FilledFields, DueField, FilledField}
+use Rattle.fill.proofs.Parted.{refused-gives, read-back, row-none}
 
 -- ---- a type string
 plain-back : (o : Outcome TypeStr) (d : Dtype) → each plain o ≡ gives d → (t : TypeStr) × (o ≡ gives t) × (d ≡ plain t)
@@ -302,17 +307,27 @@ module _ (k : ℕ) (s : List ℕ) (from entry up byte : ℕ) (table0 names0 : Li
         }
 
 -- ---- a type string's entry
-pub text-filled : (e entry up m byte : ℕ) (d : Dtype) (t : TypeStr) (table names table′ : List ℕ) (x : Entry) (end : ℕ) → d ≡ plain t → x ≡ entryOf (plain t) up m → end ≡ e
-    → table′ ≡ sets table (entry-width * entry) (numbers x []) → Filled e entry up m byte d table names table′ names (record { end = end; entry = entry + 1; byte = byte; size = x .bytes })
-text-filled e entry up m byte d t table names table′ x end hd hx he ht =
+pub text-filled : (e entry up m byte : ℕ) (d : Dtype) (t u : TypeStr) (table names table′ : List ℕ) (size end : ℕ) → d ≡ plain t → u ≡ t → end ≡ e → size ≡ saturated (sizeOf (plain u))
+    → table′ ≡ sets table (entry-width * entry) (numbers (entryOf (plain u) up m) []) → Filled e entry up m byte d table names table′ names (record { end = end; entry = entry + 1; byte = byte; size = size })
+text-filled e entry up m byte d t u table names table′ size end hd hu he hs ht =
+    let is : plain u ≡ d = ap plain hu ∙ sym hd in
     record {
       ends = he;
       next = ap (λ (y : Dtype). entry + entriesOf y) (sym hd);
       next-name = (let z : byte ≡ byte + 0 = omega arith in z) ∙ ap (λ (y : Dtype). byte + nameBytes y) (sym hd);
-      sized = ap (λ (y : Entry). y .bytes) hx ∙ ap (λ (y : Dtype). saturated (sizeOf y)) (sym hd);
-      table-after = ht ∙ ap (λ (y : Entry). sets table (entry-width * entry) (numbers y [])) hx ∙ ap (λ (y : Dtype). sets table (entry-width * entry) (flat y entry up m [])) (sym hd);
+      sized = hs ∙ ap (λ (y : Dtype). saturated (sizeOf y)) is;
+      table-after = ht ∙ ap (λ (y : Dtype). sets table (entry-width * entry) (flat y entry up m [])) is;
       names-after = ap (λ (y : Dtype). sets names byte (namesOf y [])) (sym hd);
     }
+
+-- few levels
+pub narrow-levels : (ns : List ℕ) (d : Dtype) → Narrow (arrays ns d) → (length ns ≤ 32) × Narrow d
+narrow-levels [] d h = (omega arith, h)
+narrow-levels (n ∷ ns) d h = (omega (arith, h .0, deep ns), narrow-levels ns d (h .1) .1)
+  where
+    deep : (ns : List ℕ) → length ns ≤ levels (arrays ns d)
+    deep [] = omega arith
+    deep (n ∷ ns) = omega (arith, deep ns)
 
 -- ---- a field
 arrays-entries : (ns : List ℕ) (d : Dtype) → entriesOf (arrays ns d) ≡ length ns + entriesOf d
@@ -395,6 +410,18 @@ module _ (k : ℕ) (s : List ℕ) (at entry up byte : ℕ) (table names : List �
               ∙ ap (λ (x : List ℕ). sets names byte (f .name ++ x)) (sym (arrays-names (w .ns) (w .d) []) ∙ ap (λ (x : Dtype). namesOf x []) (sym (w .typed)));
         }
 
+  module _ (p′ m′ : ℕ) (table1 names2 : List ℕ) (r : Spot) (hp : p′ ≡ upOf (p .rank) entry up) (hm′ : m′ ≡ nameOf (p .rank) m)
+      (fills : Fills (k - 1) s (p .inner) (entry + p .rank) p′ m′ (byte + m) table names1 table1 names2 r) where
+    inner-filled : Filled (w .end-of-node) (entry + p .rank) p′ m′ (byte + m) (w .d) table names1 table1 names2 r
+    inner-filled = fills (w .node) (w .end-of-node) (w .d) inner-due
+
+    pub levels-asked : LevelsDueAt (k - 1) s (p .shape) (p .rank) entry up m (r .entry) table1 (r .size)
+    levels-asked = (w .ns, table, w .d, levels-due p′ m′ table1 names2 r hp hm′ inner-filled)
+
+    pub field-whole : (table2 : List ℕ) (size : ℕ) → Levels (k - 1) s (p .shape) (p .rank) entry up m (r .entry) table1 (r .size) table2 size
+        → FilledField e entry up byte f table names table2 names2 (record { end = p .end; entry = r .entry; byte = r .byte; size = size })
+    field-whole table2 size l = field-filled p′ m′ table1 names2 r hp hm′ inner-filled table2 size (l (w .ns) table (w .d) (levels-due p′ m′ table1 names2 r hp hm′ inner-filled))
+
 -- ---- what is asked of the parts of a descr and of a field
 pub fields-due : (k : ℕ) (s : List ℕ) (at entry byte : ℕ) (table names : List ℕ) (n : Node) (e : ℕ) (d : Dtype) → Due k s at entry table byte names n e d → (l : Listed k s at e d)
     → DueFields (k - 1) s (at + 1) (entry + 1) table byte names (l .ns) e (l .fs)
@@ -418,6 +445,39 @@ pub rank-fits : (k : ℕ) (s : List ℕ) (at entry byte : ℕ) (table names : Li
 rank-fits k s at entry byte table names n e f p h w =
     let m = ap entriesOf (w .typed) ∙ arrays-entries (w .ns) (w .d) in
     omega (arith, h .room, m, w .ranked, some-entry (w .d))
+
+-- ---- a descr as a whole, by what stands at `at`
+module _ (k : ℕ) (s : List ℕ) (at entry up m byte : ℕ) (table names : List ℕ) (n : Node) (e : ℕ) (d : Dtype) (h : Due k s at entry table byte names n e d) where
+  pub text-whole : isString (kindOf (byteAt s at)) ≡ true → (r : TypeRead) → answer r ≡ typeString (spelled (byteAt s at) s (at + 1) .bytes) → (u : TypeStr) → u ≡ typeIn r
+      → (end : ℕ) → end ≡ place (pos (value k s at)) → (size : ℕ) → size ≡ saturated (sizeOf (plain u))
+      → (table′ : List ℕ) → table′ ≡ sets table (entry-width * entry) (numbers (entryOf (plain u) up m) []) → Filled e entry up m byte d table names table′ names (record { end = end; entry = entry + 1; byte = byte; size = size })
+  text-whole hq r hr u hu end he size hs table′ ht =
+      let t = text-due k s at e d n (h .stands) (h .is) hq in
+      text-filled e entry up m byte d (t .t) u table names table′ size end (t .plainly) (hu ∙ ap typeIn (read-back r (t .t) (hr ∙ t .is))) (he ∙ ap (λ (g : Got Node). place (pos g)) (h .stands)) hs ht
+
+  module _ (hq : isString (kindOf (byteAt s at)) ≡ false) where
+    listed : Listed k s at e d
+    listed = list-due k s at e d n (h .stands) (h .is) hq
+
+    pub fields-asked : (at < length s) × (0 < k) × DueFieldsFrom (k - 1) s (at + 1) (entry + 1) table byte names
+    fields-asked = (listed .inside, listed .deep, (listed .ns, e, listed .fs, fields-due k s at entry byte table names n e d h listed))
+
+    module _ (r : Many) (mid names′ : List ℕ) (hf : FillsFields (k - 1) s (at + 1) (entry + 1) entry byte table names mid names′ r) where
+      fields-filled : FilledFields e (entry + 1) entry byte (listed .fs) table names mid names′ r
+      fields-filled = hf (listed .ns) e (listed .fs) (fields-due k s at entry byte table names n e d h listed)
+
+      pub record-room : (9 * entry + 9 ≤ length mid) × (entry ≤ r .entry)
+      record-room =
+          let w = fields-filled in
+          let long = ap length (w .table-after) ∙ length-sets table (entry-width * (entry + 1)) (flats (listed .fs) (entry + 1) entry []) in
+          (omega (arith, long, h .room, some-entry d), omega (arith, w .next))
+
+      pub record-whole : (table′ : List ℕ)
+          → table′ ≡ sets mid (entry-width * entry) (numbers (record { parent = up; kind = 2; order = 0; letter = 0; number = r .count; units = 0; extent = r .entry - entry; bytes = r .size; name = m }) [])
+          → Filled e entry up m byte d table names table′ names′ (record { end = r .end; entry = r .entry; byte = r .byte; size = r .size })
+      record-whole table′ ht =
+          record-filled e entry up m byte (listed .fs) d table names mid names′ table′ r (record { parent = up; kind = 2; order = 0; letter = 0; number = r .count; units = 0; extent = r .entry - entry; bytes = r .size; name = m }) (listed .recorded)
+          fields-filled refl ht
 
 -- ---- no length changes
 module _ {e entry up m byte : ℕ} {table names table′ names′ : List ℕ} where

@@ -34,15 +34,17 @@ use Rattle.literal.specs.declared.gaps.Gap.the-variants.{Shut, Item, Stray}
 use Rattle.literal.proofs.gaps.Gap.{the-type}
 use Rattle.tokens.proofs.Positions.{kind-in}
 use Rattle.literal.proofs.View.{view, value-kind}
-use Rattle.dims.specs.declared.Outline.{Outline}
-use Rattle.dims.specs.declared.Verdict.{Verdict}
-use Rattle.dims.specs.declared.Verdict.the-variants.{Good, Form, Large}
+use Rattle.products.specs.declared.Outline.{Outline}
+use Rattle.products.specs.declared.Verdict.{Verdict}
+use Rattle.products.specs.declared.Verdict.the-variants.{Good, Form, Large}
 use Rattle.dims.specs.declared.Judged.{Judged}
-use Rattle.dims.specs.Outline.{outlineOf}
-use Rattle.dims.specs.Answer.{outlined, endOr, dimensionsAt, Judges}
+use Rattle.products.specs.Outline.{outlineOf}
+use Rattle.products.specs.Answer.{outlined, rankOf}
+use Rattle.dims.specs.Answer.{endOr, dimensionsAt, Judges}
 use Rattle.dims.specs.Walk.{closingOf}
 use Rattle.dims.proofs.Held.{Bracket, bracket, no-bracket}
-use Rattle.fill.specs.Filled.{gapPlace, rankOf, OneField, PartsOf}
+use Rattle.field.specs.Begins.{gapPlace}
+use Rattle.fill.specs.Filled.{OneField, PartsOf}
 
 pub refused-gives : {A B : Type 0} {a : A} {n : ℕ} → refused n ≡ gives a → B
 refused-gives h = absurd (let z : _≡_ {A = ℕ} 0 1 = cc in omega arith)

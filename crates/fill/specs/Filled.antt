@@ -1,11 +1,10 @@
 -- What the filling walk is asked and what it owes. Document 01, "The record": "The dtype table is listed depth first, left to right, parent first: one
 -- entry for each plain type, array level and record. Names are stored decoded, end to end in table order", and "The refusal numbers": "On success, room
 -- beyond what was needed is unchanged." The table and the names themselves are crate dtype's. Definitions only. Assumes nothing.
-use Prim.Native.Nat.{ℕ, zero, suc, _+_, _-_, _*_, _<_, _≤_}
+use Prim.Native.Nat.{ℕ, _+_, _-_, _*_, _<_, _≤_}
 use mathlib.Core.Path.{_≡_}
 use mathlib.Core.List.{List, [], _++_}
-use mathlib.Core.Bool.{Bool, true, false}
-use lib.ListN.{length, drop}
+use lib.ListN.{length}
 use lib.Seq.{sets}
 use Rattle.counts.specs.Outcome.{gives}
 use Rattle.dtype.specs.Dtype.{Dtype, Fields, plain, array, record-of, end-of-fields, field-then, sizeOf, sizesOf}
@@ -21,49 +20,10 @@ use Rattle.literal.specs.Literal.{value}
 use Rattle.literal.specs.Brackets.{gapAt}
 use Rattle.literal.specs.Rows.{Row}
 use Rattle.literal.specs.Forget.{forget, forgetAll}
-use Rattle.tokens.specs.declared.bytes.Kind.{Kind}
-use Rattle.tokens.specs.declared.bytes.Kind.the-variants.{Square, Round, Curly, Quote, Minus, Digit, TrueWord, FalseWord, NoneWord, Other}
-use Rattle.literal.specs.declared.gaps.Gap.{Gap}
-use Rattle.literal.specs.declared.gaps.Gap.the-variants.{Shut, Item, Stray}
-use Rattle.dims.specs.declared.Verdict.{Verdict}
-use Rattle.dims.specs.declared.Verdict.the-variants.{Good, Form, Large}
 use Rattle.dims.specs.Answer.{dimensionsAt}
 use Rattle.fill.specs.declared.Spot.{Spot}
 use Rattle.fill.specs.declared.Many.{Many}
 use Rattle.fill.specs.declared.Parts.{Parts}
-
-abbrev pub gapPlace : Gap → ℕ
-gapPlace (Shut e) = e
-gapPlace (Item p) = p
-gapPlace (Stray p) = p
-
--- what a string begins with
-abbrev pub isString : Kind → Bool
-isString Square = false
-isString Round = false
-isString Curly = false
-isString Quote = true
-isString Minus = false
-isString Digit = false
-isString TrueWord = false
-isString FalseWord = false
-isString NoneWord = false
-isString Other = false
-
--- how many dimensions a good sub-shape has
-abbrev pub rankOf : Verdict → ℕ
-rankOf (Good o) = o .rank
-rankOf Form = 0
-rankOf Large = 0
-
--- the parent and the name of level k of a field whose first entry is `entry`
-abbrev pub upOf : ℕ → (entry up : ℕ) → ℕ
-upOf zero entry up = up
-upOf (suc k) entry up = entry + k
-
-abbrev pub nameOf : ℕ → ℕ → ℕ
-nameOf zero m = m
-nameOf (suc k) m = 0
 
 -- no field has over 32 array levels
 abbrev mutual
@@ -103,20 +63,6 @@ pub record PartsOf (k : ℕ) (s : List ℕ) (e : ℕ) (f : Field) (r : Parts) : 
 
 abbrev pub PartsAt : ℕ → List ℕ → ℕ → Parts → Type 0
 PartsAt k s at r = (n : Node) (e : ℕ) (f : Field) → OneField k s at n e f → PartsOf k s e f r
-
--- ---- array levels
--- the table holds, behind the k outermost levels of ns, the others and the type d, whose entries end before `last`; they have this size
-pub record Levelled (old : List ℕ) (entry up m last : ℕ) (ns : List ℕ) (d : Dtype) (k : ℕ) (table : List ℕ) (size : ℕ) : Type 0 where
-  pub long : length table ≡ length old
-  pub room : entry-width * last ≤ length old
-  pub reaches : last ≡ entry + k + entriesOf (arrays (drop k ns) d)
-  pub sized : size ≡ saturated (sizeOf (arrays (drop k ns) d))
-  pub holds : table ≡ sets old (entry-width * (entry + k)) (flat (arrays (drop k ns) d) (entry + k) (upOf k entry up) (nameOf k m) [])
-
--- so does the table with no level left out, where it did with all of them
-abbrev pub LevelsOver : (entry up m last : ℕ) (ns : List ℕ) (table : List ℕ) (size : ℕ) (table′ : List ℕ) (size′ : ℕ) → Type 0
-LevelsOver entry up m last ns table size table′ size′ =
-    (old : List ℕ) (d : Dtype) → Levelled old entry up m last ns d (length ns) table size → Levelled old entry up m last ns d 0 table′ size′
 
 -- ---- a descr
 -- the value at `at` is a descr that gives d, and there is room for d
@@ -189,17 +135,3 @@ DueFieldAt k s at entry table byte names = (n : Node) × (e : ℕ) × (f : Field
 abbrev pub FillsField : (k : ℕ) (s : List ℕ) (at entry up byte : ℕ) (table names table′ names′ : List ℕ) → Spot → Type 0
 FillsField k s at entry up byte table names table′ names′ r =
     (n : Node) (e : ℕ) (f : Field) → DueField k s at entry table byte names n e f → FilledField e entry up byte f table names table′ names′ r
-
--- the levels ns of a sub-shape, which stands at `at` where it has dimensions, are due above the type d
-pub record LevelsDue (k : ℕ) (s : List ℕ) (at rank : ℕ) (old : List ℕ) (entry up m last : ℕ) (ns : List ℕ) (d : Dtype) (table : List ℕ) (size : ℕ) : Type 0 where
-  pub ranked : rank ≡ length ns
-  pub few : length ns ≤ 32
-  pub shaped : 0 < length ns → dimensionsAt (value k s at) ≡ gives ns
-  pub levelled : Levelled old entry up m last ns d (length ns) table size
-
-abbrev pub LevelsDueAt : (k : ℕ) (s : List ℕ) (at rank entry up m last : ℕ) (table : List ℕ) (size : ℕ) → Type 0
-LevelsDueAt k s at rank entry up m last table size = (ns : List ℕ) × (old : List ℕ) × (d : Dtype) × LevelsDue k s at rank old entry up m last ns d table size
-
-abbrev pub Levels : (k : ℕ) (s : List ℕ) (at rank entry up m last : ℕ) (table : List ℕ) (size : ℕ) (table′ : List ℕ) (size′ : ℕ) → Type 0
-Levels k s at rank entry up m last table size table′ size′ =
-    (ns : List ℕ) (old : List ℕ) (d : Dtype) → LevelsDue k s at rank old entry up m last ns d table size → Levelled old entry up m last ns d 0 table′ size′

@@ -24,12 +24,12 @@ use Rattle.tokens.specs.Got.{Got}
 use Rattle.tokens.specs.Text.{skip}
 use Rattle.literal.specs.Literal.{value}
 use Rattle.dims.specs.Answer.{dimensionsAt}
-use Rattle.dims.specs.Outline.{outlineOf}
-use Rattle.dims.specs.declared.Outline.{Outline}
+use Rattle.products.specs.Outline.{outlineOf}
+use Rattle.products.specs.declared.Outline.{Outline}
 use Rattle.dims.specs.Fill as dims
 use Rattle.dims.proofs.Stored.{stored-over}
-use Rattle.descr.specs.declared.Totals.{Totals}
-use Rattle.descr.proofs.Limits.{entries-are, names-are}
+use Rattle.sums.specs.declared.Totals.{Totals}
+use Rattle.sums.proofs.Limits.{entries-are, names-are}
 use Rattle.fill.specs.Filled.{DueAt, Fills}
 use Rattle.fill.specs.declared.Spot.{Spot}
 use Rattle.fill.proofs.Whole.{narrow-of, table-held, names-held}

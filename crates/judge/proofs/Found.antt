@@ -16,23 +16,24 @@ use Rattle.tokens.specs.Got.{Got, got}
 use Rattle.literal.specs.Forget.{forget}
 use Rattle.literal.specs.Literal.{value, most-open}
 use Rattle.literal.specs.Rows.{Stands}
-use Rattle.dims.specs.Answer.{outlined, valueOr, dimensionsAt}
-use Rattle.dims.specs.Outline.{outlineOf}
-use Rattle.dims.specs.declared.Outline.{Outline}
-use Rattle.dims.specs.declared.Verdict as dims
+use Rattle.products.specs.Answer.{outlined}
+use Rattle.dims.specs.Answer.{valueOr, dimensionsAt}
+use Rattle.products.specs.Outline.{outlineOf}
+use Rattle.products.specs.declared.Outline.{Outline}
+use Rattle.products.specs.declared.Verdict as products
 use Rattle.keys.specs.declared.Found as found
 use Rattle.keys.specs.declared.Found.{Found}
 use Rattle.keys.specs.declared.Declared.{Declared}
 use Rattle.keys.specs.Pairs.{nodeFor}
 use Rattle.keys.specs.Answer.{FoundIs, ordered}
 use Rattle.keys.proofs.Nodes.{node-value}
-use Rattle.descr.specs.Totals.{totalsOf}
+use Rattle.sums.specs.Totals.{totalsOf}
 use Rattle.descr.specs.Judges.{Judges}
-use Rattle.descr.specs.Verdict as verdicts
-use Rattle.descr.specs.declared.Totals.{Totals}
-use Rattle.descr.specs.declared.Verdict as descr
+use Rattle.sums.specs.Verdict as verdicts
+use Rattle.sums.specs.declared.Totals.{Totals}
+use Rattle.sums.specs.declared.Verdict as sums
 use Rattle.descr.specs.declared.Judged as judged
-use Rattle.descr.specs.declared.Rule.{Rule}
+use Rattle.sums.specs.declared.Rule.{Rule}
 use Rattle.judge.specs.declared.ShapeRead.{ShapeRead}
 use Rattle.judge.specs.declared.DescrRead.{DescrRead}
 use Rattle.judge.specs.Judged.{inside, neededAt, orderAt, shapeAt, dtypeAt, Counts, ShapeIs, DescrIs, RankedOf}
@@ -87,12 +88,12 @@ module _ (s : List ℕ) (at : ℕ) where
   shape-by : (p : ℕ) (v : Counts s at key-shape p) (o : Outcome (List ℕ)) → subShape (forget (v .node)) ≡ o → shapeAt s at ≡ then o ranked
   shape-by p v o h = ap (λ (x : Outcome Value). then x shapeOf) (value-is s at key-shape p v) ∙ ap (λ (x : Outcome (List ℕ)). then x ranked) h
 
-  pub shape-good : (p : ℕ) (x : dims.Verdict) (o : Outline) (v : Counts s at key-shape p) → outlined x ≡ each outlineOf (dimensionsAt (value inside s p)) → x ≡ dims.Verdict.Good o → (r : ShapeRead) → RankedOf p o r → ShapeIs s at r (shapeAt s at)
+  pub shape-good : (p : ℕ) (x : products.Verdict) (o : Outline) (v : Counts s at key-shape p) → outlined x ≡ each outlineOf (dimensionsAt (value inside s p)) → x ≡ products.Verdict.Good o → (r : ShapeRead) → RankedOf p o r → ShapeIs s at r (shapeAt s at)
   shape-good p x o v h e r k =
       let b = each-back outlineOf (subShape (forget (v .node))) o (ap (each outlineOf) (sym (dimensions-of p v)) ∙ sym h ∙ ap outlined e) in
       subst (ShapeIs s at r) (sym (shape-by p v (gives (b .0)) (b .1))) (k s at v (b .0) (sym (b .2)) (b .1))
 
-  pub shape-bad : (p : ℕ) (x : dims.Verdict) (n : ℕ) (v : Counts s at key-shape p) → outlined x ≡ each outlineOf (dimensionsAt (value inside s p)) → outlined x ≡ refused n → (f : Refusal) → numberOf f ≡ n → ShapeIs s at (ShapeRead.Refused f) (shapeAt s at)
+  pub shape-bad : (p : ℕ) (x : products.Verdict) (n : ℕ) (v : Counts s at key-shape p) → outlined x ≡ each outlineOf (dimensionsAt (value inside s p)) → outlined x ≡ refused n → (f : Refusal) → numberOf f ≡ n → ShapeIs s at (ShapeRead.Refused f) (shapeAt s at)
   shape-bad p x n v h e f hf =
       subst (ShapeIs s at (ShapeRead.Refused f))
       (sym (shape-by p v (refused n) (each-none outlineOf (subShape (forget (v .node))) n (ap (each outlineOf) (sym (dimensions-of p v)) ∙ sym h ∙ e)))) hf
@@ -104,13 +105,13 @@ module _ (s : List ℕ) (at : ℕ) where
   verdict-of : (p : ℕ) (r : judged.Judged) (v : Counts s at key-descr p) → Judges inside s p (λ v. each totalsOf (descrOf v)) r → verdicts.verdict (r .verdict) ≡ each totalsOf (descrOf (forget (v .node)))
   verdict-of p r v j = j .of-value (v .node) (v .end) (v .stands) .1
 
-  pub descr-good : (p : ℕ) (r : judged.Judged) (t : Totals) → Counts s at key-descr p → Judges inside s p (λ v. each totalsOf (descrOf v)) r → r .verdict ≡ descr.Verdict.Fits t → DescrIs s at (DescrRead.Is (record { at = p; totals = t })) (dtypeAt s at)
+  pub descr-good : (p : ℕ) (r : judged.Judged) (t : Totals) → Counts s at key-descr p → Judges inside s p (λ v. each totalsOf (descrOf v)) r → r .verdict ≡ sums.Verdict.Fits t → DescrIs s at (DescrRead.Is (record { at = p; totals = t })) (dtypeAt s at)
   descr-good p r t v j e =
       let b = each-back totalsOf (descrOf (forget (v .node))) t (sym (verdict-of p r v j) ∙ ap verdicts.verdict e) in
       subst (DescrIs s at (DescrRead.Is (record { at = p; totals = t }))) (sym (ap (λ (y : Outcome Value). then y descrOf) (value-is s at key-descr p v) ∙ b .1))
       (record { counts = v; is = b .1; totalled = sym (b .2) })
 
-  pub descr-bad : (p : ℕ) (r : judged.Judged) (u : Rule) → Counts s at key-descr p → Judges inside s p (λ v. each totalsOf (descrOf v)) r → r .verdict ≡ descr.Verdict.Bad u → (f : Refusal) → numberOf f ≡ verdicts.numberOf u → DescrIs s at (DescrRead.Refused f) (dtypeAt s at)
+  pub descr-bad : (p : ℕ) (r : judged.Judged) (u : Rule) → Counts s at key-descr p → Judges inside s p (λ v. each totalsOf (descrOf v)) r → r .verdict ≡ sums.Verdict.Bad u → (f : Refusal) → numberOf f ≡ verdicts.numberOf u → DescrIs s at (DescrRead.Refused f) (dtypeAt s at)
   descr-bad p r u v j e f hf =
       subst (DescrIs s at (DescrRead.Refused f))
       (sym (ap (λ (y : Outcome Value). then y descrOf) (value-is s at key-descr p v) ∙ each-none totalsOf (descrOf (forget (v .node))) (verdicts.numberOf u) (sym (verdict-of p r v j) ∙ ap verdicts.verdict e))) hf

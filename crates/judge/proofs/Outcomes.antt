@@ -16,8 +16,8 @@ use Rattle.tokens.specs.Got.{got}
 use Rattle.tokens.specs.Text.{skip}
 use Rattle.literal.specs.Literal.{value}
 use Rattle.literal.proofs.View.{value-span}
-use Rattle.dims.specs.declared.Outline.{Outline}
-use Rattle.descr.specs.declared.Totals.{Totals}
+use Rattle.products.specs.declared.Outline.{Outline}
+use Rattle.sums.specs.declared.Totals.{Totals}
 use Rattle.judge.specs.declared.Shape.{Shape}
 use Rattle.judge.specs.declared.Descr.{Descr}
 use Rattle.judge.specs.declared.Plan.{Plan}

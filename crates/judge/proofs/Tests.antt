@@ -16,12 +16,12 @@ use Rattle.dtype.specs.Limits.{overDimensions, overLevels, overEntries, overSiz
 use Rattle.record.specs.Dict.{key-shape}
 use Rattle.record.specs.Dimensions.{subShape, ranked}
 use Rattle.literal.specs.Forget.{forget}
-use Rattle.dims.specs.Outline.{outlineOf, overIn}
-use Rattle.dims.specs.declared.Outline.{Outline}
-use Rattle.dims.proofs.Orders.{outline-over}
-use Rattle.descr.specs.Totals.{totalsOf}
-use Rattle.descr.specs.declared.Totals.{Totals}
-use Rattle.descr.proofs.Limits.{wide-says, entries-say, over-says}
+use Rattle.products.specs.Outline.{outlineOf, overIn}
+use Rattle.products.specs.declared.Outline.{Outline}
+use Rattle.products.proofs.Orders.{outline-over}
+use Rattle.sums.specs.Totals.{totalsOf}
+use Rattle.sums.specs.declared.Totals.{Totals}
+use Rattle.sums.proofs.Limits.{wide-says, entries-say, over-says}
 use Rattle.judge.specs.declared.Shape.{Shape}
 use Rattle.judge.specs.declared.Descr.{Descr}
 use Rattle.judge.specs.declared.Plan.{Plan}

@@ -31,14 +31,17 @@ use Rattle.literal.specs.Literal.{value, alone, literalOf, most-open}
 use Rattle.tokens.specs.declared.Parsed as parsed
 use Rattle.literal.proofs.Meaning.{literal-means}
 use Rattle.dims.specs.Answer.{valueOr}
-use Rattle.keys.specs.Pairs.{keyed, keyedAt}
+use Rattle.keys.specs.Pairs.{nodeFor, keyed, keyedAt}
+use Rattle.keys.specs.Answer.{KeysAre}
+use Rattle.keys.specs.declared.Places.{Places}
+use Rattle.keys.specs.declared.KeysRead.{KeysRead}
 use Rattle.judge.specs.declared.Shape.{Shape}
 use Rattle.judge.specs.declared.Descr.{Descr}
 use Rattle.judge.specs.declared.Judged.{Judged}
 use Rattle.judge.specs.declared.OrderRead.{OrderRead}
 use Rattle.judge.specs.declared.ShapeRead.{ShapeRead}
 use Rattle.judge.specs.declared.DescrRead.{DescrRead}
-use Rattle.judge.specs.Judged.{reading, neededAt, orderAt, shapeAt, dtypeAt, behindShape, behindOrder, orderAnswer, ShapeOf, ShapeIs, DescrOf, DescrIs, JudgedIs}
+use Rattle.judge.specs.Judged.{reading, inside, neededAt, orderAt, shapeAt, dtypeAt, behindShape, behindOrder, orderAnswer, KeysIn, ShapeOf, ShapeIs, DescrOf, DescrIs, JudgedIs}
 
 -- the reading that is meant keeps the promise
 pub reading-keeps : Keeps reading
@@ -119,8 +122,15 @@ module _ (text : List ℕ) (at : ℕ) where
   abbrev pub recordAt : Outcome Record
   recordAt = then (valueOr 8 (value most-open text at)) recordOf
 
-  pub not-dict : keyedAt (value most-open text at) ≡ false → recordAt ≡ refused 8
-  not-dict h = unkeyed-at (value most-open text at) h
+  -- what `keys` says of the dict
+  abbrev pub KeysSay : KeysRead → Type 0
+  KeysSay r = KeysAre inside text r (keyedAt (value most-open text at)) (λ w. nodeFor w (value most-open text at))
+
+  pub keys-read : (r : KeysRead) (x : Places) → KeysSay r → r ≡ KeysRead.Read x → (keyedAt (value most-open text at) ≡ true) × KeysIn text at x
+  keys-read r x h e = subst KeysSay e h
+
+  pub not-dict : (r : KeysRead) → KeysSay r → r ≡ KeysRead.NotDict → recordAt ≡ refused 8
+  not-dict r h e = unkeyed-at (value most-open text at) (subst KeysSay e h)
 
   pub with-order : (r : Judged) (o : Order) (x : OrderRead) → keyedAt (value most-open text at) ≡ true → orderAnswer x ≡ orderAt text at → x ≡ OrderRead.Is o → JudgedIs text at r (behindOrder text at o) → JudgedIs text at r recordAt
   with-order r o x h ho e k =

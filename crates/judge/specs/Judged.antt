@@ -22,10 +22,13 @@ use Rattle.tokens.specs.Got.{Got, got}
 use Rattle.literal.specs.Forget.{forget, forgot}
 use Rattle.literal.specs.Literal.{value, literalOf, most-open}
 use Rattle.dims.specs.Answer.{valueOr}
-use Rattle.dims.specs.Outline.{outlineOf}
-use Rattle.dims.specs.declared.Outline.{Outline}
+use Rattle.products.specs.Outline.{outlineOf}
+use Rattle.products.specs.declared.Outline.{Outline}
 use Rattle.keys.specs.Pairs.{nodeFor}
-use Rattle.descr.specs.Totals.{totalsOf}
+use Rattle.keys.specs.Answer.{FoundIs, KeysAt}
+use Rattle.keys.specs.declared.Found.{Found}
+use Rattle.keys.specs.declared.Places.{Places}
+use Rattle.sums.specs.Totals.{totalsOf}
 use Rattle.judge.specs.declared.Shape.{Shape}
 use Rattle.judge.specs.declared.Descr.{Descr}
 use Rattle.judge.specs.declared.Plan.{Plan}
@@ -66,6 +69,13 @@ behindOrder text at o = then (shapeAt text at) (behindShape text at o)
 abbrev pub orderAnswer : OrderRead → Outcome Order
 orderAnswer (OrderRead.Is o) = gives o
 orderAnswer (OrderRead.Refused r) = refused (numberOf r)
+
+-- where the value of the key w was found in the dict at `at`, and those of the three keys
+abbrev pub FoundFor : (w text : List ℕ) (at : ℕ) → Found → Type 0
+FoundFor w text at f = FoundIs inside text f (nodeFor w (value most-open text at))
+
+abbrev pub KeysIn : (text : List ℕ) (at : ℕ) → Places → Type 0
+KeysIn text at x = KeysAt inside text x (λ w. nodeFor w (value most-open text at))
 
 -- the place is that of the value that counts for the key w in the dict at `at`
 pub record Counts (text : List ℕ) (at : ℕ) (w : List ℕ) (place : ℕ) : Type 0 where

@@ -1,13 +1,15 @@
 // A header's text judged (document 01, "The refusal numbers", the order of reading): refusals 5 to 22, and where in the text an accepted record stands. No
 // public function here has a `requires`. What each answer stands for is in specs/Judged.antt.
-use descr::Rule;
-use descr::Totals;
-use dims::Outline;
 use dtype::Order;
 use grammar::OPEN;
 use keys::Declared;
 use keys::Found;
+use keys::KeysRead;
+use keys::Places;
+use products::Outline;
 use refusal::Refusal;
+use sums::Rule;
+use sums::Totals;
 use tokens::Parsed;
 use tokens::bytes::blanks;
 use utf8::Text;
@@ -15,14 +17,15 @@ ghost use mathlib.Core.Path.{_≡_};
 ghost use mathlib.Core.List.{List};
 ghost use Prim.Native.Nat.{ℕ};
 ghost use Rattle.counts.specs.Outcome.{then};
+ghost use Rattle.record.specs.Dict.{key-order, key-shape, key-descr};
 ghost use Rattle.record.specs.FromValue.{recordOf};
 ghost use Rattle.record.specs.Header.{recordIn};
 ghost use Rattle.tokens.specs.Text.{skip};
 ghost use Rattle.literal.specs.Literal.{value, most-open};
 ghost use Rattle.dims.specs.Answer.{valueOr};
-ghost use Rattle.judge.specs.Judged.{reading, orderAt, shapeAt, dtypeAt, behindShape, behindOrder, orderAnswer, ShapeIs, ShapeOf, DescrIs, RankedOf, LimitsOf, JudgedIs};
+ghost use Rattle.judge.specs.Judged.{reading, orderAt, shapeAt, dtypeAt, behindShape, behindOrder, orderAnswer, FoundFor, KeysIn, ShapeIs, ShapeOf, DescrIs, RankedOf, LimitsOf, JudgedIs};
 ghost use Rattle.refusal.specs.Numbers.{numberOf};
-ghost use Rattle.descr.specs.Verdict as rules;
+ghost use Rattle.sums.specs.Verdict as rules;
 
 // Where the value of `shape` stands, and what later refusals need of it.
 pub struct Shape {
@@ -81,28 +84,34 @@ pub fn judge(text: &[u8]) -> Judged
 fn judge_value(text: &[u8], at: usize) -> Judged
     ensures { λ r. ⌜ JudgedIs (now (text .entry)) at r (then (valueOr 8 (value most-open (now (text .entry)) at)) recordOf) ⌝ }
 {
-    if !keys::all_strings(text, at) {
+    let read = keys::keys(text, at);
+    let KeysRead::Read(places) = read else {
         return Judged::Refused(Refusal::NotDict);
-    }
-    match order_in(text, at) {
-        OrderRead::Is(order) => with_order(text, at, order),
+    };
+    let found = places.order;
+    match order_in(text, at, found) {
+        OrderRead::Is(order) => with_order(text, at, places, order),
         OrderRead::Refused(r) => Judged::Refused(r),
     }
 }
 
-fn with_order(text: &[u8], at: usize, order: Order) -> Judged
+fn with_order(text: &[u8], at: usize, places: Places, order: Order) -> Judged
+    requires { ⌜ KeysIn (now text) at places ⌝ }
     ensures { λ r. ⌜ JudgedIs (now (text .entry)) at r (behindOrder (now (text .entry)) at order) ⌝ }
 {
-    match shape_in(text, at) {
-        ShapeRead::Is(shape) => with_shape(text, at, order, shape),
+    let found = places.shape;
+    let descr = places.descr;
+    match shape_in(text, at, found) {
+        ShapeRead::Is(shape) => with_shape(text, at, descr, order, shape),
         ShapeRead::Refused(r) => Judged::Refused(r),
     }
 }
 
-fn with_shape(text: &[u8], at: usize, order: Order, shape: Shape) -> Judged
+fn with_shape(text: &[u8], at: usize, found: Found, order: Order, shape: Shape) -> Judged
+    requires { ⌜ FoundFor key-descr (now text) at found ⌝ }
     ensures { λ r. ⌜ ((s : List ℕ) → ShapeOf (now (text .entry)) at shape s → JudgedIs (now (text .entry)) at r (behindShape (now (text .entry)) at order s)) ⌝ }
 {
-    match descr_in(text, at) {
+    match descr_in(text, at, found) {
         DescrRead::Is(descr) => within_limits(order, shape, descr),
         DescrRead::Refused(r) => Judged::Refused(r),
     }
@@ -123,7 +132,7 @@ fn within_limits(order: Order, shape: Shape, descr: Descr) -> Judged
     if !totals.object & totals.over {
         return Judged::Refused(Refusal::Size);
     }
-    if dims::over(outline, order) {
+    if products::over(outline, order) {
         return Judged::Refused(Refusal::Shape);
     }
     Judged::Fits(Plan {
@@ -133,11 +142,11 @@ fn within_limits(order: Order, shape: Shape, descr: Descr) -> Judged
     })
 }
 
-// The order that the dict at `at` declares: 9, 10.
-fn order_in(text: &[u8], at: usize) -> OrderRead
+// The order that the dict at `at` declares, by where it was found: 9, 10.
+fn order_in(text: &[u8], at: usize, found: Found) -> OrderRead
+    requires { ⌜ FoundFor key-order (now text) at found ⌝ }
     ensures { λ r. ⌜ orderAnswer r ≡ orderAt (now (text .entry)) at ⌝ }
 {
-    let found = keys::find(text, at, b"fortran_order");
     let Found::At(p) = found else {
         return OrderRead::Refused(Refusal::NoKey);
     };
@@ -147,20 +156,20 @@ fn order_in(text: &[u8], at: usize) -> OrderRead
     }
 }
 
-// The shape that the dict at `at` gives: 9, 11, 12, 13.
-fn shape_in(text: &[u8], at: usize) -> ShapeRead
+// The shape that the dict at `at` gives, by where it was found: 9, 11, 12, 13.
+fn shape_in(text: &[u8], at: usize, found: Found) -> ShapeRead
+    requires { ⌜ FoundFor key-shape (now text) at found ⌝ }
     ensures { λ r. ⌜ ShapeIs (now (text .entry)) at r (shapeAt (now (text .entry)) at) ⌝ }
 {
-    let found = keys::find(text, at, b"shape");
     let Found::At(p) = found else {
         return ShapeRead::Refused(Refusal::NoKey);
     };
     let judged = dims::judge(text, p, OPEN - 1);
     let verdict = judged.verdict;
     match verdict {
-        dims::Verdict::Good(outline) => ranked(p, outline),
-        dims::Verdict::Form => ShapeRead::Refused(Refusal::NotShape),
-        dims::Verdict::Large => ShapeRead::Refused(Refusal::LargeDimension),
+        products::Verdict::Good(outline) => ranked(p, outline),
+        products::Verdict::Form => ShapeRead::Refused(Refusal::NotShape),
+        products::Verdict::Large => ShapeRead::Refused(Refusal::LargeDimension),
     }
 }
 
@@ -177,22 +186,22 @@ fn ranked(at: usize, outline: Outline) -> ShapeRead
     })
 }
 
-// The dtype that the dict at `at` gives: 9, 11, 12, 14 to 19.
-fn descr_in(text: &[u8], at: usize) -> DescrRead
+// The dtype that the dict at `at` gives, by where it was found: 9, 11, 12, 14 to 19.
+fn descr_in(text: &[u8], at: usize, found: Found) -> DescrRead
+    requires { ⌜ FoundFor key-descr (now text) at found ⌝ }
     ensures { λ r. ⌜ DescrIs (now (text .entry)) at r (dtypeAt (now (text .entry)) at) ⌝ }
 {
-    let found = keys::find(text, at, b"descr");
     let Found::At(p) = found else {
         return DescrRead::Refused(Refusal::NoKey);
     };
     let judged = descr::inner::judge(text, p, OPEN - 1);
     let verdict = judged.verdict;
     match verdict {
-        descr::Verdict::Fits(totals) => DescrRead::Is(Descr {
+        sums::Verdict::Fits(totals) => DescrRead::Is(Descr {
             at: p,
             totals: totals,
         }),
-        descr::Verdict::Bad(rule) => DescrRead::Refused(refusal_of(rule)),
+        sums::Verdict::Bad(rule) => DescrRead::Refused(refusal_of(rule)),
     }
 }
 

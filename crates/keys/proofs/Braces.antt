@@ -1,30 +1,33 @@
 -- What a value is, by the kind of its first byte: a dict and its pairs, a string and whether it is the key, an order. Assumes nothing.
-use Prim.Native.Nat.{ℕ, _+_, _-_, _<_}
+use Prim.Native.Nat.{ℕ, suc, _+_}
 use mathlib.Core.Path.{_≡_, refl, sym, ap, _∙_}
 use mathlib.Core.List.{List, [], _∷_}
-use mathlib.Core.Bool.{Bool, true}
-use lib.ListN.{length}
+use mathlib.Core.Bool.{Bool, true, false, cond}
+use lib.Dec.{eqb}
+use borrow.Author.Tests.{eqb-true}
 use denote.Enum.Declared.{tagOf}
 use types.Run.{OneOf, miss}
 use Rattle.counts.specs.Outcome.{Outcome, gives, refused, then}
+use Rattle.counts.proofs.Alike.{true-false}
 use Rattle.dtype.specs.declared.Order.{Order}
 use Rattle.dtype.specs.declared.Order.the-variants.{C, Fortran}
 use Rattle.record.specs.Parts.{stringOr}
 use Rattle.record.specs.Dict.{isString, isThe}
 use Rattle.record.specs.FromValue.{orderOf}
-use Rattle.tokens.specs.Node.{Node, Pair, pairs}
-use Rattle.tokens.specs.Got.{Got, got, fault, deep, pos}
+use Rattle.grammar.specs.Bytes.{isOpen, isQuote}
+use Rattle.decimal.specs.Decimal.{isDigit}
+use Rattle.tokens.specs.Node.{Node, span, dict, pairs}
+use Rattle.tokens.specs.Got.{Got, got, fault, deep, pos, with}
 use Rattle.literal.specs.Forget.{forget}
 use Rattle.tokens.specs.Text.{byteAt, kindOf}
 use Rattle.tokens.specs.Strings.{spelled}
 use Rattle.counts.specs.Same.{same}
-use Rattle.literal.specs.Brackets.{gapAt, pairBy}
-use Rattle.literal.specs.Literal.{value}
-use Rattle.literal.specs.Rows.{Row, View}
+use Rattle.literal.specs.Brackets.{listBy, pairBy}
+use Rattle.literal.specs.Literal.{bracketBy, value}
+use Rattle.literal.specs.Rows.{View}
 use Rattle.tokens.specs.declared.bytes.Kind.{Kind}
 use Rattle.tokens.specs.declared.bytes.Kind.the-variants.{Square, Round, Curly, Quote, Minus, Digit, TrueWord, FalseWord, NoneWord, Other}
 use Rattle.tokens.proofs.bytes.Kind.{the-type}
-use Rattle.tokens.proofs.Positions.{kind-in}
 use Rattle.literal.proofs.Steps.{Stops}
 use Rattle.literal.proofs.View.{view}
 use Rattle.dims.specs.Answer.{valueOr}
@@ -37,20 +40,51 @@ NoCurly c = OneOf (0 ∷ 1 ∷ 3 ∷ 4 ∷ 5 ∷ 6 ∷ 7 ∷ 8 ∷ 9 ∷ []) (ta
 abbrev pub NoQuote : Kind → Type 0
 NoQuote c = OneOf (0 ∷ 1 ∷ 2 ∷ 4 ∷ 5 ∷ 6 ∷ 7 ∷ 8 ∷ 9 ∷ []) (tagOf the-type c)
 
--- a dict, and its pairs
-pub record Braces (k : ℕ) (s : List ℕ) (at : ℕ) (n : Node) (e : ℕ) : Type 0 where
-  pub inside : at < length s
-  pub held : List Pair
-  pub holds : (j : ℕ) → pairsIn j n ≡ gives (pairs held)
-  pub row : Row (pairBy (value (k - 1) s) s) s 125 held (gapAt s (at + 1) 125) e
+-- a brace
+isCurly : Kind → Bool
+isCurly Curly = true
+isCurly Square = false
+isCurly Round = false
+isCurly Quote = false
+isCurly Minus = false
+isCurly Digit = false
+isCurly TrueWord = false
+isCurly FalseWord = false
+isCurly NoneWord = false
+isCurly Other = false
+
+curly-by : (a b c d e f g h i : Bool)
+    → isCurly (cond a Square (cond b Round (cond c Curly (cond d Minus (cond e TrueWord (cond f FalseWord (cond g NoneWord (cond h Quote (cond i Digit Other))))))))) ≡ true → c ≡ true
+unfolding isCurly
+curly-by true b c d e f g h i z = true-false (sym z)
+curly-by false true c d e f g h i z = true-false (sym z)
+curly-by false false true d e f g h i z = refl
+curly-by false false false true e f g h i z = true-false (sym z)
+curly-by false false false false true f g h i z = true-false (sym z)
+curly-by false false false false false true g h i z = true-false (sym z)
+curly-by false false false false false false true h i z = true-false (sym z)
+curly-by false false false false false false false true i z = true-false (sym z)
+curly-by false false false false false false false false true z = true-false (sym z)
+curly-by false false false false false false false false false z = true-false (sym z)
+
+curly-byte : (b : ℕ) → kindOf b ≡ Curly → b ≡ 123
+unfolding kindOf isCurly
+curly-byte b h = eqb-true b 123 (curly-by (eqb b 91) (eqb b 40) (eqb b 123) (eqb b 45) (eqb b 84) (eqb b 70) (eqb b 78) (isQuote b) (isDigit b) (ap isCurly h))
+
+dict-by : (k : ℕ) (s : List ℕ) (at : ℕ) → byteAt s at ≡ 123 → value (suc k) s at ≡ with (λ e ps. dict (span at e) (pairs ps)) (listBy (pairBy (value k s) s) s (at + 1) 125)
+unfolding value bracketBy isOpen
+dict-by k s at h =
+    let opens : isOpen (byteAt s at) ≡ true = ap isOpen h in
+    let no-square : eqb (byteAt s at) 91 ≡ false = ap (λ (b : ℕ). eqb b 91) h in
+    let no-round : eqb (byteAt s at) 40 ≡ false = ap (λ (b : ℕ). eqb b 40) h in
+    rw (value, opens, bracketBy, no-square, no-round)
+
+-- a value that begins with a brace is the dict of its pairs
+pub dict-at : (k : ℕ) (s : List ℕ) (at : ℕ) (c : Kind) → c ≡ kindOf (byteAt s at) → c ≡ Curly
+    → value (suc k) s at ≡ with (λ e ps. dict (span at e) (pairs ps)) (listBy (pairBy (value k s) s) s (at + 1) 125)
+dict-at k s at c hk z = dict-by k s at (curly-byte (byteAt s at) (sym hk ∙ z))
 
 module _ (k : ℕ) (s : List ℕ) (at e : ℕ) (n : Node) (h : value k s at ≡ got n e) where
-  pub braces : (c : Kind) → c ≡ kindOf (byteAt s at) → c ≡ Curly → Braces k s at n e
-  braces c hk z =
-      let hc : kindOf (byteAt s at) ≡ Curly = sym hk ∙ z in
-      let v = view k s at h hc in
-      record { inside = kind-in s at hc refl; held = v .1; holds = λ j. ap (pairsIn j) (v .2); row = v .3 }
-
   no-braces-by : (j : ℕ) (c : Kind) → NoCurly c → View c k s at n e → pairsIn j n ≡ refused j
   no-braces-by j Square z v = ap (pairsIn j) (v .2)
   no-braces-by j Round z v = ap (pairsIn j) (v .2)

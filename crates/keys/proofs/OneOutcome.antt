@@ -5,8 +5,10 @@ use mathlib.Core.List.{List}
 use mathlib.Core.Bool.{Bool}
 use Rattle.counts.specs.Outcome.{Outcome, gives, refused, then}
 use Rattle.counts.specs.OneOutcome.{OneOutcome}
-use Rattle.counts.proofs.OneOutcome.{by-equation, by-inverse}
+use Rattle.counts.proofs.Alike.{true-false}
+use Rattle.counts.proofs.OneOutcome.{by-inverse}
 use Rattle.dtype.specs.declared.Order.{Order}
+use Rattle.record.specs.Dict.{key-order, key-shape, key-descr}
 use Rattle.record.specs.FromValue.{orderOf}
 use Rattle.tokens.specs.Node.{Node, Span}
 use Rattle.tokens.specs.Got.{Got}
@@ -16,11 +18,10 @@ use Rattle.keys.specs.declared.Found as found
 use Rattle.keys.specs.declared.Found.{Found}
 use Rattle.keys.specs.declared.Declared as declared
 use Rattle.keys.specs.declared.Declared.{Declared}
-use Rattle.keys.specs.Pairs.{keyedAt}
-use Rattle.keys.specs.Answer.{FoundIs, ordered}
-
-pub all-strings-one : (g : Got Node) → OneOutcome {A = Bool} (λ r. r ≡ keyedAt g)
-all-strings-one g = by-equation (keyedAt g)
+use Rattle.keys.specs.declared.Places.{Places}
+use Rattle.keys.specs.declared.KeysRead.the-variants.{Read, NotDict}
+use Rattle.keys.specs.Answer.{FoundIs, KeysAt, KeysAre, ordered}
+use Rattle.keys.proofs.Seek.{places-eq}
 
 found-by : (k : ℕ) (s : List ℕ) (o : Outcome Node) (x y : Found) → FoundIs k s x o → FoundIs k s y o → x ≡ y
 found-by k s (gives n) (found.Found.At p) (found.Found.At q) a b =
@@ -31,8 +32,18 @@ found-by k s (refused m) (found.Found.At p) y a b = absurd a
 found-by k s (refused m) found.Found.Missing (found.Found.At q) a b = absurd b
 found-by k s (refused m) found.Found.Missing found.Found.Missing a b = refl
 
-pub find-one : (k : ℕ) (s : List ℕ) (o : Outcome Node) → OneOutcome (λ r. FoundIs k s r o)
-find-one k s o x y a b = found-by k s o x y a b
+keys-by : (k : ℕ) (s : List ℕ) (node : List ℕ → Outcome Node) (x y : Places) → KeysAt k s x node → KeysAt k s y node → x ≡ y
+keys-by k s node x y a b =
+    let d : x .descr ≡ y .descr = found-by k s (node key-descr) (x .descr) (y .descr) (a .of-descr) (b .of-descr) in
+    let o : x .order ≡ y .order = found-by k s (node key-order) (x .order) (y .order) (a .of-order) (b .of-order) in
+    let h : x .shape ≡ y .shape = found-by k s (node key-shape) (x .shape) (y .shape) (a .of-shape) (b .of-shape) in
+    places-eq d o h
+
+pub keys-one : (k : ℕ) (s : List ℕ) (strings : Bool) (node : List ℕ → Outcome Node) → OneOutcome (λ r. KeysAre k s r strings node)
+keys-one k s strings node (Read x) (Read y) a b = ap Read (keys-by k s node x y (a .1) (b .1))
+keys-one k s strings node (Read x) NotDict a b = true-false (sym (a .0) ∙ b)
+keys-one k s strings node NotDict (Read y) a b = true-false (sym (b .0) ∙ a)
+keys-one k s strings node NotDict NotDict a b = refl
 
 declaredOf : Outcome Order → Declared
 declaredOf (gives o) = declared.Declared.Is o

@@ -1,74 +1,47 @@
--- The walks over the pairs of a dict. What the first keeps: the keys are all strings if those that are left are. What the second keeps: the value that
--- counts is the one found so far, or one that is left. Then the dict around the pairs. Assumes nothing.
-use Prim.Native.Nat.{ℕ, _-_}
-use native.Mathlib.Omega.{arith}
+-- The walk over the pairs of a dict. What it keeps: the keys are all strings if those that are left are, and the value that counts for a key is the one
+-- found so far, or one that is left. Then the dict around the pairs. Assumes nothing.
+use Prim.Native.Nat.{ℕ, suc, _+_}
 use mathlib.Core.Path.{_≡_, refl, sym, ap, subst, _∙_}
 use mathlib.Core.List.{List, [], _∷_}
 use mathlib.Core.Bool.{Bool, true, false, cond, _&&_}
-use Rattle.counts.specs.Outcome.{Outcome, gives, refused, then, each}
-use Rattle.record.specs.Dict.{isString, allStrings}
-use Rattle.tokens.specs.Node.{Node, Pair, Pairs, pair, pairs}
+use denote.Enum.Declared.{tagOf}
+use types.Run.{OneOf, miss}
+use Rattle.counts.specs.Outcome.{Outcome, gives, refused, each}
+use Rattle.record.specs.Dict.{key-order, key-shape, key-descr, isString, allStrings}
+use Rattle.tokens.specs.Node.{Node, Pair, Pairs, span, dict, pairs}
 use Rattle.tokens.specs.Got.{Got, got, fault, deep, pos, with}
-use Rattle.literal.specs.Forget.{forgetPairs}
-use Rattle.tokens.specs.Text.{byteAt, kindOf, skip}
-use Rattle.literal.specs.Brackets.{needAt, keyBy, pairBy}
+use Rattle.literal.specs.Forget.{forget, forgetPairs}
+use Rattle.tokens.specs.Text.{byteAt, kindOf}
+use Rattle.literal.specs.Brackets.{gapAt, listBy, keyBy, pairBy}
 use Rattle.literal.specs.Literal.{value}
-use Rattle.tokens.specs.declared.Parsed.{Parsed}
-use Rattle.tokens.specs.declared.Parsed.the-variants.{Value as Ends, Fault, Deep}
+use Rattle.literal.specs.Rows.{Row}
+use Rattle.literal.specs.declared.gaps.Gap.{Gap}
+use Rattle.literal.specs.declared.gaps.Gap.the-variants.{Shut, Item, Stray}
+use Rattle.tokens.specs.declared.Parsed.the-variants.{Value as Ends}
 use Rattle.tokens.specs.declared.bytes.Kind.{Kind}
 use Rattle.tokens.specs.declared.bytes.Kind.the-variants.{Curly, Quote}
-use Rattle.literal.proofs.Steps.{Stops, thing}
+use Rattle.literal.proofs.gaps.Gap as gap
+use Rattle.literal.proofs.Rows.{RowGot, row-list, row-stray, pair-parts, key-stands}
+use Rattle.literal.proofs.Steps.{Turn, turn-end, thing}
+use Rattle.dims.proofs.Goes.{Goes, goes-end}
 use Rattle.keys.specs.declared.Found as found
 use Rattle.keys.specs.declared.Found.{Found}
-use Rattle.keys.specs.Pairs.{pairsIn, isKey, lastIn, nodeFor, keyed, keyedAt}
-use Rattle.keys.specs.Answer.{FoundIs}
+use Rattle.keys.specs.declared.Places.{Places}
+use Rattle.keys.specs.declared.KeysRead.{KeysRead}
+use Rattle.keys.specs.declared.KeysRead.the-variants.{Read, NotDict}
+use Rattle.keys.specs.Pairs.{isKey, lastIn, nodeFor, keyed, keyedAt}
+use Rattle.keys.specs.Answer.{FoundIs, KeyAt, KeysAre, KeysOf, keysEnd, PairAt}
 use Rattle.keys.proofs.Nodes.{items-in}
-use Rattle.keys.proofs.Braces.{NoCurly, NoQuote, Braces, braces, no-braces, is-string, no-string}
+use Rattle.keys.proofs.Braces.{NoCurly, NoQuote, dict-at, no-braces, is-string, no-string}
 
 -- ---- a pair that was read, and its parts
 module _ (rd : ℕ → Got Node) (s : List ℕ) (p : ℕ) where
-  pub pair-parts : (u : Pair) (q : ℕ) → pairBy rd s p ≡ got u q → (x : ℕ) × (keyBy rd s p ≡ got (u .key) x) × (rd x ≡ got (u .value) q)
-  unfolding pairBy with
-  pair-parts u q h = key (keyBy rd s p) refl h
-    where
-      value-read : (k : Node) (x : ℕ) → keyBy rd s p ≡ got k x → (r : Got Node) → rd x ≡ r → with (λ e. pair k) r ≡ got u q → (y : ℕ) × (keyBy rd s p ≡ got (u .key) y) × (rd y ≡ got (u .value) q)
-      value-read k x hk (got v e) hr h =
-          let z : pair k v ≡ u = cc in
-          let y : e ≡ q = cc in
-          (x, hk ∙ ap (λ (a : Pair). got (a .key) x) z, hr ∙ ap (λ (a : Pair). got (a .value) e) z ∙ ap (got (u .value)) y)
-      value-read k x hk (fault a) hr h = absurd (let z : _≡_ {A = ℕ} 0 1 = cc in omega arith)
-      value-read k x hk (deep a) hr h = absurd (let z : _≡_ {A = ℕ} 0 1 = cc in omega arith)
+  key-of : (u : Pair) (q : ℕ) → pairBy rd s p ≡ got u q → (y : ℕ) × (rd p ≡ got (u .key) y)
+  key-of u q h = let x = pair-parts rd s p q u h in key-stands rd s p (x .0) (u .key) (x .1)
 
-      key : (g : Got Node) → keyBy rd s p ≡ g → elim g [ got k x ↦ with (λ e. pair k) (rd x) | fault a ↦ fault a | deep a ↦ deep a ] ≡ got u q
-          → (y : ℕ) × (keyBy rd s p ≡ got (u .key) y) × (rd y ≡ got (u .value) q)
-      key (got k x) hk h = value-read k x hk (rd x) refl h
-      key (fault a) hk h = absurd (let z : _≡_ {A = ℕ} 0 1 = cc in omega arith)
-      key (deep a) hk h = absurd (let z : _≡_ {A = ℕ} 0 1 = cc in omega arith)
-
-  key-part : (k : Node) (x : ℕ) → keyBy rd s p ≡ got k x → (y : ℕ) × (rd p ≡ got k y)
-  unfolding keyBy
-  key-part k x h = read (rd p) refl h
-    where
-      colon : (v : Node) (y : ℕ) → rd p ≡ got v y → (r : Parsed) → elim r [ Ends e ↦ got v (skip s e) | Fault a ↦ fault a | Deep a ↦ deep a ] ≡ got k x → (y : ℕ) × (rd p ≡ got k y)
-      colon v y hr (Ends e) h = let z : v ≡ k = cc in (y, hr ∙ ap (λ (a : Node). got a y) z)
-      colon v y hr (Fault a) h = absurd (let z : _≡_ {A = ℕ} 0 1 = cc in omega arith)
-      colon v y hr (Deep a) h = absurd (let z : _≡_ {A = ℕ} 0 1 = cc in omega arith)
-
-      read : (g : Got Node) → rd p ≡ g → elim g [
-        | got v y ↦ elim (needAt s y 58) [ Ends e ↦ got v (skip s e) | Fault a ↦ fault a | Deep a ↦ deep a ]
-        | fault a ↦ fault a
-        | deep a ↦ deep a
-      ] ≡ got k x → (y : ℕ) × (rd p ≡ got k y)
-      read (got v y) hr h = colon v y hr (needAt s y 58) h
-      read (fault a) hr h = absurd (let z : _≡_ {A = ℕ} 0 1 = cc in omega arith)
-      read (deep a) hr h = absurd (let z : _≡_ {A = ℕ} 0 1 = cc in omega arith)
-
-  pub key-of : (u : Pair) (q : ℕ) → pairBy rd s p ≡ got u q → (y : ℕ) × (rd p ≡ got (u .key) y)
-  key-of u q h = let x = pair-parts u q h in key-part (u .key) (x .0) (x .1)
-
-  pub value-of : (u : Pair) (q at : ℕ) → pairBy rd s p ≡ got u q → Ends at ≡ pos (keyBy rd s p) → rd at ≡ got (u .value) q
+  value-of : (u : Pair) (q at : ℕ) → pairBy rd s p ≡ got u q → Ends at ≡ pos (keyBy rd s p) → rd at ≡ got (u .value) q
   value-of u q at h ha =
-      let x = pair-parts u q h in
+      let x = pair-parts rd s p q u h in
       let z : Ends at ≡ Ends (x .0) = ha ∙ ap pos (x .1) in
       let y : at ≡ x .0 = cc in
       ap rd y ∙ x .2
@@ -77,90 +50,131 @@ module _ (rd : ℕ → Got Node) (s : List ℕ) (p : ℕ) where
 abbrev stringsIn : List Pair → Bool
 stringsIn ps = allStrings (forgetPairs (pairs ps))
 
-abbrev pub Strings : List Pair → List Pair → Type 0
+abbrev Strings : List Pair → List Pair → Type 0
 Strings ps us = stringsIn ps ≡ stringsIn us
 
-pub strings-end : (ps : List Pair) → Strings ps [] → true ≡ allStrings (forgetPairs (pairs ps))
+strings-end : (ps : List Pair) → Strings ps [] → stringsIn ps ≡ true
 unfolding forgetPairs
-strings-end ps h = sym h
+strings-end ps h = h
 
 module _ (k : ℕ) (s : List ℕ) (p q : ℕ) (u : Pair) (ps us : List Pair) (hu : pairBy (value k s) s p ≡ got u q) (c : Kind) (hk : c ≡ kindOf (byteAt s p)) (h : Strings ps (u ∷ us)) where
-  pub strings-more : c ≡ Quote → Strings ps us
+  strings-more : c ≡ Quote → Strings ps us
   unfolding forgetPairs
   strings-more z =
       let x = key-of (value k s) s p u q hu in
       h ∙ ap (λ (b : Bool). b && stringsIn us) (is-string k s p (x .0) (u .key) (x .1) c hk z)
 
-  pub strings-not : NoQuote c → false ≡ allStrings (forgetPairs (pairs ps))
+  strings-not : NoQuote c → stringsIn ps ≡ false
   unfolding forgetPairs
   strings-not z =
       let x = key-of (value k s) s p u q hu in
-      sym (h ∙ ap (λ (o : Outcome (List ℕ)). isString o && stringsIn us) (no-string k s p (x .0) (u .key) (x .1) c hk z))
+      h ∙ ap (λ (o : Outcome (List ℕ)). isString o && stringsIn us) (no-string k s p (x .0) (u .key) (x .1) c hk z)
 
 -- ---- the value that counts
-abbrev pub Counts : ℕ → List ℕ → List ℕ → Found → List Pair → List Pair → Type 0
-Counts k s w f ps us = (was : Outcome Node) × FoundIs k s f was × (lastIn w (refused 9) (pairs ps) ≡ lastIn w was (pairs us))
+module _ (k : ℕ) (s w : List ℕ) where
+  abbrev Counts : Found → List Pair → List Pair → Type 0
+  Counts f ps us = (was : Outcome Node) × FoundIs k s f was × (lastIn w (refused 9) (pairs ps) ≡ lastIn w was (pairs us))
 
-pub counts-start : (k : ℕ) (s w : List ℕ) (ps : List Pair) → Counts k s w found.Found.Missing ps ps
-counts-start k s w ps = (refused 9, refl, refl)
+  counts-start : (ps : List Pair) → Counts found.Found.Missing ps ps
+  counts-start ps = (refused 9, refl, refl)
 
-pub counts-end : (k : ℕ) (s w : List ℕ) (f : Found) (ps : List Pair) → Counts k s w f ps [] → FoundIs k s f (lastIn w (refused 9) (pairs ps))
-counts-end k s w f ps h = subst (FoundIs k s f) (sym (h .2)) (h .1)
+  counts-end : (f : Found) (ps : List Pair) → Counts f ps [] → FoundIs k s f (lastIn w (refused 9) (pairs ps))
+  counts-end f ps h = subst (FoundIs k s f) (sym (h .2)) (h .1)
 
-pub counts-more : (k : ℕ) (s w : List ℕ) (f f′ : Found) (b : Bool) (p q at : ℕ) (u : Pair) (ps us : List Pair) → pairBy (value k s) s p ≡ got u q → Ends at ≡ pos (keyBy (value k s) s p)
-    → ((j : ℕ) (n : Node) (e : ℕ) → value j s p ≡ got n e → b ≡ isKey w n) → f′ ≡ cond b (found.Found.At at) f → Counts k s w f ps (u ∷ us) → Counts k s w f′ ps us
-counts-more k s w f f′ b p q at u ps us hu ha hb hf h =
-    let x = key-of (value k s) s p u q hu in
-    let t : b ≡ isKey w (u .key) = hb k (u .key) (x .0) (x .1) in
-    (cond b (gives (u .value)) (h .0), subst (λ (y : Found). FoundIs k s y (cond b (gives (u .value)) (h .0))) (sym hf) (by b), h .2 ∙ ap (λ (z : Bool). lastIn w (cond z (gives (u .value)) (h .0)) (pairs us)) (sym t))
-  where
-    by : (z : Bool) → FoundIs k s (cond z (found.Found.At at) f) (cond z (gives (u .value)) (h .0))
-    by true = (q, value-of (value k s) s p u q at hu ha)
-    by false = h .1
+  counts-more : (f f′ : Found) (p q at : ℕ) (u : Pair) (ps us : List Pair) → pairBy (value k s) s p ≡ got u q → Ends at ≡ pos (keyBy (value k s) s p)
+      → f′ ≡ cond (isKey w (u .key)) (found.Found.At at) f → Counts f ps (u ∷ us) → Counts f′ ps us
+  counts-more f f′ p q at u ps us hu ha hf h =
+      (cond (isKey w (u .key)) (gives (u .value)) (h .0), subst (λ (y : Found). FoundIs k s y (cond (isKey w (u .key)) (gives (u .value)) (h .0))) (sym hf) (by (isKey w (u .key))), h .2)
+    where
+      by : (z : Bool) → FoundIs k s (cond z (found.Found.At at) f) (cond z (gives (u .value)) (h .0))
+      by true = (q, value-of (value k s) s p u q at hu ha)
+      by false = h .1
+
+-- ---- one more pair
+pub places-eq : {a b c d e f : Found} → a ≡ b → c ≡ d → e ≡ f → _≡_ {A = Places} (record { descr = a; order = c; shape = e }) (record { descr = b; order = d; shape = f })
+places-eq hd ho hs = cc
+
+module _ (s : List ℕ) (p at : ℕ) (was : Places) where
+  chosen-by : (w : List ℕ) (f f′ : Found) (b : Bool) → KeyAt s p w b → f′ ≡ cond b (found.Found.At at) f → (k : ℕ) (n : Node) (e : ℕ) → value k s p ≡ got n e → f′ ≡ cond (isKey w n) (found.Found.At at) f
+  chosen-by w f f′ b hb hf k n e h = hf ∙ ap (λ (x : Bool). cond x (found.Found.At at) f) (hb k n e h)
+
+  pub with-pair : (a b c : Bool) (d o h : Found) → KeyAt s p key-descr a → d ≡ cond a (found.Found.At at) (was .descr) → KeyAt s p key-order b → o ≡ cond b (found.Found.At at) (was .order)
+      → KeyAt s p key-shape c → h ≡ cond c (found.Found.At at) (was .shape) → PairAt s p at was (record { descr = d; order = o; shape = h })
+  with-pair a b c d o h ha hd hb ho hc hh k n e r =
+      places-eq (chosen-by key-descr (was .descr) d a ha hd k n e r) (chosen-by key-order (was .order) o b hb ho k n e r)
+      (chosen-by key-shape (was .shape) h c hc hh k n e r)
+
+-- ---- the pairs from the gap on, behind those that gave x
+module _ (k : ℕ) (s : List ℕ) where
+  pub record Seen (x : Places) (ps us : List Pair) : Type 0 where
+    pub strings : Strings ps us
+    pub descr : Counts k s key-descr (x .descr) ps us
+    pub order : Counts k s key-order (x .order) ps us
+    pub shape : Counts k s key-shape (x .shape) ps us
+
+  pub seen-start : (ps : List Pair) → Seen (record { descr = found.Found.Missing; order = found.Found.Missing; shape = found.Found.Missing }) ps ps
+  seen-start ps = record { strings = refl; descr = counts-start k s key-descr ps; order = counts-start k s key-order ps; shape = counts-start k s key-shape ps }
+
+  pub seen-more : (x x′ : Places) (p q at : ℕ) (u : Pair) (ps us : List Pair) → pairBy (value k s) s p ≡ got u q → Ends at ≡ pos (keyBy (value k s) s p) → (c : Kind) → c ≡ kindOf (byteAt s p) → c ≡ Quote
+      → PairAt s p at x x′ → Seen x ps (u ∷ us) → Seen x′ ps us
+  seen-more x x′ p q at u ps us hu ha c hk z hx h =
+      let y = key-of (value k s) s p u q hu in
+      let e = hx k (u .key) (y .0) (y .1) in
+      record {
+        strings = strings-more k s p q u ps us hu c hk (h .strings) z;
+        descr = counts-more k s key-descr (x .descr) (x′ .descr) p q at u ps us hu ha (ap (λ (i : Places). i .descr) e) (h .descr);
+        order = counts-more k s key-order (x .order) (x′ .order) p q at u ps us hu ha (ap (λ (i : Places). i .order) e) (h .order);
+        shape = counts-more k s key-shape (x .shape) (x′ .shape) p q at u ps us hu ha (ap (λ (i : Places). i .shape) e) (h .shape);
+      }
+
+  module _ (from : ℕ) where
+    abbrev pub read : Got (List Pair)
+    read = listBy (pairBy (value k s) s) s from 125
+
+    -- 8, where no row of pairs stands or its keys are not all strings
+    pub keys-none : ((ps : List Pair) (e : ℕ) → Row (pairBy (value k s) s) s 125 ps (gapAt s from 125) e → stringsIn ps ≡ false) → KeysOf k s NotDict read
+    keys-none f = go read (row-list (pairBy (value k s) s) s 125 from)
+      where
+        go : (g : Got (List Pair)) → RowGot (pairBy (value k s) s) s 125 (gapAt s from 125) g → KeysOf k s NotDict g
+        go (got ps e) r = f ps e r
+        go (fault p) r = refl
+        go (deep p) r = refl
+
+    pub keys-not : (p q : ℕ) (u : Pair) (x : Places) (ps us : List Pair) → pairBy (value k s) s p ≡ got u q → (c : Kind) → c ≡ kindOf (byteAt s p) → NoQuote c → Seen x ps (u ∷ us) → stringsIn ps ≡ false
+    keys-not p q u x ps us hu c hk z h = strings-not k s p q u ps us hu c hk (h .strings) z
+
+    -- the brace, or a fault
+    shut-by : (x : Places) (e : ℕ) → Goes (pairBy (value k s) s) s 125 from (Seen x) (Shut e) → OneOf (0 ∷ 2 ∷ []) (tagOf gap.the-type (Shut e)) → (g : Got (List Pair)) → RowGot (pairBy (value k s) s) s 125 (gapAt s from 125) g → Ends e ≡ pos g → KeysOf k s (Read x) g
+    shut-by x e w o g r h =
+        let t = thing g e h in
+        let v = goes-end (pairBy (value k s) s) s 125 from (Seen x) (Shut e) w o (t .0) e (subst (RowGot (pairBy (value k s) s) s 125 (gapAt s from 125)) (t .1) r) in
+        subst (KeysOf k s (Read x)) (sym (t .1)) (strings-end (t .0) (v .strings), record { of-descr = counts-end k s key-descr (x .descr) (t .0) (v .descr); of-order = counts-end k s key-order (x .order) (t .0) (v .order); of-shape = counts-end k s key-shape (x .shape) (t .0) (v .shape) })
+
+    end-by : (g : Gap) (x : Places) → Turn (pairBy (value k s) s) s 125 from g → Goes (pairBy (value k s) s) s 125 from (Seen x) g → OneOf (0 ∷ 2 ∷ []) (tagOf gap.the-type g) → KeysOf k s (keysEnd g x) read
+    end-by (Shut e) x t w o = shut-by x e w o read (row-list (pairBy (value k s) s) s 125 from) (turn-end (pairBy (value k s) s) s 125 from (Shut e) (Ends e) t refl o)
+    end-by (Stray p) x t w o = keys-none (λ ps e r. let i = w ps e r in absurd (row-stray (pairBy (value k s) s) s 125 (i .0) p e (i .1)))
+    end-by (Item p) x t w o = absurd (miss (0 ∷ 2 ∷ []) 1 tt o)
+
+    pub keys-end : (g : Gap) (x : Places) (r : KeysRead) → Turn (pairBy (value k s) s) s 125 from g → Goes (pairBy (value k s) s) s 125 from (Seen x) g → OneOf (0 ∷ 2 ∷ []) (tagOf gap.the-type g) → r ≡ keysEnd g x → KeysOf k s r read
+    keys-end g x r t w o h = subst (λ (y : KeysRead). KeysOf k s y read) (sym h) (end-by g x t w o)
 
 -- ---- the dict
-module _ (k : ℕ) (s : List ℕ) (at : ℕ) where
-  pub not-keyed : Stops (pos (value k s at)) → false ≡ keyedAt (value k s at)
-  not-keyed st = go (value k s at) st
+module _ (k : ℕ) (s : List ℕ) (at : ℕ) (c : Kind) (hk : c ≡ kindOf (byteAt s at)) where
+  pub dict-keys : c ≡ Curly → (r : KeysRead) → KeysOf k s r (listBy (pairBy (value k s) s) s (at + 1) 125) → KeysAre k s r (keyedAt (value (suc k) s at)) (λ w. nodeFor w (value (suc k) s at))
+  unfolding with forget
+  dict-keys z r h =
+      subst (λ (g : Got Node). KeysAre k s r (keyedAt g) (λ w. nodeFor w g)) (sym (dict-at k s at c hk z)) (go r (listBy (pairBy (value k s) s) s (at + 1) 125) h)
     where
-      go : (g : Got Node) → Stops (pos g) → false ≡ keyedAt g
-      go (got n e) st = absurd st
-      go (fault p) st = refl
-      go (deep p) st = refl
+      go : (r : KeysRead) (g : Got (List Pair)) → KeysOf k s r g
+          → KeysAre k s r (keyedAt (with (λ e ps. dict (span at e) (pairs ps)) g)) (λ w. nodeFor w (with (λ e ps. dict (span at e) (pairs ps)) g))
+      go r (got ps e) h = h
+      go r (fault p) h = subst (λ (x : KeysRead). KeysAre k s x false (λ w. refused 9)) (sym h) refl
+      go r (deep p) h = subst (λ (x : KeysRead). KeysAre k s x false (λ w. refused 9)) (sym h) refl
 
-  pub not-found : (w : List ℕ) → Stops (pos (value k s at)) → FoundIs (k - 1) s found.Found.Missing (nodeFor w (value k s at))
-  not-found w st = go (value k s at) st
+  pub no-dict : NoCurly c → keyedAt (value (suc k) s at) ≡ false
+  no-dict z = go (value (suc k) s at) refl
     where
-      go : (g : Got Node) → Stops (pos g) → FoundIs (k - 1) s found.Found.Missing (nodeFor w g)
-      go (got n e) st = absurd st
-      go (fault p) st = refl
-      go (deep p) st = refl
-
-  module _ (e : ℕ) (h : Ends e ≡ pos (value k s at)) (c : Kind) (hk : c ≡ kindOf (byteAt s at)) where
-    keyed-as : (o : Outcome Pairs) → pairsIn 8 (thing (value k s at) e h .0) ≡ o → keyed (each forgetPairs o) ≡ keyedAt (value k s at)
-    keyed-as o z =
-        let t = thing (value k s at) e h in
-        ap (λ (x : Outcome Pairs). keyed (each forgetPairs x)) (sym z) ∙ ap keyed (sym (items-in 8 (t .0))) ∙ ap keyedAt (sym (t .1))
-
-    found-as : (w : List ℕ) (o : Outcome Pairs) → pairsIn 9 (thing (value k s at) e h .0) ≡ o → then o (lastIn w (refused 9)) ≡ nodeFor w (value k s at)
-    found-as w o z =
-        let t = thing (value k s at) e h in
-        ap (λ (x : Outcome Pairs). then x (lastIn w (refused 9))) (sym z) ∙ ap (nodeFor w) (sym (t .1))
-
-    pub dict-at : c ≡ Curly → Braces k s at (thing (value k s at) e h .0) e
-    dict-at z = braces k s at e (thing (value k s at) e h .0) (thing (value k s at) e h .1) c hk z
-
-    pub keyed-dict : (z : c ≡ Curly) (r : Bool) → r ≡ allStrings (forgetPairs (pairs (dict-at z .held))) → r ≡ keyedAt (value k s at)
-    keyed-dict z r hr = hr ∙ keyed-as (gives (pairs (dict-at z .held))) (dict-at z .holds 8)
-
-    pub found-dict : (z : c ≡ Curly) (w : List ℕ) (f : Found) → FoundIs (k - 1) s f (lastIn w (refused 9) (pairs (dict-at z .held))) → FoundIs (k - 1) s f (nodeFor w (value k s at))
-    found-dict z w f hf = subst (FoundIs (k - 1) s f) (found-as w (gives (pairs (dict-at z .held))) (dict-at z .holds 9)) hf
-
-    none-at : (j : ℕ) → NoCurly c → pairsIn j (thing (value k s at) e h .0) ≡ refused j
-    none-at j z = no-braces k s at e (thing (value k s at) e h .0) (thing (value k s at) e h .1) j c hk z
-
-    pub keyed-other : NoCurly c → false ≡ keyedAt (value k s at)
-    keyed-other z = keyed-as (refused 8) (none-at 8 z)
-
-    pub found-other : (w : List ℕ) → NoCurly c → FoundIs (k - 1) s found.Found.Missing (nodeFor w (value k s at))
-    found-other w z = subst (FoundIs (k - 1) s found.Found.Missing) (found-as w (refused 9) (none-at 9 z)) refl
+      go : (g : Got Node) → value (suc k) s at ≡ g → keyedAt g ≡ false
+      go (got n e) h = ap keyed (items-in 8 n) ∙ ap (λ (x : Outcome Pairs). keyed (each forgetPairs x)) (no-braces (suc k) s at e n h 8 c hk z)
+      go (fault p) h = refl
+      go (deep p) h = refl

@@ -16,10 +16,11 @@ ghost use mathlib.Core.Bool.{cond};
 ghost use Prim.Native.Nat.{_-_};
 ghost use Rattle.counts.specs.Outcome.{then};
 ghost use Rattle.record.specs.FromValue.{orderOf};
+ghost use Rattle.literal.specs.Brackets.{listBy, pairBy};
 ghost use Rattle.literal.specs.Literal.{value as valueOf, most-open};
 ghost use Rattle.dims.specs.Answer.{valueOr};
 ghost use Rattle.keys.specs.Pairs.{keyedAt, nodeFor};
-ghost use Rattle.keys.specs.Answer.{ordered, FoundIs, KeyAt, StringsFrom, FindsFrom};
+ghost use Rattle.keys.specs.Answer.{ordered, KeyAt, KeysAre, KeysOf, keysEnd, PairAt};
 
 // The position of the value that counts; or 9.
 pub enum Found {
@@ -33,34 +34,28 @@ pub enum Declared {
     Form,
 }
 
-// Whether the value at `at` is a dict whose keys are all strings; else 8.
-pub fn all_strings(text: &[u8], at: usize) -> bool
-    ensures { λ r. ⌜ r ≡ keyedAt (valueOf most-open (now (text .entry)) at) ⌝ }
-{
-    let v = value(text, at, OPEN);
-    let Parsed::Value(_) = v else {
-        return false;
-    };
-    let k = kind_of(peek(text, at));
-    let Kind::Curly = k else {
-        return false;
-    };
-    strings_from(text, at + 1, OPEN - 1)
+// Where the values of the three keys stand.
+pub struct Places {
+    pub descr: Found,
+    pub order: Found,
+    pub shape: Found,
 }
 
-// The value of the key in the dict at `at`.
-pub fn find(text: &[u8], at: usize, key: &[u8]) -> Found
-    ensures { λ r. ⌜ FoundIs (most-open - 1) (now (text .entry)) r (nodeFor (now (key .entry)) (valueOf most-open (now (text .entry)) at)) ⌝ }
+// The three keys of a dict whose keys are all strings; or 8.
+pub enum KeysRead {
+    Read(Places),
+    NotDict,
+}
+
+// The keys of the dict at `at`.
+pub fn keys(text: &[u8], at: usize) -> KeysRead
+    ensures { λ r. ⌜ KeysAre (most-open - 1) (now (text .entry)) r (keyedAt (valueOf most-open (now (text .entry)) at)) (λ w. nodeFor w (valueOf most-open (now (text .entry)) at)) ⌝ }
 {
-    let v = value(text, at, OPEN);
-    let Parsed::Value(_) = v else {
-        return Found::Missing;
-    };
     let k = kind_of(peek(text, at));
     let Kind::Curly = k else {
-        return Found::Missing;
+        return KeysRead::NotDict;
     };
-    find_from(text, at + 1, OPEN - 1, key)
+    keys_from(text, at + 1, OPEN - 1)
 }
 
 // The order that the value at `at` declares, where `room` brackets more may open at once.
@@ -86,51 +81,59 @@ pub fn order_at(text: &[u8], at: usize, room: usize) -> Declared
     }
 }
 
-// Whether the keys from `from` up to the brace are all strings.
-fn strings_from(text: &[u8], from: usize, room: usize) -> bool
-    ensures { λ r. ⌜ StringsFrom room (now (text .entry)) from r ⌝ }
+// The keys of the pairs from `from` up to the brace.
+fn keys_from(text: &[u8], from: usize, room: usize) -> KeysRead
+    ensures { λ r. ⌜ KeysOf room (now (text .entry)) r (listBy (pairBy (valueOf room (now (text .entry))) (now (text .entry))) (now (text .entry)) from 125) ⌝ }
 {
     let mut g = gap_at(text, from, 125);
+    let mut found = Places {
+        descr: Found::Missing,
+        order: Found::Missing,
+        shape: Found::Missing,
+    };
     loop {
         let Gap::Item(p) = g else {
-            return true;
+            return ended(g, found);
         };
         let first = kind_of(peek(text, p));
         let Kind::Quote = first else {
-            return false;
+            return KeysRead::NotDict;
         };
         let k = literal::key(text, p, room);
         let Parsed::Value(at) = k else {
-            return false;
+            return KeysRead::NotDict;
         };
         let v = value(text, at, room);
         let Parsed::Value(q) = v else {
-            return false;
+            return KeysRead::NotDict;
         };
+        found = with_pair(text, p, at, found);
         g = then_at(text, q, 125);
     }
 }
 
-// The last value of the key among the pairs from `from` up to the brace.
-fn find_from(text: &[u8], from: usize, room: usize, key: &[u8]) -> Found
-    ensures { λ r. ⌜ FindsFrom room (now (text .entry)) from (now (key .entry)) r ⌝ }
+// The keys of a dict that ends at a gap where no pair stands.
+fn ended(g: Gap, found: Places) -> KeysRead
+    ensures { λ r. ⌜ r ≡ keysEnd g found ⌝ }
 {
-    let mut g = gap_at(text, from, 125);
-    let mut found = Found::Missing;
-    loop {
-        let Gap::Item(p) = g else {
-            return found;
-        };
-        let k = literal::key(text, p, room);
-        let Parsed::Value(at) = k else {
-            return found;
-        };
-        let v = value(text, at, room);
-        let Parsed::Value(q) = v else {
-            return found;
-        };
-        found = chosen(is_key(text, p, key), at, found);
-        g = then_at(text, q, 125);
+    match g {
+        Gap::Shut(_) => KeysRead::Read(found),
+        Gap::Item(_) => KeysRead::NotDict,
+        Gap::Stray(_) => KeysRead::NotDict,
+    }
+}
+
+// The keys behind one more pair: its key stands at `p`, its value at `at`.
+fn with_pair(text: &[u8], p: usize, at: usize, was: Places) -> Places
+    ensures { λ r. ⌜ PairAt (now (text .entry)) p at was r ⌝ }
+{
+    let descr = was.descr;
+    let order = was.order;
+    let shape = was.shape;
+    Places {
+        descr: chosen(is_key(text, p, b"descr"), at, descr),
+        order: chosen(is_key(text, p, b"fortran_order"), at, order),
+        shape: chosen(is_key(text, p, b"shape"), at, shape),
     }
 }
 

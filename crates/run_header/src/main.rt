@@ -1,5 +1,6 @@
 // Replays recorded files, framed as the crate frames reads them, one answer a line: the listing with `; ` for each line's end but the last, or `refused` and the number. A
-// case is the room lent for the table, in entries, for the names and for the shape, four bytes each with the least first, and the file. The rooms hold 5s before, which is
+// case is the room lent for the table, in entries, for the names and for the shape, four bytes each with the least first, a byte that is 0 for a whole file and another for the
+// first bytes of one that is longer, and the file. The rooms hold 5s before, which is
 // looked at afterwards: a line ends in ` changed` where a refusal changed a room, or an answer the room beyond what was needed.
 use counts::Number;
 use frames::Frame;
@@ -41,7 +42,7 @@ fn replay(case: &[u8]) {
 }
 
 fn lend(case: &[u8], table: &mut [u64], names: &mut [u8], shape: &mut [u64]) {
-    if case.len() < 12 {
+    if case.len() < 13 {
         say(b"short");
         return;
     }
@@ -49,7 +50,8 @@ fn lend(case: &[u8], table: &mut [u64], names: &mut [u8], shape: &mut [u64]) {
     let bytes = at_most(&case[4..8], names.len());
     let rank = at_most(&case[8..12], shape.len());
     read_case(
-        &case[12..],
+        &case[13..],
+        case[12] != 0,
         &mut table[..dtype::ENTRY * entries],
         &mut names[..bytes],
         &mut shape[..rank],
@@ -70,8 +72,8 @@ fn say(text: &[u8]) {
     io::write_all(STDOUT_FILENO, text);
 }
 
-fn read_case(file: &[u8], table: &mut [u64], names: &mut [u8], shape: &mut [u64]) {
-    let r = header::read(file, table, names, shape);
+fn read_case(file: &[u8], longer: bool, table: &mut [u64], names: &mut [u8], shape: &mut [u64]) {
+    let r = header::read_held(file, longer, table, names, shape);
     match r {
         HeaderRead::Read(h) => {
             list_header(h, table, names, shape);

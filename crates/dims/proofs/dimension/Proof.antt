@@ -4,7 +4,7 @@ use native.Mathlib.Omega.{arith}
 use Rattle.tokens.specs.Text.{byteAt, kindOf}
 use Rattle.tokens.specs.declared.bytes.Kind.the-variants.{Minus, Digit}
 use Rattle.tokens.proofs.Positions.{kind-in}
-use Rattle.dims.specs.Answer.{sized}
+use Rattle.products.specs.Answer.{sized}
 use Rattle.dims.proofs.Numbers.{dimension-digit, dimension-minus, dimension-other}
 use borrow.Author.Needs.{needs}
 use Rattle.dims.proofs.dimension.Statement.{statement}

@@ -7,8 +7,8 @@ use borrow.Author.Needs.{needs}
 use Rattle.literal.proofs.Ends.{GapAhead, value-ahead, then-ahead}
 use Rattle.literal.proofs.Steps.{gapLeft, turn-less, read-ahead}
 use Rattle.literal.specs.declared.gaps.Gap.{Gap}
-use Rattle.dims.specs.declared.Verdict.the-variants.{Good}
-use Rattle.dims.specs.Walk.{rankOf}
+use Rattle.products.specs.declared.Verdict.the-variants.{Good}
+use Rattle.products.specs.Answer.{rankOf}
 use Rattle.dims.proofs.Goes.{Goes, goes-start, goes-end, goes-more, goes-stop, Counted, counted-none, counted-at, counted-more}
 use Rattle.dims.proofs.Held.{none-met, Met, met-start, met-more, met-end, rank-more}
 use Rattle.dims.proofs.members.Statement.{statement}

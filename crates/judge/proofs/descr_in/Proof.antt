@@ -5,12 +5,6 @@ use borrow.Author.Needs.{needs}
 use Rattle.judge.proofs.descr_in.Statement.{statement}
 use Rattle.judge.proofs.descr_in.Tie as tie
 
-slice-aggregate-find : tie.Need-slice-aggregate-find
-slice-aggregate-find c = search needs
-
-find-requires : tie.Need-find-requires
-find-requires c κs = search needs
-
 enum-known-found : tie.Need-enum-known-found
 enum-known-found c = search needs
 
@@ -19,16 +13,16 @@ enum-told c = search needs
 
 returns : tie.Need-returns
 returns c =
-    let a = c .before .before .before .before .before .args in
-    descr-none (a .text .now) (a .at) (found-none (a .text .now) (a .at) key-descr _ (c .before .before .find .ensures) (c .enum-told .given .1))
+    let a = c .before .before .before .args in
+    descr-none (a .text .now) (a .at) (found-none (a .text .now) (a .at) key-descr _ (c .before .before .before .pre) (c .enum-told .given .1))
 
 sub-judge : tie.Need-sub-judge
 sub-judge c = search needs
 
 judge-requires : tie.Need-judge-requires
 judge-requires c κs =
-    let a = c .before .before .before .before .before .before .args in
-    found-stands (a .text .now) (a .at) key-descr _ (found-at (a .text .now) (a .at) key-descr _ _ (c .before .before .before .find .ensures) (c .before .found .given .1))
+    let a = c .before .before .before .before .args in
+    found-stands (a .text .now) (a .at) key-descr _ (found-at (a .text .now) (a .at) key-descr _ _ (c .before .before .before .before .pre) (c .before .found .given .1))
 
 enum-known-verdict : tie.Need-enum-known-verdict
 enum-known-verdict c = search needs
@@ -41,20 +35,18 @@ refusal-of-requires c κs = search needs
 
 returns-2 : tie.Need-returns-2
 returns-2 c =
-    let a = c .before .before .before .before .before .before .before .before .before .before .args in
-    descr-good (a .text .now) (a .at) _ _ _ (found-at (a .text .now) (a .at) key-descr _ _ (c .before .before .before .before .before .before .before .find .ensures) (c .before .before .before .before .before .found .given .1)) (c .before .before .before .judge .ensures) (c .before .verdict .given .1)
+    let a = c .before .before .before .before .before .before .before .before .args in
+    descr-good (a .text .now) (a .at) _ _ _ (found-at (a .text .now) (a .at) key-descr _ _ (c .before .before .before .before .before .before .before .before .pre) (c .before .before .before .before .before .found .given .1)) (c .before .before .before .judge .ensures) (c .before .verdict .given .1)
 
 returns-3 : tie.Need-returns-3
 returns-3 c =
-    let a = c .before .before .before .before .before .before .before .before .before .before .before .args in
-    descr-bad (a .text .now) (a .at) _ _ _ (found-at (a .text .now) (a .at) key-descr _ _ (c .before .before .before .before .before .before .before .before .find .ensures) (c .before .before .before .before .before .before .found .given .1)) (c .before .before .before .before .judge .ensures) (c .before .before .verdict2 .given .1) (c .refusal-of .result) (c .refusal-of .ensures)
+    let a = c .before .before .before .before .before .before .before .before .before .args in
+    descr-bad (a .text .now) (a .at) _ _ _ (found-at (a .text .now) (a .at) key-descr _ _ (c .before .before .before .before .before .before .before .before .before .pre) (c .before .before .before .before .before .before .found .given .1)) (c .before .before .before .before .judge .ensures) (c .before .before .verdict2 .given .1) (c .refusal-of .result) (c .refusal-of .ensures)
 
 pub descr-in-spec : {M : Type 1} → statement M
 descr-in-spec =
     tie.close
     (tie.spec
-    slice-aggregate-find
-    find-requires
     enum-known-found
     enum-told
     returns

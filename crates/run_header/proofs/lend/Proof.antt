@@ -60,6 +60,9 @@ part-read-case-start c = search needs
 part-read-case-end : tie.Need-part-read-case-end
 part-read-case-end c = search needs
 
+shared-slice-read-read-case : tie.Need-shared-slice-read-read-case
+shared-slice-read-read-case c = search needs
+
 mul-read-case : tie.Need-mul-read-case
 mul-read-case c = search needs
 
@@ -67,19 +70,19 @@ slice-relend-prefix-read-case : tie.Need-slice-relend-prefix-read-case
 slice-relend-prefix-read-case c = search needs
 
 slice-aggregate-read-case : tie.Need-slice-aggregate-read-case
-slice-aggregate-read-case c = sym (length-take-le _ _ (omega (arith, c .before .before .before .before .before .before .at-most .ensures)))
+slice-aggregate-read-case c = sym (length-take-le _ _ (omega (arith, c .before .before .before .before .before .before .before .at-most .ensures)))
 
 slice-relend-prefix-read-case-2 : tie.Need-slice-relend-prefix-read-case-2
 slice-relend-prefix-read-case-2 c = search needs
 
 slice-aggregate-read-case-2 : tie.Need-slice-aggregate-read-case-2
-slice-aggregate-read-case-2 c = sym (length-take-le _ _ (c .before .before .before .before .before .at-most2 .ensures))
+slice-aggregate-read-case-2 c = sym (length-take-le _ _ (c .before .before .before .before .before .before .at-most2 .ensures))
 
 slice-relend-prefix-read-case-3 : tie.Need-slice-relend-prefix-read-case-3
 slice-relend-prefix-read-case-3 c = search needs
 
 slice-aggregate-read-case-3 : tie.Need-slice-aggregate-read-case-3
-slice-aggregate-read-case-3 c = sym (length-take-le _ _ (c .before .before .before .before .at-most3 .ensures))
+slice-aggregate-read-case-3 c = sym (length-take-le _ _ (c .before .before .before .before .before .at-most3 .ensures))
 
 read-case-requires : tie.Need-read-case-requires
 read-case-requires c κs = search needs
@@ -118,6 +121,7 @@ lend-spec =
     sub-read-case
     part-read-case-start
     part-read-case-end
+    shared-slice-read-read-case
     mul-read-case
     slice-relend-prefix-read-case
     slice-aggregate-read-case

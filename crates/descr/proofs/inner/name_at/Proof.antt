@@ -4,36 +4,26 @@ use native.Mathlib.Omega.{arith}
 use mathlib.Core.Path.{sym, ap, _∙_}
 use lib.ListN.{length}
 use Rattle.counts.specs.Outcome.{gives}
-use Rattle.tokens.specs.Text.{kindOf}
 use Rattle.tokens.specs.Strings.{spelled}
 use Rattle.tokens.specs.declared.strings.Scan.{Scan}
 use Rattle.tokens.proofs.Positions.{getD-any}
-use Rattle.descr.specs.Totals.{nameTotals}
-use Rattle.descr.specs.Judges.{isString}
-use Rattle.descr.proofs.Nodes.{string-in, name-string, name-not}
+use Rattle.sums.specs.Totals.{nameTotals}
+use Rattle.field.proofs.Begins.{string-in}
+use Rattle.descr.proofs.Nodes.{name-string, name-not}
 use borrow.Author.Needs.{needs}
 use Rattle.descr.proofs.inner.name_at.Statement.{statement}
 use Rattle.descr.proofs.inner.name_at.Tie as tie
 
-peek-requires : tie.Need-peek-requires
-peek-requires c κs = search needs
-
-kind-of-requires : tie.Need-kind-of-requires
-kind-of-requires c κs = search needs
-
-is-string-requires : tie.Need-is-string-requires
-is-string-requires c κs = search needs
+string-at-requires : tie.Need-string-at-requires
+string-at-requires c κs = search needs
 
 add-scan-at : tie.Need-add-scan-at
 add-scan-at c =
-    let k = sym (c .before .is-string .ensures ∙ ap isString (c .before .before .kind-of .ensures ∙ ap kindOf (c .before .before .before .peek .ensures))) ∙ c .if1 .taken in
-    let lt = string-in (c .before .before .before .before .before .args .text .now) (c .before .before .before .before .before .args .at) k in
+    let lt = string-in (c .before .before .before .args .text .now) (c .before .before .before .args .at) (sym (c .before .string-at .ensures) ∙ c .if1 .taken) in
     omega arith
 
 shared-slice-read-scan-at : tie.Need-shared-slice-read-scan-at
-shared-slice-read-scan-at c =
-    let k = sym (c .before .before .is-string .ensures ∙ ap isString (c .before .before .before .kind-of .ensures ∙ ap kindOf (c .before .before .before .before .peek .ensures))) ∙ c .before .if1 .taken in
-    string-in (c .before .before .before .before .before .before .args .text .now) (c .before .before .before .before .before .before .args .at) k
+shared-slice-read-scan-at c = string-in (c .before .before .before .before .args .text .now) (c .before .before .before .before .args .at) (sym (c .before .before .string-at .ensures) ∙ c .before .if1 .taken)
 
 scan-at-requires : tie.Need-scan-at-requires
 scan-at-requires c κs = search needs
@@ -43,24 +33,20 @@ named-requires c κs = search needs
 
 returns : tie.Need-returns
 returns c =
-    let s = c .before .before .before .before .before .before .before .before .args .text .now in
-    let at = c .before .before .before .before .before .before .before .before .args .at in
-    let k = sym (c .before .before .before .before .is-string .ensures ∙ ap isString (c .before .before .before .before .before .kind-of .ensures ∙ ap kindOf (c .before .before .before .before .before .before .peek .ensures))) ∙ c .before .before .before .if1 .taken in
+    let s = c .before .before .before .before .before .before .args .text .now in
+    let at = c .before .before .before .before .before .before .args .at in
+    let k = sym (c .before .before .before .before .string-at .ensures) ∙ c .before .before .before .if1 .taken in
     let len = ap (λ (r : Scan). r .len) (c .before .scan-at .ensures) ∙ ap (λ (b : ℕ). length (spelled b s (at + 1) .bytes)) (getD-any s at 0 256 (string-in s at k)) in
     ap gives (c .named .ensures ∙ ap nameTotals len) ∙ name-string s at k
 
 returns-2 : tie.Need-returns-2
-returns-2 c =
-    let k = sym (c .before .is-string .ensures ∙ ap isString (c .before .before .kind-of .ensures ∙ ap kindOf (c .before .before .before .peek .ensures))) ∙ c .if1 .left in
-    name-not (c .before .before .before .before .before .args .text .now) (c .before .before .before .before .before .args .at) k
+returns-2 c = name-not (c .before .before .before .args .text .now) (c .before .before .before .args .at) (sym (c .before .string-at .ensures) ∙ c .if1 .left)
 
 pub name-at-spec : {M : Type 1} → statement M
 name-at-spec =
     tie.close
     (tie.spec
-    peek-requires
-    kind-of-requires
-    is-string-requires
+    string-at-requires
     add-scan-at
     shared-slice-read-scan-at
     scan-at-requires

@@ -2,19 +2,11 @@
 -- more where a bracket is open already and its items are handed on. Assumes nothing.
 use Prim.Native.Nat.{ℕ, _+_, _*_, _<_}
 use native.Mathlib.Omega.{arith}
-use mathlib.Core.Path.{sym, ap, _∙_}
+use mathlib.Core.Path.{sym, _∙_}
 use lib.ListN.{length}
-use Rattle.type_str.specs.declared.TypeStr.{TypeStr}
-use Rattle.dtype.specs.Dtype.{plain}
-use Rattle.dtype.specs.Flat.{entryOf}
 use Rattle.dtype.proofs.Flat.{some-entry}
-use Rattle.tokens.specs.Node.{Node}
-use Rattle.tokens.specs.Got.{Got, pos}
-use Rattle.literal.specs.Answer.{place}
-use Rattle.tokens.specs.Text.{kindOf}
 use Rattle.literal.proofs.Steps.{gapLeft}
-use Rattle.fill.specs.Filled.{isString}
-use Rattle.fill.proofs.Filling.{text-due, list-due, text-filled, record-filled, fields-due, Filling, filling-start, filling-field, filling-more, filling-end, name-fits, rank-fits, inner-due, levels-due, field-filled, filled-long, fields-long, field-long, field-less}
+use Rattle.fill.proofs.Filling.{text-whole, fields-asked, record-room, record-whole, Filling, filling-start, filling-field, filling-more, filling-end, name-fits, rank-fits, inner-due, levels-asked, field-whole, filled-long, field-long, field-less}
 use borrow.Author.Needs.{needs}
 use borrow.Fn.Kinds.{In}
 use borrow.Fn.PlainCycle.{Measures, is, falls, and}
@@ -27,23 +19,21 @@ use Rattle.fill.proofs.inner.+field+fields+fill.Lts-fields as fields-lt
 use Rattle.fill.proofs.inner.fill.Reads as fill
 use Rattle.fill.proofs.inner.fill.Kinds as fill-kinds
 use Rattle.fill.proofs.inner.+field+fields+fill.Lts-fill as fill-lts
-use Rattle.fill.proofs.inner.end_of.Reads as end-of-reads
+use Rattle.field.proofs.end_of.Reads as end-of-reads
 use Rattle.literal.proofs.gaps.gap_at.Reads as gap-at-reads
 use Rattle.held.proofs.held_sum.Reads as held-sum-reads
-use Rattle.fill.proofs.inner.is_string.Reads as is-string-reads
-use Rattle.tokens.proofs.bytes.kind_of.Reads as kind-of-reads
-use Rattle.fill.proofs.inner.name_at.Reads as name-at-reads
-use Rattle.fill.proofs.inner.name_of.Reads as name-of-reads
-use Rattle.fill.proofs.inner.parent.Reads as parent-reads
-use Rattle.fill.proofs.inner.parts.Reads as parts-reads
-use Rattle.tokens.proofs.bytes.peek.Reads as peek-reads
-use Rattle.fill.proofs.inner.place_of.Reads as place-of-reads
-use Rattle.fill.proofs.inner.plain_entry.Reads as plain-entry-reads
-use Rattle.fill.proofs.inner.put_entry.Reads as put-entry-reads
-use Rattle.fill.proofs.inner.put_shape.Reads as put-shape-reads
-use Rattle.fill.proofs.inner.bare_entry.Reads as bare-entry-reads
+use Rattle.entry.proofs.inner.name_of.Reads as name-of-reads
+use Rattle.entry.proofs.inner.parent.Reads as parent-reads
+use Rattle.field.proofs.place_of.Reads as place-of-reads
+use Rattle.entry.proofs.inner.put_plain.Reads as put-plain-reads
+use Rattle.entry.proofs.inner.put_record.Reads as put-record-reads
+use Rattle.entry.proofs.inner.put_shape.Reads as put-shape-reads
+use Rattle.field.proofs.string_at.Reads as string-at-reads
 use Rattle.literal.proofs.gaps.then_at.Reads as then-at-reads
-use Rattle.fill.proofs.inner.type_at.Reads as type-at-reads
+use Rattle.field.proofs.type_at.Reads as type-at-reads
+use Rattle.entry.proofs.inner.type_of.Reads as type-of-reads
+use Rattle.fill.proofs.inner.name_at.Reads as name-at-reads
+use Rattle.fill.proofs.inner.parts.Reads as parts-reads
 use Rattle.fill.proofs.inner.+field+fields+fill.{statement}
 use Rattle.fill.proofs.inner.+field+fields+fill.Tie.{close}
 
@@ -81,7 +71,7 @@ abbrev fields-told : ℕ → fields-lts.Claims
 fields-told t = (gap-at-reads.Asked, gap-at-reads.Learnt, place-of-reads.Asked, place-of-reads.Learnt, field-below t, field.Post, held-sum-reads.Asked, held-sum-reads.Learnt, then-at-reads.Asked, then-at-reads.Learnt)
 
 abbrev fill-told : ℕ → fill-lts.Claims
-fill-told t = (peek-reads.Asked, peek-reads.Learnt, kind-of-reads.Asked, kind-of-reads.Learnt, is-string-reads.Asked, is-string-reads.Learnt, type-at-reads.Asked, type-at-reads.Learnt, plain-entry-reads.Asked, plain-entry-reads.Learnt, put-entry-reads.Asked, put-entry-reads.Learnt, end-of-reads.Asked, end-of-reads.Learnt, fields-below t, fields.Post, bare-entry-reads.Asked, bare-entry-reads.Learnt)
+fill-told t = (string-at-reads.Asked, string-at-reads.Learnt, type-at-reads.Asked, type-at-reads.Learnt, type-of-reads.Asked, type-of-reads.Learnt, put-plain-reads.Asked, put-plain-reads.Learnt, end-of-reads.Asked, end-of-reads.Learnt, fields-below t, fields.Post, put-record-reads.Asked, put-record-reads.Learnt)
 
 abbrev fields-Inv-loop : fields-lts.InvT-loop
 fields-Inv-loop text from room table₀ entry up names₀ byte g₀ at₀ b₀ size₀ count₀ table names g at b size count = Filling room text from entry up byte table₀ names₀ g at b count size table names
@@ -102,32 +92,32 @@ field-name-at-requires t c κs =
     let w = c .before .parts .ensures (x .0) (x .1) (x .2) (x .3 .one) in
     (w .begins, name-fits (a .room) (a .text .now) (a .at) (a .entry) (a .byte) (a .table .now) (a .names .now) (x .0) (x .1) (x .2) (c .before .parts .result) (x .3) w)
 
-field-sub-fill : (t : ℕ) → field-lts.Need-sub-fill (field-told t) (field-at t) field.Post
-field-sub-fill t c =
+field-sub-deep : (t : ℕ) → field-lts.Need-sub-deep (field-told t) (field-at t) field.Post
+field-sub-deep t c =
     let a = c .before .before .before .before .before .before .before .before .args in
     let x = c .before .before .before .before .before .before .before .before .pre .1 in
     let w = c .before .before .before .before .parts .ensures (x .0) (x .1) (x .2) (x .3 .one) in
     omega (arith, w .deep)
 
-field-add-fill : (t : ℕ) → field-lts.Need-add-fill (field-told t) (field-at t) field.Post
-field-add-fill t c =
-    let a = c .before .before .before .before .before .before .before .before .before .before .args in
-    let x = c .before .before .before .before .before .before .before .before .before .before .pre .1 in
-    let w = c .before .before .before .before .before .before .parts .ensures (x .0) (x .1) (x .2) (x .3 .one) in
-    omega (arith, rank-fits (a .room) (a .text .now) (a .at) (a .entry) (a .byte) (a .table .now) (a .names .now) (x .0) (x .1) (x .2) (c .before .before .before .before .before .before .parts .result) (x .3) w)
+field-add-base : (t : ℕ) → field-lts.Need-add-base (field-told t) (field-at t) field.Post
+field-add-base t c =
+    let a = c .before .before .before .before .before .before .before .before .before .args in
+    let x = c .before .before .before .before .before .before .before .before .before .pre .1 in
+    let w = c .before .before .before .before .before .parts .ensures (x .0) (x .1) (x .2) (x .3 .one) in
+    omega (arith, rank-fits (a .room) (a .text .now) (a .at) (a .entry) (a .byte) (a .table .now) (a .names .now) (x .0) (x .1) (x .2) (c .before .before .before .before .before .parts .result) (x .3) w)
 
 field-parent-requires : (t : ℕ) → field-lts.Need-parent-requires (field-told t) (field-at t) field.Post
 field-parent-requires t c κs =
-    let a = c .before .before .before .before .before .before .before .before .before .before .args in
-    let x = c .before .before .before .before .before .before .before .before .before .before .pre .1 in
-    let w = c .before .before .before .before .before .before .parts .ensures (x .0) (x .1) (x .2) (x .3 .one) in
-    omega (arith, rank-fits (a .room) (a .text .now) (a .at) (a .entry) (a .byte) (a .table .now) (a .names .now) (x .0) (x .1) (x .2) (c .before .before .before .before .before .before .parts .result) (x .3) w)
+    let a = c .before .before .before .before .before .before .before .before .before .args in
+    let x = c .before .before .before .before .before .before .before .before .before .pre .1 in
+    let w = c .before .before .before .before .before .parts .ensures (x .0) (x .1) (x .2) (x .3 .one) in
+    omega (arith, rank-fits (a .room) (a .text .now) (a .at) (a .entry) (a .byte) (a .table .now) (a .names .now) (x .0) (x .1) (x .2) (c .before .before .before .before .before .parts .result) (x .3) w)
 
 field-name-of-requires : (t : ℕ) → field-lts.Need-name-of-requires (field-told t) (field-at t) field.Post
 field-name-of-requires t c κs = search needs
 
-field-add-fill-2 : (t : ℕ) → field-lts.Need-add-fill-2 (field-told t) (field-at t) field.Post
-field-add-fill-2 t c =
+field-add-fill : (t : ℕ) → field-lts.Need-add-fill (field-told t) (field-at t) field.Post
+field-add-fill t c =
     let a = c .before .before .before .before .before .before .before .before .before .before .before .before .before .args in
     let x = c .before .before .before .before .before .before .before .before .before .before .before .before .before .pre .1 in
     let w = c .before .before .before .before .before .before .before .before .before .parts .ensures (x .0) (x .1) (x .2) (x .3 .one) in
@@ -140,42 +130,33 @@ field-fill-requires t c κs =
     let w = c .before .before .before .before .before .before .before .before .before .parts .ensures (x .0) (x .1) (x .2) (x .3 .one) in
     (omega (arith, w .deep), (w .node, w .end-of-node, w .d, inner-due (a .room) (a .text .now) (a .at) (a .entry) (a .up) (a .byte) (a .table .now) (a .names .now) (x .0) (x .1) (x .2) (c .before .before .before .before .before .before .before .before .before .parts .result) (x .3) w (c .before .before .before .before .before .before .before .name-at .result) _ (c .before .before .before .before .before .before .before .name-at .ensures .0) (c .before .before .before .before .before .before .before .name-at .ensures .1)))
 
-field-sub-put-shape : (t : ℕ) → field-lts.Need-sub-put-shape (field-told t) (field-at t) field.Post
-field-sub-put-shape t c =
-    let a = c .before .before .before .before .before .before .before .before .before .before .before .before .before .before .before .before .before .before .args in
-    let x = c .before .before .before .before .before .before .before .before .before .before .before .before .before .before .before .before .before .before .pre .1 in
-    let w = c .before .before .before .before .before .before .before .before .before .before .before .before .before .before .parts .ensures (x .0) (x .1) (x .2) (x .3 .one) in
-    omega (arith, w .deep)
-
 field-put-shape-requires : (t : ℕ) → field-lts.Need-put-shape-requires (field-told t) (field-at t) field.Post
 field-put-shape-requires t c κs =
     let a = c .before .before .before .before .before .before .before .before .before .before .before .before .before .before .before .before .before .before .before .args in
     let x = c .before .before .before .before .before .before .before .before .before .before .before .before .before .before .before .before .before .before .before .pre .1 in
     let w = c .before .before .before .before .before .before .before .before .before .before .before .before .before .before .before .parts .ensures (x .0) (x .1) (x .2) (x .3 .one) in
-    (w .ns, a .table .now, w .d, levels-due (a .room) (a .text .now) (a .at) (a .entry) (a .up) (a .byte) (a .table .now) (a .names .now) (x .0) (x .1) (x .2) (c .before .before .before .before .before .before .before .before .before .before .before .before .before .before .before .parts .result) (x .3) w (c .before .before .before .before .before .before .before .before .before .before .before .before .before .name-at .result) _ (c .before .before .before .before .before .before .before .before .before .before .before .before .before .name-at .ensures .0) (c .before .before .before .before .before .before .before .before .before .before .before .before .before .name-at .ensures .1) (c .before .before .before .before .before .before .before .before .parent .result) (c .before .before .before .before .before .before .before .name-of .result) _ _ (c .before .before .before .before .before .fill .result) (c .before .before .before .before .before .before .before .before .parent .ensures) (c .before .before .before .before .before .before .before .name-of .ensures) (c .before .before .before .before .before .fill .ensures (w .node) (w .end-of-node) (w .d) (inner-due (a .room) (a .text .now) (a .at) (a .entry) (a .up) (a .byte) (a .table .now) (a .names .now) (x .0) (x .1) (x .2) (c .before .before .before .before .before .before .before .before .before .before .before .before .before .before .before .parts .result) (x .3) w (c .before .before .before .before .before .before .before .before .before .before .before .before .before .name-at .result) _ (c .before .before .before .before .before .before .before .before .before .before .before .before .before .name-at .ensures .0) (c .before .before .before .before .before .before .before .before .before .before .before .before .before .name-at .ensures .1))))
+    levels-asked (a .room) (a .text .now) (a .at) (a .entry) (a .up) (a .byte) (a .table .now) (a .names .now) (x .0) (x .1) (x .2) (c .before .before .before .before .before .before .before .before .before .before .before .before .before .before .before .parts .result) (x .3) w (c .before .before .before .before .before .before .before .before .before .before .before .before .before .name-at .result) _ (c .before .before .before .before .before .before .before .before .before .before .before .before .before .name-at .ensures .0) (c .before .before .before .before .before .before .before .before .before .before .before .before .before .name-at .ensures .1) (c .before .before .before .before .before .before .before .before .before .parent .result) (c .before .before .before .before .before .before .before .before .name-of .result) _ _ (c .before .before .before .before .before .fill .result) (c .before .before .before .before .before .before .before .before .before .parent .ensures) (c .before .before .before .before .before .before .before .before .name-of .ensures) (c .before .before .before .before .before .fill .ensures)
 
 field-same-length : (t : ℕ) → field-lts.Need-same-length (field-told t) (field-at t) field.Post
 field-same-length t c =
     let a = c .before .before .before .before .before .before .before .before .before .before .before .before .before .before .before .before .before .before .before .before .before .before .args in
     let x = c .before .before .before .before .before .before .before .before .before .before .before .before .before .before .before .before .before .before .before .before .before .before .pre .1 in
-    let z = (let w = c .before .before .before .before .before .before .before .before .before .before .before .before .before .before .before .before .before .before .parts .ensures (x .0) (x .1) (x .2) (x .3 .one) in
-    field-filled (a .room) (a .text .now) (a .at) (a .entry) (a .up) (a .byte) (a .table .now) (a .names .now) (x .0) (x .1) (x .2) (c .before .before .before .before .before .before .before .before .before .before .before .before .before .before .before .before .before .before .parts .result) (x .3) w (c .before .before .before .before .before .before .before .before .before .before .before .before .before .before .before .before .name-at .result) _ (c .before .before .before .before .before .before .before .before .before .before .before .before .before .before .before .before .name-at .ensures .0) (c .before .before .before .before .before .before .before .before .before .before .before .before .before .before .before .before .name-at .ensures .1) (c .before .before .before .before .before .before .before .before .before .before .before .parent .result) (c .before .before .before .before .before .before .before .before .before .before .name-of .result) _ _ (c .before .before .before .before .before .before .before .before .fill .result) (c .before .before .before .before .before .before .before .before .before .before .before .parent .ensures) (c .before .before .before .before .before .before .before .before .before .before .name-of .ensures) (c .before .before .before .before .before .before .before .before .fill .ensures (w .node) (w .end-of-node) (w .d) (inner-due (a .room) (a .text .now) (a .at) (a .entry) (a .up) (a .byte) (a .table .now) (a .names .now) (x .0) (x .1) (x .2) (c .before .before .before .before .before .before .before .before .before .before .before .before .before .before .before .before .before .before .parts .result) (x .3) w (c .before .before .before .before .before .before .before .before .before .before .before .before .before .before .before .before .name-at .result) _ (c .before .before .before .before .before .before .before .before .before .before .before .before .before .before .before .before .name-at .ensures .0) (c .before .before .before .before .before .before .before .before .before .before .before .before .before .before .before .before .name-at .ensures .1))) _ (c .before .before .put-shape .result) (c .before .before .put-shape .ensures (w .ns) (a .table .now) (w .d) (levels-due (a .room) (a .text .now) (a .at) (a .entry) (a .up) (a .byte) (a .table .now) (a .names .now) (x .0) (x .1) (x .2) (c .before .before .before .before .before .before .before .before .before .before .before .before .before .before .before .before .before .before .parts .result) (x .3) w (c .before .before .before .before .before .before .before .before .before .before .before .before .before .before .before .before .name-at .result) _ (c .before .before .before .before .before .before .before .before .before .before .before .before .before .before .before .before .name-at .ensures .0) (c .before .before .before .before .before .before .before .before .before .before .before .before .before .before .before .before .name-at .ensures .1) (c .before .before .before .before .before .before .before .before .before .before .before .parent .result) (c .before .before .before .before .before .before .before .before .before .before .name-of .result) _ _ (c .before .before .before .before .before .before .before .before .fill .result) (c .before .before .before .before .before .before .before .before .before .before .before .parent .ensures) (c .before .before .before .before .before .before .before .before .before .before .name-of .ensures) (c .before .before .before .before .before .before .before .before .fill .ensures (w .node) (w .end-of-node) (w .d) (inner-due (a .room) (a .text .now) (a .at) (a .entry) (a .up) (a .byte) (a .table .now) (a .names .now) (x .0) (x .1) (x .2) (c .before .before .before .before .before .before .before .before .before .before .before .before .before .before .before .before .before .before .parts .result) (x .3) w (c .before .before .before .before .before .before .before .before .before .before .before .before .before .before .before .before .name-at .result) _ (c .before .before .before .before .before .before .before .before .before .before .before .before .before .before .before .before .name-at .ensures .0) (c .before .before .before .before .before .before .before .before .before .before .before .before .before .before .before .before .name-at .ensures .1)))))) in
-    field-long z .0
+    let w = c .before .before .before .before .before .before .before .before .before .before .before .before .before .before .before .before .before .before .parts .ensures (x .0) (x .1) (x .2) (x .3 .one) in
+    field-long (field-whole (a .room) (a .text .now) (a .at) (a .entry) (a .up) (a .byte) (a .table .now) (a .names .now) (x .0) (x .1) (x .2) (c .before .before .before .before .before .before .before .before .before .before .before .before .before .before .before .before .before .before .parts .result) (x .3) w (c .before .before .before .before .before .before .before .before .before .before .before .before .before .before .before .before .name-at .result) _ (c .before .before .before .before .before .before .before .before .before .before .before .before .before .before .before .before .name-at .ensures .0) (c .before .before .before .before .before .before .before .before .before .before .before .before .before .before .before .before .name-at .ensures .1) (c .before .before .before .before .before .before .before .before .before .before .before .before .parent .result) (c .before .before .before .before .before .before .before .before .before .before .before .name-of .result) _ _ (c .before .before .before .before .before .before .before .before .fill .result) (c .before .before .before .before .before .before .before .before .before .before .before .before .parent .ensures) (c .before .before .before .before .before .before .before .before .before .before .before .name-of .ensures) (c .before .before .before .before .before .before .before .before .fill .ensures) _ (c .before .before .put-shape .result) (c .before .before .put-shape .ensures)) .0
 
 field-same-length-2 : (t : ℕ) → field-lts.Need-same-length-2 (field-told t) (field-at t) field.Post
 field-same-length-2 t c =
     let a = c .before .before .before .before .before .before .before .before .before .before .before .before .before .before .before .before .before .before .before .before .before .before .args in
     let x = c .before .before .before .before .before .before .before .before .before .before .before .before .before .before .before .before .before .before .before .before .before .before .pre .1 in
-    let z = (let w = c .before .before .before .before .before .before .before .before .before .before .before .before .before .before .before .before .before .before .parts .ensures (x .0) (x .1) (x .2) (x .3 .one) in
-    field-filled (a .room) (a .text .now) (a .at) (a .entry) (a .up) (a .byte) (a .table .now) (a .names .now) (x .0) (x .1) (x .2) (c .before .before .before .before .before .before .before .before .before .before .before .before .before .before .before .before .before .before .parts .result) (x .3) w (c .before .before .before .before .before .before .before .before .before .before .before .before .before .before .before .before .name-at .result) _ (c .before .before .before .before .before .before .before .before .before .before .before .before .before .before .before .before .name-at .ensures .0) (c .before .before .before .before .before .before .before .before .before .before .before .before .before .before .before .before .name-at .ensures .1) (c .before .before .before .before .before .before .before .before .before .before .before .parent .result) (c .before .before .before .before .before .before .before .before .before .before .name-of .result) _ _ (c .before .before .before .before .before .before .before .before .fill .result) (c .before .before .before .before .before .before .before .before .before .before .before .parent .ensures) (c .before .before .before .before .before .before .before .before .before .before .name-of .ensures) (c .before .before .before .before .before .before .before .before .fill .ensures (w .node) (w .end-of-node) (w .d) (inner-due (a .room) (a .text .now) (a .at) (a .entry) (a .up) (a .byte) (a .table .now) (a .names .now) (x .0) (x .1) (x .2) (c .before .before .before .before .before .before .before .before .before .before .before .before .before .before .before .before .before .before .parts .result) (x .3) w (c .before .before .before .before .before .before .before .before .before .before .before .before .before .before .before .before .name-at .result) _ (c .before .before .before .before .before .before .before .before .before .before .before .before .before .before .before .before .name-at .ensures .0) (c .before .before .before .before .before .before .before .before .before .before .before .before .before .before .before .before .name-at .ensures .1))) _ (c .before .before .put-shape .result) (c .before .before .put-shape .ensures (w .ns) (a .table .now) (w .d) (levels-due (a .room) (a .text .now) (a .at) (a .entry) (a .up) (a .byte) (a .table .now) (a .names .now) (x .0) (x .1) (x .2) (c .before .before .before .before .before .before .before .before .before .before .before .before .before .before .before .before .before .before .parts .result) (x .3) w (c .before .before .before .before .before .before .before .before .before .before .before .before .before .before .before .before .name-at .result) _ (c .before .before .before .before .before .before .before .before .before .before .before .before .before .before .before .before .name-at .ensures .0) (c .before .before .before .before .before .before .before .before .before .before .before .before .before .before .before .before .name-at .ensures .1) (c .before .before .before .before .before .before .before .before .before .before .before .parent .result) (c .before .before .before .before .before .before .before .before .before .before .name-of .result) _ _ (c .before .before .before .before .before .before .before .before .fill .result) (c .before .before .before .before .before .before .before .before .before .before .before .parent .ensures) (c .before .before .before .before .before .before .before .before .before .before .name-of .ensures) (c .before .before .before .before .before .before .before .before .fill .ensures (w .node) (w .end-of-node) (w .d) (inner-due (a .room) (a .text .now) (a .at) (a .entry) (a .up) (a .byte) (a .table .now) (a .names .now) (x .0) (x .1) (x .2) (c .before .before .before .before .before .before .before .before .before .before .before .before .before .before .before .before .before .before .parts .result) (x .3) w (c .before .before .before .before .before .before .before .before .before .before .before .before .before .before .before .before .name-at .result) _ (c .before .before .before .before .before .before .before .before .before .before .before .before .before .before .before .before .name-at .ensures .0) (c .before .before .before .before .before .before .before .before .before .before .before .before .before .before .before .before .name-at .ensures .1)))))) in
-    field-long z .1
+    let w = c .before .before .before .before .before .before .before .before .before .before .before .before .before .before .before .before .before .before .parts .ensures (x .0) (x .1) (x .2) (x .3 .one) in
+    field-long (field-whole (a .room) (a .text .now) (a .at) (a .entry) (a .up) (a .byte) (a .table .now) (a .names .now) (x .0) (x .1) (x .2) (c .before .before .before .before .before .before .before .before .before .before .before .before .before .before .before .before .before .before .parts .result) (x .3) w (c .before .before .before .before .before .before .before .before .before .before .before .before .before .before .before .before .name-at .result) _ (c .before .before .before .before .before .before .before .before .before .before .before .before .before .before .before .before .name-at .ensures .0) (c .before .before .before .before .before .before .before .before .before .before .before .before .before .before .before .before .name-at .ensures .1) (c .before .before .before .before .before .before .before .before .before .before .before .before .parent .result) (c .before .before .before .before .before .before .before .before .before .before .before .name-of .result) _ _ (c .before .before .before .before .before .before .before .before .fill .result) (c .before .before .before .before .before .before .before .before .before .before .before .before .parent .ensures) (c .before .before .before .before .before .before .before .before .before .before .before .name-of .ensures) (c .before .before .before .before .before .before .before .before .fill .ensures) _ (c .before .before .put-shape .result) (c .before .before .put-shape .ensures)) .1
 
 field-returns : (t : ℕ) → field-lts.Need-returns (field-told t) (field-at t) field.Post
 field-returns t c =
     let a = c .before .before .before .before .before .before .before .before .before .before .before .before .before .before .before .before .before .before .before .before .before .before .args in
     λ n e f h.
     let w = c .before .before .before .before .before .before .before .before .before .before .before .before .before .before .before .before .before .before .parts .ensures n e f (h .one) in
-    field-filled (a .room) (a .text .now) (a .at) (a .entry) (a .up) (a .byte) (a .table .now) (a .names .now) n e f (c .before .before .before .before .before .before .before .before .before .before .before .before .before .before .before .before .before .before .parts .result) h w (c .before .before .before .before .before .before .before .before .before .before .before .before .before .before .before .before .name-at .result) _ (c .before .before .before .before .before .before .before .before .before .before .before .before .before .before .before .before .name-at .ensures .0) (c .before .before .before .before .before .before .before .before .before .before .before .before .before .before .before .before .name-at .ensures .1) (c .before .before .before .before .before .before .before .before .before .before .before .parent .result) (c .before .before .before .before .before .before .before .before .before .before .name-of .result) _ _ (c .before .before .before .before .before .before .before .before .fill .result) (c .before .before .before .before .before .before .before .before .before .before .before .parent .ensures) (c .before .before .before .before .before .before .before .before .before .before .name-of .ensures) (c .before .before .before .before .before .before .before .before .fill .ensures (w .node) (w .end-of-node) (w .d) (inner-due (a .room) (a .text .now) (a .at) (a .entry) (a .up) (a .byte) (a .table .now) (a .names .now) n e f (c .before .before .before .before .before .before .before .before .before .before .before .before .before .before .before .before .before .before .parts .result) h w (c .before .before .before .before .before .before .before .before .before .before .before .before .before .before .before .before .name-at .result) _ (c .before .before .before .before .before .before .before .before .before .before .before .before .before .before .before .before .name-at .ensures .0) (c .before .before .before .before .before .before .before .before .before .before .before .before .before .before .before .before .name-at .ensures .1))) _ (c .before .before .put-shape .result) (c .before .before .put-shape .ensures (w .ns) (a .table .now) (w .d) (levels-due (a .room) (a .text .now) (a .at) (a .entry) (a .up) (a .byte) (a .table .now) (a .names .now) n e f (c .before .before .before .before .before .before .before .before .before .before .before .before .before .before .before .before .before .before .parts .result) h w (c .before .before .before .before .before .before .before .before .before .before .before .before .before .before .before .before .name-at .result) _ (c .before .before .before .before .before .before .before .before .before .before .before .before .before .before .before .before .name-at .ensures .0) (c .before .before .before .before .before .before .before .before .before .before .before .before .before .before .before .before .name-at .ensures .1) (c .before .before .before .before .before .before .before .before .before .before .before .parent .result) (c .before .before .before .before .before .before .before .before .before .before .name-of .result) _ _ (c .before .before .before .before .before .before .before .before .fill .result) (c .before .before .before .before .before .before .before .before .before .before .before .parent .ensures) (c .before .before .before .before .before .before .before .before .before .before .name-of .ensures) (c .before .before .before .before .before .before .before .before .fill .ensures (w .node) (w .end-of-node) (w .d) (inner-due (a .room) (a .text .now) (a .at) (a .entry) (a .up) (a .byte) (a .table .now) (a .names .now) n e f (c .before .before .before .before .before .before .before .before .before .before .before .before .before .before .before .before .before .before .parts .result) h w (c .before .before .before .before .before .before .before .before .before .before .before .before .before .before .before .before .name-at .result) _ (c .before .before .before .before .before .before .before .before .before .before .before .before .before .before .before .before .name-at .ensures .0) (c .before .before .before .before .before .before .before .before .before .before .before .before .before .before .before .before .name-at .ensures .1)))))
+    field-whole (a .room) (a .text .now) (a .at) (a .entry) (a .up) (a .byte) (a .table .now) (a .names .now) n e f (c .before .before .before .before .before .before .before .before .before .before .before .before .before .before .before .before .before .before .parts .result) h w (c .before .before .before .before .before .before .before .before .before .before .before .before .before .before .before .before .name-at .result) _ (c .before .before .before .before .before .before .before .before .before .before .before .before .before .before .before .before .name-at .ensures .0) (c .before .before .before .before .before .before .before .before .before .before .before .before .before .before .before .before .name-at .ensures .1) (c .before .before .before .before .before .before .before .before .before .before .before .before .parent .result) (c .before .before .before .before .before .before .before .before .before .before .before .name-of .result) _ _ (c .before .before .before .before .before .before .before .before .fill .result) (c .before .before .before .before .before .before .before .before .before .before .before .before .parent .ensures) (c .before .before .before .before .before .before .before .before .before .before .before .name-of .ensures) (c .before .before .before .before .before .before .before .before .fill .ensures) _ (c .before .before .put-shape .result) (c .before .before .put-shape .ensures)
 
 fields-gap-at-requires : (t : ℕ) → fields-lts.Need-gap-at-requires (fields-told t) (fields-at t) fields.Post fields-Inv-loop fields-μ-loop
 fields-gap-at-requires t c κs = search needs
@@ -243,131 +224,92 @@ fields-loop-again t c =
     let long = field-long z in
     filling-more (a .room) (a .text .now) (a .from) (a .entry) (a .up) (a .byte) (a .table .now) (a .names .now) (l .g) (l .at) (l .b) (l .count) (l .size) (l .table) (l .names) (l .inv) _ (c .before .before .before .before .before .before .before .before .before .before .g .given .1) (c .before .before .before .before .before .before .field .result) (c .then-at .result) _ _ (c .before .held-sum .result) (c .then-at .ensures) (c .before .held-sum .ensures) (c .before .before .before .before .before .before .field .ensures) (long .0) (long .1) (omega (arith, z .next, some-entry (f .2 .type)))
 
-fill-peek-requires : (t : ℕ) → fill-lts.Need-peek-requires (fill-told t) (fill-at t) fill.Post
-fill-peek-requires t c κs = search needs
-
-fill-kind-of-requires : (t : ℕ) → fill-lts.Need-kind-of-requires (fill-told t) (fill-at t) fill.Post
-fill-kind-of-requires t c κs = search needs
-
-fill-is-string-requires : (t : ℕ) → fill-lts.Need-is-string-requires (fill-told t) (fill-at t) fill.Post
-fill-is-string-requires t c κs = search needs
+fill-string-at-requires : (t : ℕ) → fill-lts.Need-string-at-requires (fill-told t) (fill-at t) fill.Post
+fill-string-at-requires t c κs = search needs
 
 fill-type-at-requires : (t : ℕ) → fill-lts.Need-type-at-requires (fill-told t) (fill-at t) fill.Post
-fill-type-at-requires t c κs =
-    let a = c .before .before .before .before .before .before .before .args in
-    let x = c .before .before .before .before .before .before .before .pre .1 in
-    let t = text-due (a .room) (a .text .now) (a .at) (x .1) (x .2) (x .0) (x .3 .stands) (x .3 .is) (sym (c .before .is-string .ensures ∙ ap isString (c .before .before .kind-of .ensures ∙ ap kindOf (c .before .before .before .peek .ensures))) ∙ c .if1 .taken) in
-    t .inside
+fill-type-at-requires t c κs = search needs
 
-fill-plain-entry-requires : (t : ℕ) → fill-lts.Need-plain-entry-requires (fill-told t) (fill-at t) fill.Post
-fill-plain-entry-requires t c κs = search needs
+fill-type-of-requires : (t : ℕ) → fill-lts.Need-type-of-requires (fill-told t) (fill-at t) fill.Post
+fill-type-of-requires t c κs = search needs
 
-fill-put-entry-requires : (t : ℕ) → fill-lts.Need-put-entry-requires (fill-told t) (fill-at t) fill.Post
-fill-put-entry-requires t c κs =
-    let a = c .before .before .before .before .before .before .before .before .before .before .args in
-    let x = c .before .before .before .before .before .before .before .before .before .before .pre .1 in
+fill-put-plain-requires : (t : ℕ) → fill-lts.Need-put-plain-requires (fill-told t) (fill-at t) fill.Post
+fill-put-plain-requires t c κs =
+    let a = c .before .before .before .before .before .before .before .before .args in
+    let x = c .before .before .before .before .before .before .before .before .pre .1 in
     omega (arith, x .3 .room, some-entry (x .2))
 
 fill-end-of-requires : (t : ℕ) → fill-lts.Need-end-of-requires (fill-told t) (fill-at t) fill.Post
 fill-end-of-requires t c κs = search needs
 
-fill-add-t21 : (t : ℕ) → fill-lts.Need-add-t21 (fill-told t) (fill-at t) fill.Post
-fill-add-t21 t c =
-    let a = c .before .before .before .before .before .before .before .before .before .before .before .before .before .before .args in
-    let x = c .before .before .before .before .before .before .before .before .before .before .before .before .before .before .pre .1 in
-    omega (arith, x .3 .room, some-entry (x .2), c .before .before .before .before .before .before .before .before .before .before .before .before .before .before .good .1 .1 .1 .0 .0)
+fill-add-t19 : (t : ℕ) → fill-lts.Need-add-t19 (fill-told t) (fill-at t) fill.Post
+fill-add-t19 t c =
+    let a = c .before .before .before .before .before .before .before .before .before .before .before .before .args in
+    let x = c .before .before .before .before .before .before .before .before .before .before .before .before .pre .1 in
+    omega (arith, x .3 .room, some-entry (x .2), c .before .before .before .before .before .before .before .before .before .before .before .before .good .1 .1 .1 .0 .0)
 
 fill-same-length : (t : ℕ) → fill-lts.Need-same-length (fill-told t) (fill-at t) fill.Post
 fill-same-length t c =
-    let a = c .before .before .before .before .before .before .before .before .before .before .before .before .before .before .args in
-    let x = c .before .before .before .before .before .before .before .before .before .before .before .before .before .before .pre .1 in
-    filled-long (let t = text-due (a .room) (a .text .now) (a .at) (x .1) (x .2) (x .0) (x .3 .stands) (x .3 .is) (sym (c .before .before .before .before .before .before .before .before .is-string .ensures ∙ ap isString (c .before .before .before .before .before .before .before .before .before .kind-of .ensures ∙ ap kindOf (c .before .before .before .before .before .before .before .before .before .before .peek .ensures))) ∙ c .before .before .before .before .before .before .before .if1 .taken) in
-    text-filled (x .1) (a .entry) (a .up) (a .name) (a .byte) (x .2) (t .t) (a .table .now) (a .names .now) _ (c .before .before .before .before .before .plain-entry .result) (c .end-of .result) (t .plainly)
-    (c .before .before .before .before .before .plain-entry .ensures ∙ ap (λ (y : TypeStr). entryOf (plain y) (a .up) (a .name)) (c .before .before .before .before .before .before .type-at .ensures (t .t) (t .is)))
-    (c .end-of .ensures ∙ ap (λ (g : Got Node). place (pos g)) (x .3 .stands)) (c .before .before .before .put-entry .ensures)) .0
+    let a = c .before .before .before .before .before .before .before .before .before .before .before .before .args in
+    let x = c .before .before .before .before .before .before .before .before .before .before .before .before .pre .1 in
+    filled-long (text-whole (a .room) (a .text .now) (a .at) (a .entry) (a .up) (a .name) (a .byte) (a .table .now) (a .names .now) (x .0) (x .1) (x .2) (x .3) (sym (c .before .before .before .before .before .before .before .before .string-at .ensures) ∙ c .before .before .before .before .before .before .before .if1 .taken) (c .before .before .before .before .before .type-at .result) (c .before .before .before .before .before .type-at .ensures) (c .before .before .before .before .type-of .result) (c .before .before .before .before .type-of .ensures) (c .end-of .result) (c .end-of .ensures) (c .before .before .before .put-plain .result) (c .before .before .before .put-plain .ensures .0) _ (c .before .before .before .put-plain .ensures .1)) .0
 
 fill-returns : (t : ℕ) → fill-lts.Need-returns (fill-told t) (fill-at t) fill.Post
 fill-returns t c =
-    let a = c .before .before .before .before .before .before .before .before .before .before .before .before .before .before .args in
-    λ n e d h.
-    let t = text-due (a .room) (a .text .now) (a .at) e d n (h .stands) (h .is) (sym (c .before .before .before .before .before .before .before .before .is-string .ensures ∙ ap isString (c .before .before .before .before .before .before .before .before .before .kind-of .ensures ∙ ap kindOf (c .before .before .before .before .before .before .before .before .before .before .peek .ensures))) ∙ c .before .before .before .before .before .before .before .if1 .taken) in
-    text-filled e (a .entry) (a .up) (a .name) (a .byte) d (t .t) (a .table .now) (a .names .now) _ (c .before .before .before .before .before .plain-entry .result) (c .end-of .result) (t .plainly)
-    (c .before .before .before .before .before .plain-entry .ensures ∙ ap (λ (y : TypeStr). entryOf (plain y) (a .up) (a .name)) (c .before .before .before .before .before .before .type-at .ensures (t .t) (t .is)))
-    (c .end-of .ensures ∙ ap (λ (g : Got Node). place (pos g)) (h .stands)) (c .before .before .before .put-entry .ensures)
+    let a = c .before .before .before .before .before .before .before .before .before .before .before .before .args in
+    λ n e d h. text-whole (a .room) (a .text .now) (a .at) (a .entry) (a .up) (a .name) (a .byte) (a .table .now) (a .names .now) n e d h (sym (c .before .before .before .before .before .before .before .before .string-at .ensures) ∙ c .before .before .before .before .before .before .before .if1 .taken) (c .before .before .before .before .before .type-at .result) (c .before .before .before .before .before .type-at .ensures) (c .before .before .before .before .type-of .result) (c .before .before .before .before .type-of .ensures) (c .end-of .result) (c .end-of .ensures) (c .before .before .before .put-plain .result) (c .before .before .before .put-plain .ensures .0) _ (c .before .before .before .put-plain .ensures .1)
 
 fill-add-fields : (t : ℕ) → fill-lts.Need-add-fields (fill-told t) (fill-at t) fill.Post
 fill-add-fields t c =
-    let a = c .before .before .before .before .before .before .before .args in
-    let x = c .before .before .before .before .before .before .before .pre .1 in
-    let l = list-due (a .room) (a .text .now) (a .at) (x .1) (x .2) (x .0) (x .3 .stands) (x .3 .is) (sym (c .before .is-string .ensures ∙ ap isString (c .before .before .kind-of .ensures ∙ ap kindOf (c .before .before .before .peek .ensures))) ∙ c .if1 .left) in
-    omega (arith, l .inside)
+    let a = c .before .before .before .before .before .args in
+    let x = c .before .before .before .before .before .pre .1 in
+    omega (arith, fields-asked (a .room) (a .text .now) (a .at) (a .entry) (a .up) (a .name) (a .byte) (a .table .now) (a .names .now) (x .0) (x .1) (x .2) (x .3) (sym (c .before .string-at .ensures) ∙ c .if1 .left) .0)
 
 fill-sub-fields : (t : ℕ) → fill-lts.Need-sub-fields (fill-told t) (fill-at t) fill.Post
 fill-sub-fields t c =
-    let a = c .before .before .before .before .before .before .before .args in
-    let x = c .before .before .before .before .before .before .before .pre .1 in
-    let l = list-due (a .room) (a .text .now) (a .at) (x .1) (x .2) (x .0) (x .3 .stands) (x .3 .is) (sym (c .before .is-string .ensures ∙ ap isString (c .before .before .kind-of .ensures ∙ ap kindOf (c .before .before .before .peek .ensures))) ∙ c .if1 .left) in
-    omega (arith, l .deep)
+    let a = c .before .before .before .before .before .args in
+    let x = c .before .before .before .before .before .pre .1 in
+    omega (arith, fields-asked (a .room) (a .text .now) (a .at) (a .entry) (a .up) (a .name) (a .byte) (a .table .now) (a .names .now) (x .0) (x .1) (x .2) (x .3) (sym (c .before .string-at .ensures) ∙ c .if1 .left) .1)
 
 fill-add-fields-2 : (t : ℕ) → fill-lts.Need-add-fields-2 (fill-told t) (fill-at t) fill.Post
 fill-add-fields-2 t c =
-    let a = c .before .before .before .before .before .before .before .before .args in
-    let x = c .before .before .before .before .before .before .before .before .pre .1 in
+    let a = c .before .before .before .before .before .before .args in
+    let x = c .before .before .before .before .before .before .pre .1 in
     omega (arith, x .3 .room, some-entry (x .2))
 
 fill-fields-requires : (t : ℕ) → fill-lts.Need-fields-requires (fill-told t) (fill-at t) fill.Post
 fill-fields-requires t c κs =
-    let a = c .before .before .before .before .before .before .before .before .before .args in
-    let x = c .before .before .before .before .before .before .before .before .before .pre .1 in
-    let l = list-due (a .room) (a .text .now) (a .at) (x .1) (x .2) (x .0) (x .3 .stands) (x .3 .is) (sym (c .before .before .before .is-string .ensures ∙ ap isString (c .before .before .before .before .kind-of .ensures ∙ ap kindOf (c .before .before .before .before .before .peek .ensures))) ∙ c .before .before .if1 .left) in
-    (omega (arith, l .deep), (l .ns, x .1, l .fs, (fields-due (a .room) (a .text .now) (a .at) (a .entry) (a .byte) (a .table .now) (a .names .now) (x .0) (x .1) (x .2) (x .3) l)))
+    let a = c .before .before .before .before .before .before .before .args in
+    let x = c .before .before .before .before .before .before .before .pre .1 in
+    let l = fields-asked (a .room) (a .text .now) (a .at) (a .entry) (a .up) (a .name) (a .byte) (a .table .now) (a .names .now) (x .0) (x .1) (x .2) (x .3) (sym (c .before .before .before .string-at .ensures) ∙ c .before .before .if1 .left) in
+    (omega (arith, l .1), l .2)
 
-fill-sub-bare-entry : (t : ℕ) → fill-lts.Need-sub-bare-entry (fill-told t) (fill-at t) fill.Post
-fill-sub-bare-entry t c =
-    let a = c .before .before .before .before .before .before .before .before .before .before .before .before .before .before .before .before .args in
-    let x = c .before .before .before .before .before .before .before .before .before .before .before .before .before .before .before .before .pre .1 in
-    let l = list-due (a .room) (a .text .now) (a .at) (x .1) (x .2) (x .0) (x .3 .stands) (x .3 .is) (sym (c .before .before .before .before .before .before .before .before .before .before .is-string .ensures ∙ ap isString (c .before .before .before .before .before .before .before .before .before .before .before .kind-of .ensures ∙ ap kindOf (c .before .before .before .before .before .before .before .before .before .before .before .before .peek .ensures))) ∙ c .before .before .before .before .before .before .before .before .before .if1 .left) in
-    let w = c .before .before .before .before .before .before .fields .ensures (l .ns) (x .1) (l .fs) (fields-due (a .room) (a .text .now) (a .at) (a .entry) (a .byte) (a .table .now) (a .names .now) (x .0) (x .1) (x .2) (x .3) l) in
-    omega (arith, w .next)
-
-fill-bare-entry-requires : (t : ℕ) → fill-lts.Need-bare-entry-requires (fill-told t) (fill-at t) fill.Post
-fill-bare-entry-requires t c κs = search needs
-
-fill-put-entry-requires-2 : (t : ℕ) → fill-lts.Need-put-entry-requires-2 (fill-told t) (fill-at t) fill.Post
-fill-put-entry-requires-2 t c κs =
-    let a = c .before .before .before .before .before .before .before .before .before .before .before .before .before .before .before .before .before .args in
-    let x = c .before .before .before .before .before .before .before .before .before .before .before .before .before .before .before .before .before .pre .1 in
-    let l = list-due (a .room) (a .text .now) (a .at) (x .1) (x .2) (x .0) (x .3 .stands) (x .3 .is) (sym (c .before .before .before .before .before .before .before .before .before .before .before .is-string .ensures ∙ ap isString (c .before .before .before .before .before .before .before .before .before .before .before .before .kind-of .ensures ∙ ap kindOf (c .before .before .before .before .before .before .before .before .before .before .before .before .before .peek .ensures))) ∙ c .before .before .before .before .before .before .before .before .before .before .if1 .left) in
-    let w = fields-long (c .before .before .before .before .before .before .before .fields .ensures (l .ns) (x .1) (l .fs) (fields-due (a .room) (a .text .now) (a .at) (a .entry) (a .byte) (a .table .now) (a .names .now) (x .0) (x .1) (x .2) (x .3) l)) in
-    omega (arith, w .0, x .3 .room, some-entry (x .2))
+fill-put-record-requires : (t : ℕ) → fill-lts.Need-put-record-requires (fill-told t) (fill-at t) fill.Post
+fill-put-record-requires t c κs =
+    let a = c .before .before .before .before .before .before .before .before .before .before .before .before .before .args in
+    let x = c .before .before .before .before .before .before .before .before .before .before .before .before .before .pre .1 in
+    record-room (a .room) (a .text .now) (a .at) (a .entry) (a .up) (a .name) (a .byte) (a .table .now) (a .names .now) (x .0) (x .1) (x .2) (x .3) (sym (c .before .before .before .before .before .before .before .before .before .string-at .ensures) ∙ c .before .before .before .before .before .before .before .before .if1 .left) (c .before .before .before .before .before .fields .result) _ _ (c .before .before .before .before .before .fields .ensures)
 
 fill-same-length-2 : (t : ℕ) → fill-lts.Need-same-length-2 (fill-told t) (fill-at t) fill.Post
 fill-same-length-2 t c =
-    let a = c .before .before .before .before .before .before .before .before .before .before .before .before .before .before .before .before .before .before .before .before .args in
-    let x = c .before .before .before .before .before .before .before .before .before .before .before .before .before .before .before .before .before .before .before .before .pre .1 in
-    filled-long (let l = list-due (a .room) (a .text .now) (a .at) (x .1) (x .2) (x .0) (x .3 .stands) (x .3 .is) (sym (c .before .before .before .before .before .before .before .before .before .before .before .before .before .before .is-string .ensures ∙ ap isString (c .before .before .before .before .before .before .before .before .before .before .before .before .before .before .before .kind-of .ensures ∙ ap kindOf (c .before .before .before .before .before .before .before .before .before .before .before .before .before .before .before .before .peek .ensures))) ∙ c .before .before .before .before .before .before .before .before .before .before .before .before .before .if1 .left) in
-    record-filled (x .1) (a .entry) (a .up) (a .name) (a .byte) (l .fs) (x .2) (a .table .now) (a .names .now) _ _ _ (c .before .before .before .before .before .before .before .before .before .before .fields .result) (c .before .before .before .bare-entry .result) (l .recorded)
-    (c .before .before .before .before .before .before .before .before .before .before .fields .ensures (l .ns) (x .1) (l .fs) (fields-due (a .room) (a .text .now) (a .at) (a .entry) (a .byte) (a .table .now) (a .names .now) (x .0) (x .1) (x .2) (x .3) l)) (c .before .before .before .bare-entry .ensures) (c .before .before .put-entry2 .ensures)) .0
+    let a = c .before .before .before .before .before .before .before .before .before .before .before .before .before .before .before .before .args in
+    let x = c .before .before .before .before .before .before .before .before .before .before .before .before .before .before .before .before .pre .1 in
+    filled-long (record-whole (a .room) (a .text .now) (a .at) (a .entry) (a .up) (a .name) (a .byte) (a .table .now) (a .names .now) (x .0) (x .1) (x .2) (x .3) (sym (c .before .before .before .before .before .before .before .before .before .before .before .before .string-at .ensures) ∙ c .before .before .before .before .before .before .before .before .before .before .before .if1 .left) (c .before .before .before .before .before .before .before .before .fields .result) _ _ (c .before .before .before .before .before .before .before .before .fields .ensures) _ (c .before .before .put-record .ensures)) .0
 
 fill-same-length-3 : (t : ℕ) → fill-lts.Need-same-length-3 (fill-told t) (fill-at t) fill.Post
 fill-same-length-3 t c =
-    let a = c .before .before .before .before .before .before .before .before .before .before .before .before .before .before .before .before .before .before .before .before .args in
-    let x = c .before .before .before .before .before .before .before .before .before .before .before .before .before .before .before .before .before .before .before .before .pre .1 in
-    filled-long (let l = list-due (a .room) (a .text .now) (a .at) (x .1) (x .2) (x .0) (x .3 .stands) (x .3 .is) (sym (c .before .before .before .before .before .before .before .before .before .before .before .before .before .before .is-string .ensures ∙ ap isString (c .before .before .before .before .before .before .before .before .before .before .before .before .before .before .before .kind-of .ensures ∙ ap kindOf (c .before .before .before .before .before .before .before .before .before .before .before .before .before .before .before .before .peek .ensures))) ∙ c .before .before .before .before .before .before .before .before .before .before .before .before .before .if1 .left) in
-    record-filled (x .1) (a .entry) (a .up) (a .name) (a .byte) (l .fs) (x .2) (a .table .now) (a .names .now) _ _ _ (c .before .before .before .before .before .before .before .before .before .before .fields .result) (c .before .before .before .bare-entry .result) (l .recorded)
-    (c .before .before .before .before .before .before .before .before .before .before .fields .ensures (l .ns) (x .1) (l .fs) (fields-due (a .room) (a .text .now) (a .at) (a .entry) (a .byte) (a .table .now) (a .names .now) (x .0) (x .1) (x .2) (x .3) l)) (c .before .before .before .bare-entry .ensures) (c .before .before .put-entry2 .ensures)) .1
+    let a = c .before .before .before .before .before .before .before .before .before .before .before .before .before .before .before .before .args in
+    let x = c .before .before .before .before .before .before .before .before .before .before .before .before .before .before .before .before .pre .1 in
+    filled-long (record-whole (a .room) (a .text .now) (a .at) (a .entry) (a .up) (a .name) (a .byte) (a .table .now) (a .names .now) (x .0) (x .1) (x .2) (x .3) (sym (c .before .before .before .before .before .before .before .before .before .before .before .before .string-at .ensures) ∙ c .before .before .before .before .before .before .before .before .before .before .before .if1 .left) (c .before .before .before .before .before .before .before .before .fields .result) _ _ (c .before .before .before .before .before .before .before .before .fields .ensures) _ (c .before .before .put-record .ensures)) .1
 
 fill-returns-2 : (t : ℕ) → fill-lts.Need-returns-2 (fill-told t) (fill-at t) fill.Post
 fill-returns-2 t c =
-    let a = c .before .before .before .before .before .before .before .before .before .before .before .before .before .before .before .before .before .before .before .before .args in
-    λ n e d h.
-    let l = list-due (a .room) (a .text .now) (a .at) e d n (h .stands) (h .is) (sym (c .before .before .before .before .before .before .before .before .before .before .before .before .before .before .is-string .ensures ∙ ap isString (c .before .before .before .before .before .before .before .before .before .before .before .before .before .before .before .kind-of .ensures ∙ ap kindOf (c .before .before .before .before .before .before .before .before .before .before .before .before .before .before .before .before .peek .ensures))) ∙ c .before .before .before .before .before .before .before .before .before .before .before .before .before .if1 .left) in
-    record-filled e (a .entry) (a .up) (a .name) (a .byte) (l .fs) d (a .table .now) (a .names .now) _ _ _ (c .before .before .before .before .before .before .before .before .before .before .fields .result) (c .before .before .before .bare-entry .result) (l .recorded)
-    (c .before .before .before .before .before .before .before .before .before .before .fields .ensures (l .ns) e (l .fs) (fields-due (a .room) (a .text .now) (a .at) (a .entry) (a .byte) (a .table .now) (a .names .now) n e d (h) l)) (c .before .before .before .bare-entry .ensures) (c .before .before .put-entry2 .ensures)
+    let a = c .before .before .before .before .before .before .before .before .before .before .before .before .before .before .before .before .args in
+    λ n e d h. record-whole (a .room) (a .text .now) (a .at) (a .entry) (a .up) (a .name) (a .byte) (a .table .now) (a .names .now) n e d h (sym (c .before .before .before .before .before .before .before .before .before .before .before .before .string-at .ensures) ∙ c .before .before .before .before .before .before .before .before .before .before .before .if1 .left) (c .before .before .before .before .before .before .before .before .fields .result) _ _ (c .before .before .before .before .before .before .before .before .fields .ensures) _ (c .before .before .put-record .ensures)
 
 pub +field+fields+fill-spec : {M : Type 1} → statement M
 +field+fields+fill-spec =
     close μ-field μ-fields μ-fill
-    (λ t. field-lts.spec (field-told t) (field-at t) field.Post (field-parts-requires t) (field-name-at-requires t) (field-sub-fill t) (field-add-fill t) (field-parent-requires t) (field-name-of-requires t) (field-add-fill-2 t) (field-fill-requires t) (field-sub-put-shape t) (field-put-shape-requires t) (field-same-length t) (field-same-length-2 t) (field-returns t))
+    (λ t. field-lts.spec (field-told t) (field-at t) field.Post (field-parts-requires t) (field-name-at-requires t) (field-sub-deep t) (field-add-base t) (field-parent-requires t) (field-name-of-requires t) (field-add-fill t) (field-fill-requires t) (field-put-shape-requires t) (field-same-length t) (field-same-length-2 t) (field-returns t))
     (λ t. fields-lts.spec (fields-told t) (fields-at t) fields.Post fields-Inv-loop fields-μ-loop (fields-gap-at-requires t) (fields-loop-holds t) (fields-enum-known-g t) (fields-place-of-requires t) (fields-same-length t) (fields-same-length-2 t) (fields-returns t) (fields-field-requires t) (fields-held-sum-requires t) (fields-add-count t) (fields-then-at-requires t) (fields-loop-less t) (fields-loop-again t))
-    (λ t. fill-lts.spec (fill-told t) (fill-at t) fill.Post (fill-peek-requires t) (fill-kind-of-requires t) (fill-is-string-requires t) (fill-type-at-requires t) (fill-plain-entry-requires t) (fill-put-entry-requires t) (fill-end-of-requires t) (fill-add-t21 t) (fill-same-length t) (fill-returns t) (fill-add-fields t) (fill-sub-fields t) (fill-add-fields-2 t) (fill-fields-requires t) (fill-sub-bare-entry t) (fill-bare-entry-requires t) (fill-put-entry-requires-2 t) (fill-same-length-2 t) (fill-same-length-3 t) (fill-returns-2 t))
+    (λ t. fill-lts.spec (fill-told t) (fill-at t) fill.Post (fill-string-at-requires t) (fill-type-at-requires t) (fill-type-of-requires t) (fill-put-plain-requires t) (fill-end-of-requires t) (fill-add-t19 t) (fill-same-length t) (fill-returns t) (fill-add-fields t) (fill-sub-fields t) (fill-add-fields-2 t) (fill-fields-requires t) (fill-put-record-requires t) (fill-same-length-2 t) (fill-same-length-3 t) (fill-returns-2 t))

@@ -4,7 +4,7 @@ use native.Mathlib.Omega.{arith}
 use mathlib.Core.List.{List}
 use lib.Seq.{sets}
 use borrow.Rule.Slice.PartMut.{putMid}
-use Rattle.fill.proofs.Stores.{part-stored}
+use Rattle.entry.proofs.Stores.{part-stored}
 use mathlib.Core.Path.{ap, _∙_}
 use lib.ListN.{length, getD}
 use Rattle.tokens.specs.Strings.{spelled}

@@ -1,33 +1,25 @@
 -- Each part stands where the gap before it says. Assumes nothing.
 use native.Mathlib.Omega.{arith}
 use mathlib.Core.Path.{ap, _∙_}
-use Rattle.tokens.specs.Text.{kindOf}
-use Rattle.dims.specs.Walk.{closingOf}
-use Rattle.fill.specs.Filled.{gapPlace}
+use Rattle.field.specs.Begins.{gapPlace}
 use Rattle.fill.proofs.Parted.{field-bracket, parts-two, parts-three}
 use borrow.Author.Needs.{needs}
 use Rattle.fill.proofs.inner.parts.Statement.{statement}
 use Rattle.fill.proofs.inner.parts.Tie as tie
 
-peek-requires : tie.Need-peek-requires
-peek-requires c κs = search needs
-
-kind-of-requires : tie.Need-kind-of-requires
-kind-of-requires c κs = search needs
-
-closing-requires : tie.Need-closing-requires
-closing-requires c κs = search needs
+closing-at-requires : tie.Need-closing-at-requires
+closing-at-requires c κs = search needs
 
 sub-inside : tie.Need-sub-inside
 sub-inside c =
-    let x = c .before .before .before .before .pre in
-    let b = field-bracket (c .before .before .before .before .args .room) (c .before .before .before .before .args .text .now) (c .before .before .before .before .args .at) (x .1) (c .closing .result) (x .0) (x .2) (c .closing .ensures ∙ ap closingOf (c .before .kind-of .ensures ∙ ap kindOf (c .before .before .peek .ensures))) (x .3) in
+    let x = c .before .before .pre in
+    let b = field-bracket (c .before .before .args .room) (c .before .before .args .text .now) (c .before .before .args .at) (x .1) (c .closing-at .result) (x .0) (x .2) (c .closing-at .ensures) (x .3) in
     omega (arith, b .room)
 
 add-gap-at : tie.Need-add-gap-at
 add-gap-at c =
-    let x = c .before .before .before .before .pre in
-    let b = field-bracket (c .before .before .before .before .args .room) (c .before .before .before .before .args .text .now) (c .before .before .before .before .args .at) (x .1) (c .closing .result) (x .0) (x .2) (c .closing .ensures ∙ ap closingOf (c .before .kind-of .ensures ∙ ap kindOf (c .before .before .peek .ensures))) (x .3) in
+    let x = c .before .before .pre in
+    let b = field-bracket (c .before .before .args .room) (c .before .before .args .text .now) (c .before .before .args .at) (x .1) (c .closing-at .result) (x .0) (x .2) (c .closing-at .ensures) (x .3) in
     omega (arith, b .inside)
 
 gap-at-requires : tie.Need-gap-at-requires
@@ -58,7 +50,7 @@ place-of-requires-3 : tie.Need-place-of-requires-3
 place-of-requires-3 c κs = search needs
 
 returns : tie.Need-returns
-returns c = parts-two (c .before .before .before .before .before .before .before .before .before .before .before .before .before .args .room) (c .before .before .before .before .before .before .before .before .before .before .before .before .before .args .text .now) (c .before .before .before .before .before .before .before .before .before .before .before .before .before .args .at) (c .before .before .before .before .before .before .before .before .before .closing .result) (c .before .before .before .before .before .before .before .place-of .result) (c .before .before .before .before .place-of2 .result) (c .before .before .before .before .before .before .end-of .result) (c .before .before .before .end-of2 .result) (c .before .before .then-at2 .result) (c .before .before .before .before .before .before .before .before .before .closing .ensures ∙ ap closingOf (c .before .before .before .before .before .before .before .before .before .before .kind-of .ensures ∙ ap kindOf (c .before .before .before .before .before .before .before .before .before .before .before .peek .ensures))) (c .before .before .before .before .before .before .before .place-of .ensures ∙ ap gapPlace (c .before .before .before .before .before .before .before .before .gap-at .ensures)) (c .before .before .before .before .before .before .end-of .ensures) (c .before .before .before .before .place-of2 .ensures ∙ ap gapPlace (c .before .before .before .before .before .then-at .ensures)) (c .before .before .before .end-of2 .ensures) (c .before .before .then-at2 .ensures) (c .place-of3 .result) (c .place-of3 .ensures) (c .before .match .keys2)
+returns c = parts-two (c .before .before .before .before .before .before .before .before .before .before .before .args .room) (c .before .before .before .before .before .before .before .before .before .before .before .args .text .now) (c .before .before .before .before .before .before .before .before .before .before .before .args .at) (c .before .before .before .before .before .before .before .before .before .closing-at .result) (c .before .before .before .before .before .before .before .place-of .result) (c .before .before .before .before .place-of2 .result) (c .before .before .before .before .before .before .end-of .result) (c .before .before .before .end-of2 .result) (c .before .before .then-at2 .result) (c .before .before .before .before .before .before .before .before .before .closing-at .ensures) (c .before .before .before .before .before .before .before .place-of .ensures ∙ ap gapPlace (c .before .before .before .before .before .before .before .before .gap-at .ensures)) (c .before .before .before .before .before .before .end-of .ensures) (c .before .before .before .before .place-of2 .ensures ∙ ap gapPlace (c .before .before .before .before .before .then-at .ensures)) (c .before .before .before .end-of2 .ensures) (c .before .before .then-at2 .ensures) (c .place-of3 .result) (c .place-of3 .ensures) (c .before .match .keys2)
 
 judge-requires : tie.Need-judge-requires
 judge-requires c κs = search needs
@@ -73,15 +65,13 @@ rank-of-requires : tie.Need-rank-of-requires
 rank-of-requires c κs = search needs
 
 returns-2 : tie.Need-returns-2
-returns-2 c = parts-three (c .before .before .before .before .before .before .before .before .before .before .before .before .before .before .before .before .before .before .args .room) (c .before .before .before .before .before .before .before .before .before .before .before .before .before .before .before .before .before .before .args .text .now) (c .before .before .before .before .before .before .before .before .before .before .before .before .before .before .before .before .before .before .args .at) (c .before .before .before .before .before .before .before .before .before .before .before .before .before .before .closing .result) (c .before .before .before .before .before .before .before .before .before .before .before .before .place-of .result) (c .before .before .before .before .before .before .before .before .before .place-of2 .result) (c .before .before .before .before .before .before .before .before .before .before .before .end-of .result) (c .before .before .before .before .before .before .before .before .end-of2 .result) (c .before .before .before .before .before .before .before .then-at2 .result) (c .before .before .before .before .before .before .before .before .before .before .before .before .before .before .closing .ensures ∙ ap closingOf (c .before .before .before .before .before .before .before .before .before .before .before .before .before .before .before .kind-of .ensures ∙ ap kindOf (c .before .before .before .before .before .before .before .before .before .before .before .before .before .before .before .before .peek .ensures))) (c .before .before .before .before .before .before .before .before .before .before .before .before .place-of .ensures ∙ ap gapPlace (c .before .before .before .before .before .before .before .before .before .before .before .before .before .gap-at .ensures)) (c .before .before .before .before .before .before .before .before .before .before .before .end-of .ensures) (c .before .before .before .before .before .before .before .before .before .place-of2 .ensures ∙ ap gapPlace (c .before .before .before .before .before .before .before .before .before .before .then-at .ensures)) (c .before .before .before .before .before .before .before .before .end-of2 .ensures) (c .before .before .before .before .before .before .before .then-at2 .ensures) _ (c .before .before .before .judge .result) (c .before .place-of4 .result) (c .rank-of .result) (c .before .before .before .before .before .g3 .given .1) (c .before .before .before .judge .ensures) (c .before .place-of4 .ensures ∙ ap gapPlace (c .before .before .then-at3 .ensures)) (c .rank-of .ensures)
+returns-2 c = parts-three (c .before .before .before .before .before .before .before .before .before .before .before .before .before .before .before .before .args .room) (c .before .before .before .before .before .before .before .before .before .before .before .before .before .before .before .before .args .text .now) (c .before .before .before .before .before .before .before .before .before .before .before .before .before .before .before .before .args .at) (c .before .before .before .before .before .before .before .before .before .before .before .before .before .before .closing-at .result) (c .before .before .before .before .before .before .before .before .before .before .before .before .place-of .result) (c .before .before .before .before .before .before .before .before .before .place-of2 .result) (c .before .before .before .before .before .before .before .before .before .before .before .end-of .result) (c .before .before .before .before .before .before .before .before .end-of2 .result) (c .before .before .before .before .before .before .before .then-at2 .result) (c .before .before .before .before .before .before .before .before .before .before .before .before .before .before .closing-at .ensures) (c .before .before .before .before .before .before .before .before .before .before .before .before .place-of .ensures ∙ ap gapPlace (c .before .before .before .before .before .before .before .before .before .before .before .before .before .gap-at .ensures)) (c .before .before .before .before .before .before .before .before .before .before .before .end-of .ensures) (c .before .before .before .before .before .before .before .before .before .place-of2 .ensures ∙ ap gapPlace (c .before .before .before .before .before .before .before .before .before .before .then-at .ensures)) (c .before .before .before .before .before .before .before .before .end-of2 .ensures) (c .before .before .before .before .before .before .before .then-at2 .ensures) _ (c .before .before .before .judge .result) (c .before .place-of4 .result) (c .rank-of .result) (c .before .before .before .before .before .g3 .given .1) (c .before .before .before .judge .ensures) (c .before .place-of4 .ensures ∙ ap gapPlace (c .before .before .then-at3 .ensures)) (c .rank-of .ensures)
 
 pub parts-spec : {M : Type 1} → statement M
 parts-spec =
     tie.close
     (tie.spec
-    peek-requires
-    kind-of-requires
-    closing-requires
+    closing-at-requires
     sub-inside
     add-gap-at
     gap-at-requires

@@ -1,0 +1,4 @@
+pub mod Outlines
+pub mod Levels
+pub mod Orders
+pub mod OneOutcome

@@ -1,0 +1,4 @@
+pub mod Sums
+pub mod PlainTotals
+pub mod Limits
+pub mod Outcomes

@@ -1,0 +1,94 @@
+-- What the refusals that come after the whole descr need of it. Document 01: 13 "over 32 dimensions in a shape or sub-shape", 20 "over 512 entries or
+-- 65,536 bytes of field names", 21 "no `O`, and some entry's size over 2^64-1"; and "An array has n times its inner size; a record has the sum." Totals
+-- are not told apart past the first number that is refused; that these say what crate dtype's Limits.antt asks is proofs/Limits.antt. Definitions only.
+-- Assumes nothing.
+use Prim.Native.Nat.{ℕ, _+_, min}
+use mathlib.Core.Bool.{false, _||_, cond}
+use lib.Dec.{ltb}
+use lib.ListN.{length}
+use Rattle.counts.specs.declared.Number.{Number}
+use Rattle.counts.specs.declared.Number.the-variants.{Is, Over}
+use Rattle.dtype.specs.TypeNumbers.{letterByte}
+use Rattle.dtype.specs.PlainBytes.{isObject}
+use Rattle.dtype.specs.Dtype.{Dtype, Fields, sizeOf, sizesOf}
+use Rattle.dtype.specs.Entries.{entriesOf, entriesIn, someEntryIn, levels, plainOnly, hasObject}
+use Rattle.dtype.specs.Names.{nameBytes, nameBytesIn}
+use Rattle.dtype.specs.Limits.{over, overLevels, someOver}
+use Rattle.record.specs.Descr.{Field}
+use Rattle.products.specs.declared.Outline.{Outline}
+use Rattle.sums.specs.declared.Totals.{Totals}
+pub use Rattle.products.specs.Outline.{isOver, largestIn}
+
+-- the lesser of the two
+abbrev pub capped : (most n : ℕ) → ℕ
+capped most n = min most n
+
+-- the number of a u64, the largest where it is over
+abbrev pub largest : ℕ
+largest = 18446744073709551615
+
+abbrev pub saturated : Number → ℕ
+saturated (Is n) = n
+saturated Over = largest
+
+-- of a dtype
+abbrev pub totalsOf : Dtype → Totals
+totalsOf d =
+    record {
+      entries = capped 513 (entriesOf d);
+      names = capped 65537 (nameBytes d);
+      object = hasObject d;
+      wide = overLevels d;
+      over = someOver d;
+      size = capped largest (sizeOf d);
+    }
+
+-- of fields, as they add up to their record's
+abbrev pub totalsIn : Fields → Totals
+totalsIn fs =
+    record {
+      entries = capped 513 (entriesIn fs);
+      names = capped 65537 (nameBytesIn fs);
+      object = someEntryIn (plainOnly (λ t. isObject (letterByte (t .letter)))) fs;
+      wide = someEntryIn (λ e. ltb 32 (levels e)) fs;
+      over = someEntryIn (λ e. over (sizeOf e)) fs || over (sizesOf fs);
+      size = capped largest (sizesOf fs);
+    }
+
+-- of no field, of a record's own entry, and of a name of so many bytes
+abbrev pub nothing : Totals
+nothing = record { entries = 0; names = 0; object = false; wide = false; over = false; size = 0 }
+
+abbrev pub oneEntry : Totals
+oneEntry = record { entries = 1; names = 0; object = false; wide = false; over = false; size = 0 }
+
+abbrev pub nameTotals : ℕ → Totals
+nameTotals n = record { entries = 0; names = capped 65537 n; object = false; wide = false; over = false; size = 0 }
+
+-- of two, one behind the other
+unfoldable pub together : Totals → Totals → Totals
+together t u =
+    record {
+      entries = capped 513 (t .entries + u .entries);
+      names = capped 65537 (t .names + u .names);
+      object = t .object || u .object;
+      wide = t .wide || u .wide;
+      over = (t .over || u .over) || over (t .size + u .size);
+      size = capped largest (t .size + u .size);
+    }
+
+-- of a field: its name, and then its type
+abbrev pub fieldTotals : Field → Totals
+fieldTotals f = together (nameTotals (length (f .name))) (totalsOf (f .type))
+
+-- of the array levels of a sub-shape and its type
+unfoldable pub arrayed : Outline → Totals → Totals
+arrayed o t =
+    record {
+      entries = capped 513 (o .rank + t .entries);
+      names = t .names;
+      object = t .object;
+      wide = ltb 32 (o .rank) || t .wide;
+      over = isOver (largestIn o (t .size)) || t .over;
+      size = cond (o .empty) 0 (saturated (largestIn o (t .size)));
+    }
