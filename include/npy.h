@@ -5,14 +5,15 @@
  *     n    one of document 01's refusal numbers, 1 to 30, and has left all that it was lent as it was.
  * A room is a pointer and a count of its elements; room beyond what was needed is left as it was. No function allocates, keeps a pointer, or
  * reads or writes outside the rooms. The pointers of one call must not overlap where one of them is written to, and must not be null or misaligned,
- * also where the count is 0: that is C's part, which no proof can see.
+ * also where the count is 0; a bool is 0 or 1: that is C's part, which no proof can see.
  *
  * Link with target/staticlib/libnpy.a, which `rt staticlib npy` proves and writes, for x86-64.
  *
  * A record is what a header says: a dtype table, the names of its fields end to end, a shape and an order.
  *     table    NPY_ENTRY numbers for each entry, depth first: parent, kind (0 plain, 1 array level, 2 record), then of a plain type
  *              the byte of its order, the byte of its letter, its size and its units, of an array 0, 0, its length, 0, of a record 0, 0, how many
- *              fields, 0; then how many entries it and all below it have, its bytes (2^64-1 where they are over that), its name's length
+ *              fields, 0; then how many entries it and all below it have, its bytes (2^64-1 where they are over that, 0 for an 'O'), its name's length
+ *              (0 where it is no field). The outermost entry has parent 0 and is no array; an array level's parent is the level or record around it
  *     order    0 for C, 1 for Fortran; another number is refused by 27
  *     type     four numbers: the byte of its order ('<', '>' or '|'), the byte of its letter, its size, its units (0 for none, then 1 to 13 for
  *              Y M W D h m s ms us ns ps fs as); numbers that no type string gives are refused by 27
@@ -40,17 +41,18 @@ extern "C" {
 uint8_t npy_read(const uint8_t *file, size_t file_len, uint64_t *table, size_t table_len, uint8_t *names, size_t names_len,
                  uint64_t *shape, size_t shape_len, uint64_t said[6]);
 
-/* The same of a file whose first bytes are held, and which is longer or is not: of a longer file 23, right after 4, where its header ends past them. */
+/* The same of a file whose first bytes are held, at least 12 of them or the whole file, and which is longer or is not: of a longer file 23, right after 4, where its
+ * header ends past them. */
 uint8_t npy_read_held(const uint8_t *file, size_t file_len, bool longer, uint64_t *table, size_t table_len, uint8_t *names, size_t names_len,
                       uint64_t *shape, size_t shape_len, uint64_t said[6]);
 
-/* The record of a header's text, without its prefix: 5 to 23. said: order, rank, entries, name bytes. */
+/* The record of a header's text, without its prefix and of any length, so never 4: 5 to 23. said: order, rank, entries, name bytes. */
 uint8_t npy_read_text(const uint8_t *text, size_t text_len, uint64_t *table, size_t table_len, uint8_t *names, size_t names_len,
                       uint64_t *shape, size_t shape_len, uint64_t said[4]);
 
-/* ---- a caller's record: 27, 13, 20, 21, 22 come first in every function that takes one. */
+/* ---- a caller's record: 27, 13, 20, 21, 22 come first in every function that takes one (in npy_list behind 2). */
 
-/* Whether some reading gives the record. said: rank, entries, 1 and the item size (0 and 0 with an 'O'), item count. */
+/* Whether some reading gives the record, 7 and 4 aside, which are the writer's to find. said: rank, entries, 1 and the item size (0 and 0 with an 'O'), item count. */
 uint8_t npy_check(const uint64_t *table, size_t table_len, const uint8_t *names, size_t names_len, const uint64_t *shape, size_t shape_len,
                   uint64_t order, uint64_t said[5]);
 
@@ -89,7 +91,7 @@ uint8_t npy_element_points(const uint8_t *file, size_t file_len, uint64_t start,
 
 /* ---- string elements by themselves: 27 for no type, 26 for another type. */
 
-/* Reading a run of bytes: then 29 (U), 23. count: how many bytes or code points are left. */
+/* Reading a run of bytes: then 29 (U), 23. The run is all that is read: size is not compared with run_len. count: how many bytes or code points are left. */
 uint8_t npy_read_bytes(const uint8_t *run, size_t run_len, uint64_t order, uint64_t letter, uint64_t size, uint64_t units,
                        uint8_t *out, size_t out_len, uint64_t count[1]);
 uint8_t npy_read_points(const uint8_t *run, size_t run_len, uint64_t order, uint64_t letter, uint64_t size, uint64_t units,
