@@ -33,7 +33,7 @@ pub extern "C" fn npy_read(
     codes::tell_header(header::read(file, table, names, shape), said)
 }
 
-// The same of a file of which only the first bytes are held, and which is longer or is not.
+// The same of a file of which only the first bytes are held, at least the 12 before any text or the whole file, and which is longer or is not.
 #[no_mangle]
 pub extern "C" fn npy_read_held(
     file: &[u8],
@@ -48,7 +48,7 @@ pub extern "C" fn npy_read_held(
     codes::tell_header(header::read_held(file, longer, table, names, shape), said)
 }
 
-// The record of a header's text; `said` is its order, rank, entries and name bytes.
+// The record of a header's text, of any length; `said` is its order, rank, entries and name bytes.
 #[no_mangle]
 pub extern "C" fn npy_read_text(
     text: &[u8],
@@ -62,7 +62,7 @@ pub extern "C" fn npy_read_text(
     codes::tell_text(header::read_text(text, table, names, shape), said)
 }
 
-// Whether a record is one that some reading gives; `said` is its rank, entries, 1 and its item size or 0 and 0, and its item count.
+// Whether a record is one that some reading gives, 7 and 4 aside; `said` is its rank, entries, 1 and its item size or 0 and 0, and its item count.
 #[no_mangle]
 pub extern "C" fn npy_check(
     table: &[u64],
