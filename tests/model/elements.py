@@ -21,6 +21,8 @@ def read_points(what, run, room):
     order, letter, _, _ = what
     if letter != b'U':
         return 26
+    if len(run) % 4:
+        return 29
     points = [int.from_bytes(run[k:k + 4], 'big' if order == b'>' else 'little') for k in range(0, len(run), 4)]
     if not all(map(is_scalar, points)):
         return 29

@@ -171,23 +171,36 @@ def record_of(value):
     return record
 
 
+def record_in(text, entries, name_bytes, dimensions_room):
+    """The record of a header's text: 5 to 23."""
+    try:
+        text.decode('utf-8')
+    except UnicodeDecodeError:
+        refuse(5)
+    verdict, rest = automaton.check(text)
+    if verdict != 'ok':
+        refuse(verdict)
+    record = record_of(rest)
+    if len(record.table) > entries or len(record.names) > name_bytes or len(record.shape) > dimensions_room:
+        refuse(23)
+    return record
+
+
+def read_text(text, entries=512, name_bytes=65_536, dimensions_room=32):
+    """The record of a text without its prefix, of any length, or the number of its refusal."""
+    try:
+        return record_in(text, entries, name_bytes, dimensions_room)
+    except Refused as refusal:
+        return refusal.args[0]
+
+
 def read(file, entries=512, name_bytes=65_536, dimensions_room=32, longer=False):
     """The record, or the number of its refusal. Of a file that is longer than what is held of it: "a longer file whose header ends past those gets 23 right after 4"."""
     try:
         version, start, end = preamble(file)
         if end > len(file):
             refuse(23 if longer else 3)
-        text = file[start:end]
-        try:
-            text.decode('utf-8')
-        except UnicodeDecodeError:
-            refuse(5)
-        verdict, rest = automaton.check(text)
-        if verdict != 'ok':
-            refuse(verdict)
-        record = record_of(rest)
-        if len(record.table) > entries or len(record.names) > name_bytes or len(record.shape) > dimensions_room:
-            refuse(23)
+        record = record_in(file[start:end], entries, name_bytes, dimensions_room)
         record.version, record.data = version, end
         return record
     except Refused as refusal:

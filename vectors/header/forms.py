@@ -7,10 +7,12 @@ import sys
 
 HERE = os.path.dirname(os.path.abspath(__file__))
 ROOT = os.path.dirname(os.path.dirname(HERE))
-sys.path[:0] = [os.path.join(ROOT, 'tests', 'model'), os.path.dirname(HERE)]
+sys.path[:0] = [os.path.join(ROOT, 'tests', 'model'), os.path.dirname(HERE), os.path.join(os.path.dirname(HERE), 'npy')]
+import calls
 import files
 import reader
 import records
+import rule
 import writer
 
 FULL = (512, 65_536, 32)
@@ -120,12 +122,99 @@ def escaped(length):
 
 
 def write_case(table, names, shape, fortran, room):
-    return struct.pack('<B4I', fortran, room, len(table), len(names), len(shape)) + struct.pack(f'<{len(table)}Q', *table) + names + struct.pack(f'<{len(shape)}Q', *shape)
+    return calls.case_of('write_header', [int(fortran), 0, 0, 0, room], table=table, names=names, shape=shape)
 
 
-def write_answer(case):
-    fortran, room, numbers, name_bytes, rank = struct.unpack_from('<B4I', case)
-    names = 17 + 8 * numbers
-    shape = names + name_bytes
-    answer = writer.write(list(struct.unpack_from(f'<{numbers}Q', case, 17)), case[names:shape], list(struct.unpack_from(f'<{rank}Q', case, shape)), fortran == 1, room)
-    return b'refused %d' % answer if isinstance(answer, int) else answer.hex().encode()
+# ---- what run_npy alone is asked
+
+MOST = reader.MOST
+# Orders, and what stands in the place of one: "an order is 0 or 1".
+ORDERS = (0, 1, 2, 255, 256, 2 ** 32, 2 ** 32 + 1, MOST)
+
+
+def lent(rooms):
+    """The numbers of a case that lends these rooms, in entries, bytes and dimensions."""
+    entries, names, rank = rooms
+    return [0, 0, 0, 0, writer.WIDTH * entries, names, rank]
+
+
+def record_reads(most):
+    """Files, first bytes of files and texts with the rooms that are lent, and so what the rooms then hold: the edges, in full rooms, in rooms that are exactly enough, one short in each, and none at all."""
+    for file in [file for file, _ in files.EDGES]:
+        if len(file) > most:
+            if len(file) < 10 * most:
+                yield calls.case_of('read', lent(FULL), file)
+                yield calls.case_of('read_held', [1] + lent(FULL)[1:], file)
+                yield calls.case_of('read_text', lent(FULL), file[10 if file[6:7] == b'\x01' else 12:])
+            continue
+        for rooms in rooms_of(file):
+            yield calls.case_of('read', lent(rooms), file)
+        yield calls.case_of('read_held', [1] + lent(FULL)[1:], file)
+        yield calls.case_of('read_held', [MOST] + lent((2, 1, 1))[1:], file[:-1])
+        text = file[10 if file[6:7] == b'\x01' else 12:]
+        for rooms in rooms_of(file):
+            yield calls.case_of('read_text', lent(rooms), text)
+        # a table's room that is no whole number of entries
+        yield calls.case_of('read', [0, 0, 0, 0, 8, 3, 1], file)
+        yield calls.case_of('read', [0, 0, 0, 0, 35, MOST, MOST], file)
+    for case in held_reads():
+        *rooms, longer = struct.unpack_from('<3IB', case)
+        if len(case) <= most:
+            yield calls.case_of('read_held', [int(longer)] + lent(rooms)[1:], case[13:])
+    for text in (b'', b'{', b'{}', b' ', files.header() * 2, b'\xff', files.header() + b'\n', b'[' * 33, files.header(b"'<i9'"), b'{' + b"'a': 1, " * 400 + files.header()[1:], files.padded(files.header(), 131_073)):
+        yield calls.case_of('read_text', lent(FULL), text)
+
+
+def asked_records():
+    """Records as a caller lends them, well-formed or not: the edges, every ninth damaged table, generated ones."""
+    for found, shape, fortran, *_ in records.EDGES:
+        yield records.given(found, shape, fortran, 0)[:4]
+    for table, names in itertools.islice(records.damaged(), 0, None, 9):
+        yield table, names, [3], False
+    for found, shape, fortran, _ in records.generated(300, 3):
+        yield records.given(found, shape, fortran, 0)[:4]
+
+
+def checks():
+    """npy_check and npy_list of the same records, a few with orders and versions that are none, and of each with the room that is needed, one byte less, or none."""
+    for number, (table, names, shape, fortran) in enumerate(asked_records()):
+        order, record = ORDERS[number // 10 % len(ORDERS)] if number % 10 == 0 else int(fortran), dict(table=table, names=names, shape=shape)
+        if 8 * len(table) + len(names) > 5_000:
+            continue
+        yield calls.case_of('check', [order], **record)
+        if 8 * len(table) + len(names) > 1_500:
+            continue
+        version = (0, 4, 255, 256, 2 ** 32 + 1, MOST)[number // 10 % 6] if number % 10 == 5 else number % 3 + 1
+        start = (0, 80, MOST, 2 ** 63)[number % 4]
+        line = calls.answer(calls.case_of('list', [order, start, version, 0, MOST], **record))
+        need = int(line.split(';')[0].split()[1]) if line.startswith('0 ') else 200
+        yield calls.case_of('list', [order, start, version, 0, need], **record)
+        if line.startswith('0 '):
+            yield calls.case_of('list', [order, start, version, 0, (need - 1, 0, MOST)[number % 3]], **record)
+    # the bytes of a type: each one alone in a table
+    for what in dict.fromkeys(what for what in map(rule.type_string, files.type_strings.valid()) if not isinstance(what, int)):
+        yield calls.case_of('check', [0], table=writer.numbers_of(reader.Type('plain', what)))
+    # 513 entries, and 65,537 name bytes
+    for found in (records.WIDE, records.of_length(65_637)):
+        yield calls.case_of('check', [1], table=writer.numbers_of(found), names=writer.names_of(found))
+    yield calls.case_of('list', [0, 80, 1, 0, 20_000], table=writer.numbers_of(records.WIDE), names=writer.names_of(records.WIDE))
+    # 2 before 27
+    yield calls.case_of('list', [2, 0, 4, 0, 0], table=writer.numbers_of(records.I4))
+
+
+def shapes():
+    """Counts and strides of shapes up to the most that a case has, in every order and number of one, in rooms that are enough, one short, or none."""
+    rng = random.Random(9)
+    named = [[], [0], [5], [5, 5], [3, 5], [2, 3], [2, 3, 4], [MOST], [MOST, 1], [MOST, 2], [2, MOST], [0, MOST, 2], [MOST, 2, 0], [2 ** 32, 2 ** 32], [2 ** 32, 2 ** 32 - 1], [0, 2 ** 40, 2 ** 40], [2 ** 40, 2 ** 40, 0],
+             [1] * 32, [1] * 33, [1] * 64, [2] * 63, [2] * 64, [2] * 63 + [0], [0] + [2] * 63]
+    for shape in named + [records.shape_of(rng) for _ in range(150)]:
+        for order in ORDERS if len(shape) == 3 else ORDERS[:2]:
+            yield calls.case_of('count', [order], shape=shape)
+            for room in {len(shape), max(len(shape), 1) - 1, len(shape) + 1, MOST} if order < 2 else {len(shape)}:
+                yield calls.case_of('strides', [order, 0, 0, 0, room], shape=shape)
+
+
+def other_orders():
+    """A header written in every order and number of one."""
+    for order in ORDERS:
+        yield calls.case_of('write_header', [order, 0, 0, 0, 80], shape=[3], table=writer.numbers_of(records.I4))

@@ -18,7 +18,7 @@ import writer
 MOST = reader.MOST
 PLAIN = [b'|b1', b'|i1', b'<u2', b'>f4', b'|S0', b'|S1', b'|S3', b'<U1', b'>U2', b'<U0', b'|V0', b'|V3', b'<m8[us]']
 LAID_OUT, MOST_LEAVES = 350, 36
-# What a program with one buffer of 65,536 bytes can take, less what is asked.
+# A longer table says no more of a place than of a header, for which it is recorded.
 MOST_CASE = 60_000
 
 
@@ -85,7 +85,7 @@ def owned(count=LAID_OUT, seed=6):
         asks, lines = [], []
         for index, path, at, length, what in owners:
             asks.append(Ask('n', 0, len(file), index, path))
-            lines.append('%d %d %s' % (at, length, rule.printed(what)))
+            lines.append(forms.placed(at, length, what))
             if what[1] in b'SUV' and len(file) > start:
                 ask, line = element(rng, file, index, path, file[at:at + length], what)
                 asks.append(ask)
@@ -99,11 +99,11 @@ def owned(count=LAID_OUT, seed=6):
 
 def element(rng, file, index, path, run, what):
     """A string element asked for in a room that is enough, exactly enough, one short, or none; now and then by the wrong kind."""
-    operation, read, lent = ('p', elements.read_points, '2a2a2a2a') if (what[1] == b'U') != (rng.random() < 0.1) else ('b', elements.read_bytes, 'aa')
+    operation, read = ('p', elements.read_points) if (what[1] == b'U') != (rng.random() < 0.1) else ('b', elements.read_bytes)
     left = read(what, run, 255)
     needed = 1 if isinstance(left, int) else len(left)
     room = rng.choice((needed, needed, needed + 1, max(needed, 1) - 1, 0))
-    return Ask(operation, room, len(file), index, path), forms.shown(read(what, run, room), room, lent)
+    return Ask(operation, room, len(file), index, path), forms.shown(operation, read(what, run, room))
 
 
 def nowhere(rng, owners, shape, length):
@@ -166,3 +166,17 @@ def tried(rng, record, path):
     index = [max(n, 1) - 1 for n in record.shape]
     asks = [Ask('n', 0, MOST, index, path), Ask(rng.choice('bp'), 4, len(record.file), index, path)]
     return record, asks, answers(record, asks)
+
+
+def other_orders():
+    """Orders that are none, and the refusals of a record asked of each kind of element."""
+    found = records.record((b'a', records.plain(b'|S2')), (b'b', records.plain(b'<U1')))
+    file = bytes(16) + b'xy' + b'z\0\0\0'
+    for order in (0, 1, 2, 255, 256, 2 ** 32, 2 ** 32 + 1, MOST):
+        record = given(found, [1], order, 16, file)
+        asks = [Ask('n', 0, len(file), [0], [1]), Ask('i', 0, 0, [0], []), Ask('b', 2, len(file), [0], [0]), Ask('p', 1, len(file), [0], [1])]
+        yield record, asks, answers(record, asks)
+    for found, shape in ((records.I4, [1] * 33), (records.HIGH, []), (records.HUGE, [1]), (records.I4, [2 ** 32, 2 ** 32])):
+        record = given(found, shape, False, 16, bytes(60))
+        asks = [Ask(operation, 4, 60, [0] * len(shape), []) for operation in 'nbp']
+        yield record, asks, answers(record, asks)

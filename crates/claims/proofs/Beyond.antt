@@ -29,7 +29,7 @@ use Rattle.record.specs.Writing.{writing, placed}
 use Rattle.record.proofs.Holds.{Holds, unless-holds, held, gives-refused}
 use Rattle.judge.specs.Judged.{reading}
 use Rattle.table.specs.Checked.{checkedRecord}
-use Rattle.header.specs.declared.Said.{Said}
+use Rattle.fill.specs.declared.Said.{Said}
 use Rattle.header.specs.declared.Header.{Header}
 use Rattle.header.specs.Answer.{saidOf, Told, told, headerIs, filled, textInto, heldInto}
 use Rattle.write.specs.Writes.{headerWritten, headerPlaced, roomOf}
@@ -37,7 +37,7 @@ use Rattle.lines.specs.Listing.{listing}
 use Rattle.listing.specs.Answer as lists
 use Rattle.strings.specs.Rooms.{after, Owes}
 use Rattle.claims.specs.Beyond.{Same-rest, Rest-unchanged}
-use Rattle.claims.proofs.Rooms.{table-whole, names-whole}
+use Rattle.report.proofs.Rooms.{table-whole, names-whole}
 use Rattle.claims.proofs.RoundTrips.{wrote-length}
 
 -- behind what stands at the front
@@ -48,7 +48,7 @@ behind-front : (n : ℕ) (new old : List ℕ) → n ≡ length new → drop n (a
 behind-front n new old e = rw e (drop-append-seam new (drop (length new) old))
 
 -- ---- a reader
-holding-rest : (r : Record) (l : Lent) → Same-rest (saidOf r) l (holding r l)
+pub holding-rest : (r : Record) (l : Lent) → Same-rest (saidOf r) l (holding r l)
 holding-rest r l =
     record {
       table-rest = behind-front (entry-width * entriesOf (r .dtype)) (table (r .dtype)) (l .table) (table-whole r);
@@ -70,7 +70,7 @@ text-rest said l l′ (gives r) a b = rest-by r l l′ said (cc) b
 text-rest said l l′ (refused n) a b = gives-refused (sym a)
 
 -- ---- one room
-owed : (put : Outcome (List ℕ)) (room : List ℕ) (a : Outcome ℕ) (room′ : List ℕ) (n : ℕ) → Owes put room a room′ → a ≡ gives n → drop n room′ ≡ drop n room
+pub owed : (put : Outcome (List ℕ)) (room : List ℕ) (a : Outcome ℕ) (room′ : List ℕ) (n : ℕ) → Owes put room a room′ → a ≡ gives n → drop n room′ ≡ drop n room
 owed put room a room′ n h e = go put (sym (h .answered) ∙ e) (h .room-after)
   where
     go : (o : Outcome (List ℕ)) → each length o ≡ gives n → room′ ≡ after room o → drop n room′ ≡ drop n room
@@ -89,7 +89,7 @@ printed-rest text room n e = go (leb (length text) (length room)) refl e
         rw (emit.placed, f) (behind-front n text room len)
     go false f g = gives-refused g
 
-typed-rest : (t : TypeStr) (room : List ℕ) (n : ℕ) → typePrinted t room ≡ gives n → drop n (typePlaced t room) ≡ drop n room
+pub typed-rest : (t : TypeStr) (room : List ℕ) (n : ℕ) → typePrinted t room ≡ gives n → drop n (typePlaced t room) ≡ drop n room
 unfolding typePrinted typePlaced
 typed-rest t room n e = go (isType t) refl e
   where
@@ -97,12 +97,12 @@ typed-rest t room n e = go (isType t) refl e
     go true f g = rw (typePlaced, f) (printed-rest (typeText t []) room n g)
     go false f g = gives-refused g
 
-listed-rest : (v : Version) (start : ℕ) (room : List ℕ) (n : ℕ) (c : Outcome Record) → then c (λ r. emit.written (listing v start r []) room) ≡ gives n
+pub listed-rest : (v : Version) (start : ℕ) (room : List ℕ) (n : ℕ) (c : Outcome Record) → then c (λ r. emit.written (listing v start r []) room) ≡ gives n
     → drop n (lists.roomBy c v start room) ≡ drop n room
 listed-rest v start room n (gives r) e = printed-rest (listing v start r []) room n e
 listed-rest v start room n (refused k) e = gives-refused e
 
-header-placed-rest : (t ns s : List ℕ) (o : Order) (room : List ℕ) (n : ℕ) → headerWritten t ns s o room ≡ gives n → drop n (headerPlaced t ns s o room) ≡ drop n room
+pub header-placed-rest : (t ns s : List ℕ) (o : Order) (room : List ℕ) (n : ℕ) → headerWritten t ns s o room ≡ gives n → drop n (headerPlaced t ns s o room) ≡ drop n room
 unfolding headerWritten headerPlaced
 header-placed-rest t ns s o room n e = go (checkedRecord t ns s o) e
   where
@@ -120,7 +120,7 @@ encoded-rest : (c : ℕ) (room : List ℕ) (n : ℕ) → utf8.encoding c (length
 encoded-rest c room n e =
     ap (λ (x : Outcome ℕ). drop n (utf8.after x c room)) e ∙ behind n (encode c) room (held (λ k. k ≡ length (encode c)) e (encoding-length c (length room)))
 
-strides-rest : (o : Order) (s out : List ℕ) (n : ℕ) (c : Outcome ℕ) → c ≡ gives n → drop (length s) (strides.left c (shape.strides o s) out) ≡ drop (length s) out
+pub strides-rest : (o : Order) (s out : List ℕ) (n : ℕ) (c : Outcome ℕ) → c ≡ gives n → drop (length s) (strides.left c (shape.strides o s) out) ≡ drop (length s) out
 strides-rest o s out n (gives k) e = behind-front (length s) (shape.strides o s) out (sym (strides-length o s))
 strides-rest o s out n (refused k) e = gives-refused e
 
@@ -138,6 +138,8 @@ rest-unchanged =
       write-points = λ t value room x room′ n h e. owed _ room _ room′ n h e;
       element-bytes = λ file start t ns s o x p room y room′ n h e. owed _ room _ room′ n h e;
       element-points = λ file start t ns s o x p room y room′ n h e. owed _ room _ room′ n h e;
+      bytes-at = λ file place room y room′ n h e. owed _ room _ room′ n h e;
+      points-at = λ file place room y room′ n h e. owed _ room _ room′ n h e;
       print = λ t room x room′ n h e. ap (drop n) (h .room-after) ∙ typed-rest t room n (sym (h .answered) ∙ e);
       encode = λ value room x room′ n h e. ap (drop n) (h .room-after) ∙ encoded-rest value room n (sym (h .answered) ∙ e);
       strides = λ o s out x out′ n h e. ap (drop (length s)) (h .out-after) ∙ strides-rest o s out n (strides.stridesCount o s (length out)) (sym (h .answered) ∙ e);

@@ -1,5 +1,3 @@
-pub mod Accepted
-pub mod Rooms
 pub mod Places
 pub mod RoundTrips
 pub mod Refusals
@@ -7,3 +5,5 @@ pub mod Exactly
 pub mod Held
 pub mod Beyond
 pub mod Edges
+mod Numbers
+pub mod Codes

@@ -11,17 +11,12 @@ use Rattle.table.specs.Checked.{checkedRecord}
 use Rattle.places.proofs.Demand.{demand-3}
 use Rattle.judge.specs.Judged.{reading}
 use Rattle.judge.proofs.Top.{reading-keeps}
-use Rattle.header.specs.declared.Said.{Said}
+use Rattle.fill.specs.declared.Said.{Said}
 use Rattle.header.specs.declared.Header.{Header}
-use Rattle.claims.specs.Rooms.{tableIn, namesIn, shapeIn}
+use Rattle.report.specs.Rooms.{tableIn, namesIn, shapeIn}
 use Rattle.claims.specs.Places.{Data-owned}
-use Rattle.claims.proofs.Accepted.{read-checked}
-use Rattle.claims.proofs.Rooms.{Parts, Found, read-found}
-
--- what stands in the rooms is accepted as what it was made of is
-pub checked-fronts : (r : Record) (said : Said) (l : Lent) → Parts r said l → checkedRecord (table (r .dtype)) (names (r .dtype)) (r .shape) (r .order) ≡ gives r
-    → checkedRecord (tableIn said l) (namesIn said l) (shapeIn said l) (said .order) ≡ gives r
-checked-fronts r said l p e = rw (p .table-is, p .names-are, p .shape-is, p .order-is) e
+use Rattle.report.proofs.Accepted.{read-checked}
+use Rattle.report.proofs.Rooms.{Found, read-found, checked-fronts}
 
 pub found-accepted : (file : List ℕ) (l : Lent) (h : Header) (l′ : Lent) (f : Found file l h l′)
     → checkedRecord (tableIn (h .said) l′) (namesIn (h .said) l′) (shapeIn (h .said) l′) (h .said .order) ≡ gives (f .header-is .says)

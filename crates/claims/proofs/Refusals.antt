@@ -29,7 +29,7 @@ use Rattle.strings.specs.Rooms.{after, Owes}
 use Rattle.claims.specs.Refusals.{Unchanged}
 
 -- one outcome for the answer and the memory
-by-outcome : {A B M : Type 0} (f : A → B) (memory : Outcome A → M) (before : M) → ((n : ℕ) → memory (refused n) ≡ before) → (o : Outcome A) (k : ℕ)
+pub by-outcome : {A B M : Type 0} (f : A → B) (memory : Outcome A → M) (before : M) → ((n : ℕ) → memory (refused n) ≡ before) → (o : Outcome A) (k : ℕ)
     → each f o ≡ refused k → memory o ≡ before
 by-outcome f memory before h (gives a) k e = gives-refused (sym e)
 by-outcome f memory before h (refused n) k e = h n
@@ -46,7 +46,7 @@ text-left text room k e = go (leb (length text) (length room)) refl e
     go true f g = gives-refused (sym g)
     go false f g = rw (emit.placed, f)
 
-typed-left : (t : TypeStr) (room : List ℕ) (k : ℕ) → typePrinted t room ≡ refused k → typePlaced t room ≡ room
+pub typed-left : (t : TypeStr) (room : List ℕ) (k : ℕ) → typePrinted t room ≡ refused k → typePlaced t room ≡ room
 unfolding typePrinted typePlaced
 typed-left t room k e = go (isType t) refl e
   where
@@ -59,7 +59,7 @@ written-left : (r : Record) (room : List ℕ) (o : Outcome ℕ) (k : ℕ) → o 
 written-left r room (gives n) k e = gives-refused (sym e)
 written-left r room (refused n) k e = refl
 
-header-left : (t ns s : List ℕ) (o : Order) (room : List ℕ) (k : ℕ) → headerWritten t ns s o room ≡ refused k → headerPlaced t ns s o room ≡ room
+pub header-left : (t ns s : List ℕ) (o : Order) (room : List ℕ) (k : ℕ) → headerWritten t ns s o room ≡ refused k → headerPlaced t ns s o room ≡ room
 unfolding headerWritten headerPlaced
 header-left t ns s o room k e = go (checkedRecord t ns s o) e
   where
@@ -68,13 +68,13 @@ header-left t ns s o room k e = go (checkedRecord t ns s o) e
     go (refused n) f = refl
 
 -- a listing
-listed-left : (v : Version) (start : ℕ) (room : List ℕ) (k : ℕ) (c : Outcome Record) → then c (λ r. emit.written (listing v start r []) room) ≡ refused k
+pub listed-left : (v : Version) (start : ℕ) (room : List ℕ) (k : ℕ) (c : Outcome Record) → then c (λ r. emit.written (listing v start r []) room) ≡ refused k
     → lists.roomBy c v start room ≡ room
 listed-left v start room k (gives r) e = text-left (listing v start r []) room k e
 listed-left v start room k (refused n) e = refl
 
 -- strides, and a scalar value
-strides-left : (new old : List ℕ) (k : ℕ) (o : Outcome ℕ) → o ≡ refused k → strides.left o new old ≡ old
+pub strides-left : (new old : List ℕ) (k : ℕ) (o : Outcome ℕ) → o ≡ refused k → strides.left o new old ≡ old
 strides-left new old k (gives n) e = gives-refused (sym e)
 strides-left new old k (refused n) e = refl
 
@@ -96,6 +96,8 @@ unchanged =
       write-points = λ t value room x room′ k h e. owed _ room _ room′ k h e;
       element-bytes = λ file start t ns s o x p room y room′ k h e. owed _ room _ room′ k h e;
       element-points = λ file start t ns s o x p room y room′ k h e. owed _ room _ room′ k h e;
+      bytes-at = λ file place room y room′ k h e. owed _ room _ room′ k h e;
+      points-at = λ file place room y room′ k h e. owed _ room _ room′ k h e;
       print = λ t room x room′ k h e. h .room-after ∙ typed-left t room k (sym (h .answered) ∙ e);
       strides = λ o s out x out′ k h e. h .out-after ∙ strides-left (shape.strides o s) out k (strides.stridesCount o s (length out)) (sym (h .answered) ∙ e);
       encode = λ value room x room′ k h e. h .room-after ∙ encoded-left value room k (utf8.encoding value (length room)) (sym (h .answered) ∙ e);

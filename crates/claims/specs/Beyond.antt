@@ -1,11 +1,12 @@
--- Document 01, "The refusal numbers": "On success, room beyond what was needed is unchanged", of each public function that is lent room for a result. Where the answer
--- is how many bytes or numbers were written, it is the room behind so many. Definitions only. Assumes nothing.
+-- Document 01, "The refusal numbers": "On success, room beyond what was needed is unchanged", of each function that a customer calls and that is lent room for a
+-- result, those in C aside (Codes.antt). Where the answer is how many bytes or numbers were written, it is the room behind so many. Definitions only. Assumes
+-- nothing.
 use Prim.Native.Nat.{ℕ, _*_}
 use mathlib.Core.Path.{_≡_}
 use mathlib.Core.Bool.{Bool}
 use mathlib.Core.List.{List}
 use lib.ListN.{length, drop}
-use Rattle.counts.specs.Outcome.{Outcome, gives}
+use Rattle.counts.specs.Outcome.{Outcome, gives, then}
 use Rattle.utf8.specs.Answer.{encoded, Encodes}
 use Rattle.type_str.specs.declared.TypeStr.{TypeStr}
 use Rattle.type_str.specs.Answer.{printAnswer}
@@ -17,8 +18,8 @@ use Rattle.shape.specs.Answer.{wrote}
 use Rattle.shape.specs.Count as strides
 use Rattle.record.specs.Version.{Version}
 use Rattle.record.specs.Rooms.{Lent}
-use Rattle.header.specs.declared.Said.{Said}
-use Rattle.header.specs.declared.TextRead.{TextRead}
+use Rattle.fill.specs.declared.Said.{Said}
+use Rattle.fill.specs.declared.TextRead.{TextRead}
 use Rattle.header.specs.declared.Header.{Header}
 use Rattle.header.specs.declared.HeaderRead.{HeaderRead}
 use Rattle.header.specs.Answer.{Reads, ReadsHeld, ReadsText}
@@ -27,6 +28,9 @@ use Rattle.write.specs.Writes.{Writes}
 use Rattle.listing.specs.Answer as listing
 use Rattle.slice.specs.Answer.{bytesAnswer, pointsAnswer, wroteAnswer}
 use Rattle.strings.specs.Rooms.{readBytes, readPoints, writeBytes, writePoints, Owes}
+use Rattle.places.specs.declared.Placed.{Placed}
+use Rattle.places.specs.Answer.{answer}
+use Rattle.placed.specs.Bytes.{bytesOf}
 use Rattle.placed.specs.Answer as element
 use Rattle.element.specs.Element.{elementBytes, elementPoints}
 
@@ -58,6 +62,11 @@ pub record Rest-unchanged : Type 0 where
       → Spares element.bytesAnswer (λ r. Owes (elementBytes file start t ns s o x p room) room (element.bytesAnswer r)) room
   pub element-points : (file : List ℕ) (start : ℕ) (t ns s : List ℕ) (o : Order) (x p room : List ℕ)
       → Spares element.pointsAnswer (λ r. Owes (elementPoints file start t ns s o x p room) room (element.pointsAnswer r)) room
+  -- `placed::bytes_at`, `points_at`
+  pub bytes-at : (file : List ℕ) (place : Placed) (room : List ℕ)
+      → Spares element.bytesAnswer (λ r. Owes (then (answer place) (λ u. readBytes (u .kind) (bytesOf file u) room)) room (element.bytesAnswer r)) room
+  pub points-at : (file : List ℕ) (place : Placed) (room : List ℕ)
+      → Spares element.pointsAnswer (λ r. Owes (then (answer place) (λ u. readPoints (u .kind) (bytesOf file u) room)) room (element.pointsAnswer r)) room
   -- `TypeStr::print`, `utf8::encode`
   pub print : (t : TypeStr) (room : List ℕ) → Spares printAnswer (Prints t room) room
   pub encode : (value : ℕ) (room : List ℕ) → Spares encoded (Encodes value room) room

@@ -1,10 +1,11 @@
--- Demand 1, of every public function that has something lent to write to: document 01, "The refusal numbers": "Each returns its number only; every lent buffer stays
--- unchanged." Whatever satisfies the contract, and answers a refusal, has left the lent memory as it was. Definitions only. Assumes nothing.
+-- Demand 1, of every function that a customer calls and that has something lent to write to, those in C aside (Codes.antt): document 01, "The refusal numbers":
+-- "Each returns its number only; every lent buffer stays unchanged." Whatever satisfies the contract, and answers a refusal, has left the lent memory as it was.
+-- Definitions only. Assumes nothing.
 use Prim.Native.Nat.{ℕ}
 use mathlib.Core.Path.{_≡_}
 use mathlib.Core.Bool.{Bool}
 use mathlib.Core.List.{List}
-use Rattle.counts.specs.Outcome.{Outcome, refused}
+use Rattle.counts.specs.Outcome.{Outcome, refused, then}
 use Rattle.utf8.specs.Answer.{encoded, Encodes}
 use Rattle.type_str.specs.declared.TypeStr.{TypeStr}
 use Rattle.type_str.specs.Answer.{printAnswer}
@@ -20,6 +21,9 @@ use Rattle.write.specs.Writes.{Writes}
 use Rattle.listing.specs.Answer as listing
 use Rattle.slice.specs.Answer.{bytesAnswer, pointsAnswer, wroteAnswer}
 use Rattle.strings.specs.Rooms.{readBytes, readPoints, writeBytes, writePoints, Owes}
+use Rattle.places.specs.declared.Placed.{Placed}
+use Rattle.places.specs.Answer.{answer}
+use Rattle.placed.specs.Bytes.{bytesOf}
 use Rattle.placed.specs.Answer as element
 use Rattle.element.specs.Element.{elementBytes, elementPoints}
 
@@ -45,6 +49,11 @@ pub record Unchanged : Type 0 where
       → Leaves element.bytesAnswer (λ r. Owes (elementBytes file start t ns s o x p room) room (element.bytesAnswer r)) room
   pub element-points : (file : List ℕ) (start : ℕ) (t ns s : List ℕ) (o : Order) (x p room : List ℕ)
       → Leaves element.pointsAnswer (λ r. Owes (elementPoints file start t ns s o x p room) room (element.pointsAnswer r)) room
+  -- `placed::bytes_at`, `points_at`
+  pub bytes-at : (file : List ℕ) (place : Placed) (room : List ℕ)
+      → Leaves element.bytesAnswer (λ r. Owes (then (answer place) (λ u. readBytes (u .kind) (bytesOf file u) room)) room (element.bytesAnswer r)) room
+  pub points-at : (file : List ℕ) (place : Placed) (room : List ℕ)
+      → Leaves element.pointsAnswer (λ r. Owes (then (answer place) (λ u. readPoints (u .kind) (bytesOf file u) room)) room (element.pointsAnswer r)) room
   -- `TypeStr::print`, `shape::strides`, `utf8::encode`
   pub print : (t : TypeStr) (room : List ℕ) → Leaves printAnswer (Prints t room) room
   pub strides : (o : Order) (s out : List ℕ) → Leaves wrote (strides.Writes o s out) out

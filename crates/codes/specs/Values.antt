@@ -15,7 +15,7 @@ use Rattle.table.specs.declared.ItemSize.{ItemSize}
 use Rattle.table.specs.declared.Summary.{Summary}
 use Rattle.table.specs.EntryType.{typeOf}
 use Rattle.area.specs.declared.Run.{Run}
-use Rattle.header.specs.declared.Said.{Said}
+use Rattle.fill.specs.declared.Said.{Said}
 use Rattle.header.specs.Answer.{Told}
 
 -- ---- numbers that a caller gives

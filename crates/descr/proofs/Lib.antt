@@ -3,3 +3,4 @@ pub mod Along
 pub mod Nodes
 pub mod Items
 pub mod Outcomes
+pub mod Whole

@@ -1,24 +1,19 @@
--- No second outcome satisfies the statement of `inner::judge` where a value stands: the value fixes the end, and what a verdict stands for fixes the
--- verdict. Assumes nothing.
+-- No second outcome satisfies the statement of `judge`: what was read fixes the end, and what a verdict stands for fixes the verdict. Assumes nothing.
 use Prim.Native.Nat.{ℕ}
-use mathlib.Core.Path.{_≡_, sym, _∙_}
-use mathlib.Core.List.{List}
-use Rattle.counts.specs.Outcome.{Outcome}
+use mathlib.Core.Path.{_≡_, refl, sym, _∙_}
 use Rattle.counts.specs.OneOutcome.{OneOutcome}
-use Rattle.grammar.specs.Value.{Value}
-use Rattle.literal.specs.Forget.{forget}
-use Rattle.literal.specs.Rows.{Stands}
-use Rattle.sums.specs.declared.Totals.{Totals}
+use Rattle.tokens.specs.Node.{Node}
+use Rattle.tokens.specs.Got.{Got}
 use Rattle.sums.specs.declared.Verdict.{Verdict}
+use Rattle.sums.specs.Verdict.{verdict}
 use Rattle.sums.proofs.Outcomes.{verdict-one}
 use Rattle.descr.specs.declared.Judged.{Judged}
-use Rattle.descr.specs.Judges.{Judges}
+use Rattle.descr.specs.Judges.{JudgesAt}
 
 judged-eq : {d e : ℕ} {u v : Verdict} → d ≡ e → u ≡ v → _≡_ {A = Judged} (record { end = d; verdict = u }) (record { end = e; verdict = v })
 judged-eq he hv = cc
 
-pub judge-one : (k : ℕ) (s : List ℕ) (at : ℕ) (f : Value → Outcome Totals) → Stands k s at → OneOutcome {A = Judged} (λ r. Judges k s at f r)
-judge-one k s at f st x y p q =
-    let a = p .of-value (st .0) (st .1) (st .2) in
-    let b = q .of-value (st .0) (st .1) (st .2) in
-    judged-eq (a .0 ∙ sym (b .0)) (verdict-one (f (forget (st .0))) (x .verdict) (y .verdict) (a .1) (b .1))
+pub judge-one : (at : ℕ) (g : Got Node) → OneOutcome {A = Judged} (λ r. JudgesAt at g r)
+judge-one at g x y p q =
+    judged-eq {d = x .end} {e = y .end} {u = x .verdict} {v = y .verdict} (p .ends ∙ sym (q .ends))
+    (verdict-one (verdict (y .verdict)) (x .verdict) (y .verdict) (p .says ∙ sym (q .says)) refl)

@@ -9,9 +9,9 @@ use Rattle.counts.specs.Outcome.{Outcome, gives, refused, then, each, unless}
 use Rattle.grammar.specs.Value.{Value, Values, end-of-values, value-then}
 use Rattle.type_str.specs.TypeString.{typeString}
 use Rattle.dtype.specs.Dtype.{plain}
-use Rattle.record.specs.Descr.{twoOrThree, namedOf}
+use Rattle.record.specs.Descr.{descrOf, twoOrThree, namedOf}
 use Rattle.tokens.specs.Node.{Node, nodes}
-use Rattle.tokens.specs.Got.{got}
+use Rattle.tokens.specs.Got.{Got, got}
 use Rattle.tokens.specs.Text.{byteAt, kindOf}
 use Rattle.tokens.specs.Strings.{spelled}
 use Rattle.literal.specs.Literal.{value}
@@ -22,10 +22,16 @@ use Rattle.literal.specs.declared.gaps.Gap.{Gap}
 use Rattle.sums.specs.declared.Totals.{Totals}
 use Rattle.record.specs.Dimensions.{subShape}
 use Rattle.products.specs.Outline.{outlineOf}
+use Rattle.dims.specs.Answer.{valueOr, endOr}
 use Rattle.field.specs.Begins.{isString}
 use Rattle.sums.specs.Totals.{totalsOf, fieldTotals, nameTotals, arrayed}
 use Rattle.sums.specs.Verdict.{verdict, both}
 use Rattle.descr.specs.declared.Judged.{Judged}
+
+-- of what was read at `at`, as a descr. Where no value stands the answer is as for one of another form, and the end is the position itself
+pub record JudgesAt (at : ℕ) (g : Got Node) (r : Judged) : Type 0 where
+  pub ends : r .end ≡ endOr at g
+  pub says : verdict (r .verdict) ≡ then (valueOr 14 g) (λ v. each totalsOf (descrOf v))
 
 -- of the value at `at`, where k brackets more may open
 pub record Judges (k : ℕ) (s : List ℕ) (at : ℕ) (f : Value → Outcome Totals) (r : Judged) : Type 0 where

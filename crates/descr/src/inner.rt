@@ -1,4 +1,4 @@
-// The walk over a descr, for this project's own crates: what it judges has been read as a literal before, so that a value stands where it starts.
+// The walk over a descr: what it judges has been read as a literal before, so that a value stands where it starts.
 // `judge`, `fields`, `field` and `items` call each other in a cycle; each bracket that opens leaves one fewer. No walk stops early: it answers where
 // its value ends, also where it refuses, so that a wrong item count can come before what stands inside.
 use super::Judged;

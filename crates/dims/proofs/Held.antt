@@ -32,7 +32,7 @@ use Rattle.products.specs.declared.Verdict.{Verdict}
 use Rattle.products.specs.declared.Verdict.the-variants.{Good, Form, Large}
 use Rattle.products.specs.declared.Member as member
 use Rattle.products.specs.declared.Member.{Member}
-use Rattle.products.specs.Outline.{outlineOf, extendedBy}
+use Rattle.products.specs.Outline.{outlineOf, extendedTo, extendedBy}
 use Rattle.products.specs.Answer.{sized, outlined, rankOf}
 use Rattle.products.proofs.Outlines.{extends, outline-whole}
 use Rattle.dims.specs.Answer.{endOr, dimensionsAt, Judges}
@@ -89,7 +89,7 @@ met-end Large ns h = sym h
 
 -- a verdict counts one more at most
 pub rank-more : (v v′ : Verdict) (m : Member) → outlined v′ ≡ then (outlined v) (λ o. each (extendedBy o) (sized m)) → rankOf v′ ≤ rankOf v + 1
-unfolding extendedBy
+unfolding extendedTo
 rank-more v Form m h = omega arith
 rank-more v Large m h = omega arith
 rank-more Form (Good o) m h = absurd (let z : _≡_ {A = ℕ} 0 1 = cc in omega arith)

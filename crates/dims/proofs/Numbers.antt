@@ -3,7 +3,7 @@ use Prim.Native.Nat.{ℕ, zero, suc, _+_, _-_, _<_, _≤_, _^_}
 use native.Mathlib.Omega.{arith}
 use mathlib.Core.Path.{_≡_, refl, sym, ap, subst, _∙_}
 use mathlib.Core.List.{List, [], _∷_}
-use mathlib.Core.Bool.{Bool, true, false}
+use mathlib.Core.Bool.{Bool, true, false, _||_, cond}
 use lib.ListN.{length, drop}
 use lib.Dec.{eqb, lit<}
 use borrow.Author.Tests.{eqb-true, lt-leb, le-leb}
@@ -15,9 +15,11 @@ use Rattle.counts.specs.declared.Number.{Number}
 use Rattle.counts.specs.declared.Number.the-variants.{Is, Over}
 use Rattle.counts.proofs.Fits.{number-is-back, number-over-back}
 use Rattle.decimal.specs.Decimal.{isDigit, digitsOf, decimal}
+use Rattle.grammar.specs.Bytes.{isOpen}
+use Rattle.grammar.proofs.Texts.{true-false}
 use Rattle.record.specs.Dimensions.{signed, dimension}
 use Rattle.tokens.specs.Node.{Node}
-use Rattle.tokens.specs.Got.{got}
+use Rattle.tokens.specs.Got.{got, pos}
 use Rattle.literal.specs.Forget.{forget}
 use Rattle.tokens.specs.Text.{byteAt, part, kindOf, past}
 use Rattle.tokens.specs.Tokens.{naturalAt}
@@ -31,7 +33,8 @@ use Rattle.tokens.proofs.bytes.Kind.{the-type}
 use Rattle.tokens.proofs.Parsed as parsed
 use Rattle.tokens.proofs.Positions.{byte-in, digit-in, past-more, past-from}
 use Rattle.literal.proofs.Ends.{past-within}
-use Rattle.literal.proofs.Steps.{Stops, stops}
+use Rattle.tokens.proofs.Ends.{tokenEnd, token-ends}
+use Rattle.literal.proofs.Steps.{Stops, stops, value-token}
 use Rattle.literal.proofs.Left.{drop-left, digits-part}
 use Rattle.literal.proofs.View.{view}
 
@@ -97,6 +100,32 @@ module _ (s : List ℕ) (at : ℕ) where
 
   pub no-natural : {X : Type 0} (e : ℕ) (r : Parsed) → r ≡ naturalAt s at → OneOf (1 ∷ 2 ∷ []) (tagOf parsed.the-type r) → naturalAt s at ≡ Value e → X
   no-natural e r hr o h = absurd (subst Stops (hr ∙ h) (stops r o))
+
+-- ---- the value at a byte that opens no bracket ends as the token there
+abbrev pub isBracket : Kind → Bool
+isBracket Square = true
+isBracket Round = true
+isBracket Curly = true
+isBracket Quote = false
+isBracket Minus = false
+isBracket Digit = false
+isBracket TrueWord = false
+isBracket FalseWord = false
+isBracket NoneWord = false
+isBracket Other = false
+
+no-open : (b : ℕ) → isBracket (kindOf b) ≡ false → isOpen b ≡ false
+unfolding kindOf isOpen
+no-open b h = go (eqb b 91) (eqb b 40) (eqb b 123) _ h
+  where
+    go : (t u v : Bool) (rest : Kind) → isBracket (cond t Square (cond u Round (cond v Curly rest))) ≡ false → (t || u || v) ≡ false
+    go true u v rest e = true-false e
+    go false true v rest e = true-false e
+    go false false true rest e = true-false e
+    go false false false rest e = refl
+
+pub token-value : (k : ℕ) (s : List ℕ) (at : ℕ) (c : Kind) → kindOf (byteAt s at) ≡ c → isBracket c ≡ false → tokenEnd s at c ≡ pos (value k s at)
+token-value k s at c h n = token-ends s at c h ∙ ap pos (value-token s at k (no-open (byteAt s at) (ap isBracket h ∙ n)))
 
 -- ---- signs
 pub positive-is : (x : Number) (n m : ℕ) → x ≡ Is n → x ≡ number m → gives n ≡ signed false m

@@ -13,7 +13,7 @@ use Rattle.products.proofs.OneOutcome.{joined-one}
 use Rattle.dims.specs.declared.Judged.{Judged}
 use Rattle.dims.specs.Answer.{Judges}
 use Rattle.dims.specs.Walk.{closingOf}
-use Rattle.dims.specs.Fill.{Shape, Fills}
+use Rattle.dims.specs.Fill.{Stored}
 
 judged-eq : {e e′ : ℕ} {v v′ : Verdict} → e ≡ e′ → v ≡ v′ → _≡_ {A = Judged} (record { end = e; verdict = v }) (record { end = e′; verdict = v′ })
 judged-eq he hv = cc
@@ -30,8 +30,5 @@ pair-eq : {n m : ℕ} {a b : List ℕ} → n ≡ m → a ≡ b → _≡_ {A = �
 pair-eq hn ha = cc
 
 -- an outcome of `fill` is its answer and what `out` then holds
-pub fill-one : (g : Got Node) (out : List ℕ) → Shape g → OneOutcome {A = ℕ × List ℕ} (λ r. Fills g out (r .0) (r .1))
-fill-one g out w x y p q =
-    let a = p (w .0) (w .1) in
-    let b = q (w .0) (w .1) in
-    pair-eq (a .counted ∙ sym (b .counted)) (a .out-after ∙ sym (b .out-after))
+pub fill-one : (ns out : List ℕ) → OneOutcome {A = ℕ × List ℕ} (λ r. Stored ns out (r .0) (r .1))
+fill-one ns out x y p q = pair-eq (p .counted ∙ sym (q .counted)) (p .out-after ∙ sym (q .out-after))

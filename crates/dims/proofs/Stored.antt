@@ -1,19 +1,21 @@
 -- Storing the members of a shape. What is kept: the numbers that are left to put, put on the buffer as it is, give the due buffer. Then the shape around
--- them, and the buffer where there is room for all. Assumes nothing.
-use Prim.Native.Nat.{ℕ, suc, _+_, _<_, _≤_}
+-- them, whose dimensions these are all, and the buffer where there is room for all. Assumes nothing.
+use Prim.Native.Nat.{ℕ, zero, suc, _+_, _-_, _<_, _≤_}
+use native.Mathlib.Nat.{not-suc-le-zero}
 use native.Mathlib.Omega.{arith}
 use native.Mathlib.Numerals.{add-one}
 use mathlib.Core.Path.{_≡_, refl, sym, ap, subst, _∙_}
 use mathlib.Core.List.{List, [], _∷_}
-use mathlib.Core.Bool.{Bool, true, false}
+use mathlib.Core.Bool.{Bool, true, false, _||_}
 use lib.ListN.{length, set, length-set}
 use lib.Seq.{sets, sets-eq}
-use lib.Dec.{eqb}
-use borrow.Author.Tests.{eqb-true, eqb-false}
+use lib.Dec.{eqb, lit<}
+use borrow.Author.Tests.{eqb-true, eqb-false, ne-eqb}
 use denote.Enum.Declared.{tagOf}
 use types.Run.{OneOf, miss}
 use Rattle.counts.specs.Outcome.{Outcome, gives, refused, then, each}
 use Rattle.grammar.specs.Value.{Values}
+use Rattle.grammar.proofs.Texts.{true-false}
 use Rattle.record.specs.Parts.{membersOr}
 use Rattle.record.specs.Dimensions.{dimension, dimensions}
 use Rattle.record.specs.Rooms.{atFront}
@@ -23,109 +25,124 @@ use Rattle.literal.specs.Forget.{forget, forgetAll}
 use Rattle.tokens.specs.Text.{byteAt, kindOf}
 use Rattle.literal.specs.Literal.{value}
 use Rattle.literal.specs.Brackets.{gapAt, thenAt}
+use Rattle.literal.specs.Rows.{Row}
 use Rattle.tokens.specs.declared.bytes.Kind.{Kind}
+use Rattle.tokens.specs.declared.bytes.Kind.the-variants.{Square, Round, Curly, Quote, Minus, Digit, TrueWord, FalseWord, NoneWord, Other}
 use Rattle.tokens.specs.declared.Parsed.{Parsed}
 use Rattle.tokens.specs.declared.Parsed.the-variants.{Value}
 use Rattle.literal.specs.declared.gaps.Gap.{Gap}
-use Rattle.literal.specs.declared.gaps.Gap.the-variants.{Item}
+use Rattle.literal.specs.declared.gaps.Gap.the-variants.{Shut, Item, Stray}
 use Rattle.tokens.proofs.Parsed as parsed
+use Rattle.tokens.proofs.Positions.{kind-in}
 use Rattle.literal.proofs.gaps.Gap as gap
-use Rattle.literal.proofs.Ends.{GapAhead, value-ahead, then-ahead}
-use Rattle.literal.proofs.Steps.{read-ahead}
+use Rattle.literal.proofs.Ends.{Ahead, GapAhead, value-ahead, then-ahead}
+use Rattle.literal.proofs.Steps.{Stops, stops, thing, gapLeft, gap-enough, gap-falls, read-ahead}
 use Rattle.products.proofs.Member.{the-type}
 use Rattle.products.specs.declared.Member as member
 use Rattle.products.specs.declared.Member.{Member}
 use Rattle.products.specs.Answer.{sized}
 use Rattle.dims.specs.Answer.{dimensionsAt}
 use Rattle.dims.specs.Walk.{closingOf, dimensionsOf, SizeAt}
-use Rattle.dims.specs.Fill.{Stored, MembersFill}
-use Rattle.dims.proofs.Goes.{Goes, goes-start, goes-end, goes-item, goes-more, goes-stop, Counted, counted-none, counted-at, counted-more}
+use Rattle.dims.specs.Fill.{frontFrom, frontIn, frontAt, Stored, Fills}
+use Rattle.dims.proofs.Goes.{Counted, counted-none, counted-at, counted-more}
 use Rattle.dims.proofs.Held.{Bracket, bracket, no-bracket}
 
 -- ---- the loop
--- i numbers are put, and `out` was `old` at first
-abbrev pub Left : (old out : List ℕ) (i : ℕ) → List Node → List Node → Type 0
-Left old out i vs us = (ns : List ℕ) → dimensionsOf vs ≡ gives ns → (ms : List ℕ) × (dimensionsOf us ≡ gives ms) × (length ns ≡ i + length ms) × (sets out i ms ≡ sets old 0 ns)
+module _ (k : ℕ) (s : List ℕ) (close : ℕ) where
+  front-end : (m : ℕ) (g : Gap) → OneOf (0 ∷ 2 ∷ []) (tagOf gap.the-type g) → frontFrom (value k s) s close m g ≡ []
+  unfolding frontFrom
+  front-end zero g o = refl
+  front-end (suc m) (Shut e) o = refl
+  front-end (suc m) (Stray p) o = refl
+  front-end (suc m) (Item p) o = absurd (miss (0 ∷ 2 ∷ []) 1 tt o)
 
-pub left-start : (old : List ℕ) (vs : List Node) → Left old old 0 vs vs
-left-start old vs ns h = (ns, h, omega arith, refl)
+  front-stop : (m p : ℕ) (g : Got Node) → value k s p ≡ g → Stops (pos g) → frontFrom (value k s) s close m (Item p) ≡ []
+  unfolding frontFrom
+  front-stop zero p g h st = refl
+  front-stop (suc m) p (got v q) h st = absurd st
+  front-stop (suc m) p (fault e) h st = rw (frontFrom, h)
+  front-stop (suc m) p (deep e) h st = rw (frontFrom, h)
 
-parts : (d : Outcome ℕ) (ds : Outcome (List ℕ)) (ms : List ℕ) → then d (λ n. each (λ ns. n ∷ ns) ds) ≡ gives ms
-    → (n : ℕ) × (ts : List ℕ) × (d ≡ gives n) × (ds ≡ gives ts) × (ms ≡ n ∷ ts)
-parts (gives n) (gives ts) ms h = (n, ts, refl, refl, (let z : ms ≡ n ∷ ts = cc in z))
-parts (gives n) (refused m) ms h = absurd (let z : _≡_ {A = ℕ} 0 1 = cc in omega arith)
-parts (refused m) ds ms h = absurd (let z : _≡_ {A = ℕ} 0 1 = cc in omega arith)
+  front-none : (m p q j : ℕ) (v : Node) → value k s p ≡ got v q → dimension (forget v) ≡ refused j → frontFrom (value k s) s close m (Item p) ≡ []
+  unfolding frontFrom
+  front-none zero p q j v h d = refl
+  front-none (suc m) p q j v h d = rw (frontFrom, h, d)
 
-module _ (old out : List ℕ) (i : ℕ) (d : Member) (v : Node) (vs us : List Node) (hs : sized d ≡ dimension (forget v)) (w : Left old out i vs (v ∷ us)) where
-  next : (ns : List ℕ) → dimensionsOf vs ≡ gives ns
-      → (n : ℕ) × (ts : List ℕ) × (dimension (forget v) ≡ gives n) × (dimensionsOf us ≡ gives ts) × (length ns ≡ i + suc (length ts)) × (sets out i (n ∷ ts) ≡ sets old 0 ns)
-  unfolding forget forgetAll
-  next ns h =
-      let k = w ns h in
-      let x = parts (dimension (forget v)) (dimensionsOf us) (k .0) (k .1) in
-      (x .0, x .1, x .2, x .3, k .2 ∙ ap (λ (l : List ℕ). i + length l) (x .4), ap (λ (l : List ℕ). sets out i l) (sym (x .4)) ∙ k .3)
+  front-more : (m p q n : ℕ) (v : Node) → value k s p ≡ got v q → dimension (forget v) ≡ gives n → frontFrom (value k s) s close (suc m) (Item p) ≡ n ∷ frontFrom (value k s) s close m (thenAt s q close)
+  unfolding frontFrom
+  front-more m p q n v h d = rw (frontFrom, h, d)
 
-  pub left-more : (out′ : List ℕ) (n : ℕ) → d ≡ member.Member.Is n → out′ ≡ set out i n → Left old out′ (i + 1) vs us
-  left-more out′ n hd ho ns h =
-      let x = next ns h in
-      let g : gives n ≡ gives (x .0) = sym (ap sized hd) ∙ hs ∙ x .2 in
-      let y : n ≡ x .0 = cc in
-      let o : out′ ≡ set out i (x .0) = ho ∙ ap (λ (z : ℕ). set out i z) y in
-      (x .1, x .3, omega (arith, x .4), rw (add-one i, o) (x .5))
-
-  pub left-none : {X : Type 0} → OneOf (1 ∷ 2 ∷ []) (tagOf the-type d) → (ns : List ℕ) → dimensionsOf vs ≡ gives ns → X
-  left-none o ns h = absurd (go d hs o)
-    where
-      go : (d : Member) → sized d ≡ dimension (forget v) → OneOf (1 ∷ 2 ∷ []) (tagOf the-type d) → ⊥
-      go (member.Member.Is n) hs o = miss (1 ∷ 2 ∷ []) 0 tt o
-      go member.Member.Form hs o = let x = next ns h .2 in let z : _≡_ {A = ℕ} 0 1 = cc in omega arith
-      go member.Member.Large hs o = let x = next ns h .2 in let z : _≡_ {A = ℕ} 0 1 = cc in omega arith
-
-pub left-end : (old out : List ℕ) (i : ℕ) (vs : List Node) → Left old out i vs [] → (ns : List ℕ) → dimensionsOf vs ≡ gives ns → Stored ns old i out
-unfolding forget forgetAll
-left-end old out i vs w ns h =
-    let k = w ns h in
-    let g : gives [] ≡ gives (k .0) = k .1 in
-    let z : [] ≡ k .0 = cc in
-    record { counted = omega (arith, k .2, ap length z); out-after = ap (λ (l : List ℕ). sets out i l) z ∙ k .3 }
-
+-- i numbers are put, `out` was `old` at first, and the numbers from the gap on are left
 pub record Filling (k : ℕ) (s : List ℕ) (close from : ℕ) (old out : List ℕ) (g : Gap) (i : ℕ) : Type 0 where
-  pub along : Goes (value k s) s close from (Left old out i) g
+  pub bound : ℕ
+  pub enough : gapLeft (length s) g < bound
+  pub left : length (frontIn k s from close) ≡ i + length (frontFrom (value k s) s close bound g)
+  pub puts : sets out i (frontFrom (value k s) s close bound g) ≡ sets old 0 (frontIn k s from close)
   pub counted : Counted i g
   pub same : length out ≡ length old
 
 pub filling-start : (k : ℕ) (s : List ℕ) (close from : ℕ) (old : List ℕ) (g : Gap) → g ≡ gapAt s from close → Filling k s close from old old g 0
-filling-start k s close from old g hg = record { along = goes-start (value k s) s close from (Left old old 0) g hg (left-start old); counted = counted-none g; same = refl }
+filling-start k s close from old g hg =
+    let e : frontFrom (value k s) s close (length s + 2) g ≡ frontIn k s from close = ap (frontFrom (value k s) s close (length s + 2)) hg in
+    record { bound = length s + 2; enough = gap-enough (length s) g; left = omega (arith, ap length e); puts = ap (sets old 0) e; counted = counted-none g; same = refl }
 
 module _ (k : ℕ) (s : List ℕ) (close from : ℕ) (old out : List ℕ) (g : Gap) (i : ℕ) (w : Filling k s close from old out g i) where
-  pub filling-end : OneOf (0 ∷ 2 ∷ []) (tagOf gap.the-type g) → MembersFill k s from close old i out
-  filling-end o vs e r ns h = left-end old out i vs (goes-end (value k s) s close from (Left old out i) g (w .along) o vs e r) ns h
+  none-left : frontFrom (value k s) s close (w .bound) g ≡ [] → Stored (frontIn k s from close) old i out
+  none-left e = record { counted = omega (arith, w .left, ap length e); out-after = ap (sets out i) (sym e) ∙ w .puts }
+
+  pub filling-end : OneOf (0 ∷ 2 ∷ []) (tagOf gap.the-type g) → Stored (frontIn k s from close) old i out
+  filling-end o = none-left (front-end k s close (w .bound) g o)
+
+  at-item : (p : ℕ) → g ≡ Item p → frontFrom (value k s) s close (w .bound) (Item p) ≡ [] → Stored (frontIn k s from close) old i out
+  at-item p hp e = none-left (ap (frontFrom (value k s) s close (w .bound)) hp ∙ e)
 
   module _ (p : ℕ) (v : Parsed) (hp : g ≡ Item p) (hv : v ≡ pos (value k s p)) where
-    pub filling-stop : OneOf (1 ∷ 2 ∷ []) (tagOf parsed.the-type v) → MembersFill k s from close old i out
-    filling-stop o vs e r ns h = goes-stop (value k s) s close from (Left old out i) g p v (w .along) hp hv o vs e r
+    pub filling-stop : OneOf (1 ∷ 2 ∷ []) (tagOf parsed.the-type v) → Stored (frontIn k s from close) old i out
+    filling-stop o = at-item p hp (front-stop k s close (w .bound) p (value k s p) refl (subst Stops hv (stops v o)))
 
-    module _ (d : Member) (hd : SizeAt s p d) where
-      pub filling-none : OneOf (1 ∷ 2 ∷ []) (tagOf the-type d) → MembersFill k s from close old i out
-      filling-none o vs e r ns h =
-          let x = goes-item (value k s) s close from (Left old out i) g p (w .along) hp vs e r in
-          left-none old out i d (x .0) vs (x .1) (hd k (x .0) (x .2) (x .3)) (x .4) o ns h
+    module _ (d : Member) (hd : SizeAt s p d) (q : ℕ) (hq : v ≡ Value q) where
+      there : (n : Node) × (value k s p ≡ got n q)
+      there = thing (value k s p) q (sym hq ∙ hv)
 
-      module _ (q : ℕ) (hq : v ≡ Value q) (small : close < 256) where
-        pub filling-count : (i ≤ p) × (p < q) × (q ≤ length s)
-        filling-count =
-            let a = read-ahead p (length s) q v _ hv hq (value-ahead k s p) in
-            (counted-at i p g (w .counted) hp, a .0, a .1)
+      size : sized d ≡ dimension (forget (there .0))
+      size = hd k (there .0) q (there .1)
 
-        pub filling-more : (out′ : List ℕ) (g′ : Gap) (n : ℕ) → d ≡ member.Member.Is n → out′ ≡ set out i n → g′ ≡ thenAt s q close → Filling k s close from old out′ g′ (i + 1)
-        filling-more out′ g′ n hn ho hg =
+      none-by : (x : Member) → d ≡ x → OneOf (1 ∷ 2 ∷ []) (tagOf the-type x) → frontFrom (value k s) s close (w .bound) (Item p) ≡ []
+      none-by (member.Member.Is n) h o = absurd (miss (1 ∷ 2 ∷ []) 0 tt o)
+      none-by member.Member.Form h o = front-none k s close (w .bound) p q 11 (there .0) (there .1) (sym size ∙ ap sized h)
+      none-by member.Member.Large h o = front-none k s close (w .bound) p q 12 (there .0) (there .1) (sym size ∙ ap sized h)
+
+      pub filling-none : OneOf (1 ∷ 2 ∷ []) (tagOf the-type d) → Stored (frontIn k s from close) old i out
+      filling-none o = at-item p hp (none-by d refl o)
+
+      pub filling-count : (i ≤ p) × (p < q) × (q ≤ length s)
+      filling-count =
+          let a = read-ahead p (length s) q v _ hv hq (value-ahead k s p) in
+          (counted-at i p g (w .counted) hp, a .0, a .1)
+
+      module _ (small : close < 256) (out′ : List ℕ) (g′ : Gap) (n : ℕ) (hn : d ≡ member.Member.Is n) (ho : out′ ≡ set out i n) (hg : g′ ≡ thenAt s q close) where
+        behind : GapAhead q (length s) g′
+        behind = subst (λ (x : Gap). GapAhead q (length s) x) (sym hg) (then-ahead s q close small)
+
+        more-by : (b : ℕ) → gapLeft (length s) g < b → length (frontIn k s from close) ≡ i + length (frontFrom (value k s) s close b g) → sets out i (frontFrom (value k s) s close b g) ≡ sets old 0 (frontIn k s from close)
+            → Filling k s close from old out′ g′ (i + 1)
+        more-by zero lt hl hs = absurd (not-suc-le-zero lt)
+        more-by (suc b) lt hl hs =
             let a = filling-count in
+            let e : frontFrom (value k s) s close (suc b) g ≡ n ∷ frontFrom (value k s) s close b g′ =
+            ap (frontFrom (value k s) s close (suc b)) hp ∙ front-more k s close b p q n (there .0) (there .1) (sym size ∙ ap sized hn) ∙ ap (λ (x : Gap). n ∷ frontFrom (value k s) s close b x) (sym hg) in
+            let falls = gap-falls p q (length s) g′ (a .1) (a .2) behind in
             record {
-              along = goes-more (value k s) s close from (Left old out i) (Left old out′ (i + 1)) g g′ p q v (w .along) hp hq hv hg
-                  (λ m vs us hm f. left-more old out i d m vs us (hd k m q hm) f out′ n hn ho);
-              counted = counted-more i (i + 1) p q (length s) g′ (a .0) (omega arith) (a .1) (subst (λ (x : Gap). GapAhead q (length s) x) (sym hg) (then-ahead s q close small));
+              bound = b;
+              enough = omega (arith, ap (gapLeft (length s)) hp);
+              left = omega (arith, ap length e);
+              puts = rw (add-one i, ho) (ap (sets out i) (sym e) ∙ hs);
+              counted = counted-more i (i + 1) p q (length s) g′ (a .0) (omega arith) (a .1) behind;
               same = ap length ho ∙ length-set out i n ∙ w .same;
             }
+
+        pub filling-more : Filling k s close from old out′ g′ (i + 1)
+        filling-more = more-by (w .bound) (w .enough) (w .left) (w .puts)
 
 -- ---- the shape
 pub record ShapeAt (k : ℕ) (s : List ℕ) (at close : ℕ) (ns : List ℕ) : Type 0 where
@@ -133,6 +150,7 @@ pub record ShapeAt (k : ℕ) (s : List ℕ) (at close : ℕ) (ns : List ℕ) : T
   pub end : ℕ
   pub is : Bracket k s at node end close
   pub gives-them : dimensionsOf (is .held) ≡ gives ns
+  pub some : eqb close 0 ≡ false
 
 module _ (k : ℕ) (s : List ℕ) (at : ℕ) (ns : List ℕ) (c : Kind) (hk : c ≡ kindOf (byteAt s at)) where
   bracket-or : (n : Node) (e : ℕ) → value k s at ≡ got n e → then (membersOr 11 (forget n)) dimensions ≡ gives ns → (t : Bool) → eqb (closingOf c) 0 ≡ t → ShapeAt k s at (closingOf c) ns
@@ -142,7 +160,7 @@ module _ (k : ℕ) (s : List ℕ) (at : ℕ) (ns : List ℕ) (c : Kind) (hk : c 
       absurd (let z : _≡_ {A = ℕ} 0 1 = cc in omega arith)
   bracket-or n e hv h false z =
       let b = bracket k s at e n hv c (sym hk) (eqb-false _ _ z) in
-      record { node = n; end = e; is = b; gives-them = sym (ap (λ (o : Outcome Values). then o dimensions) (b .holds 11)) ∙ h }
+      record { node = n; end = e; is = b; gives-them = sym (ap (λ (o : Outcome Values). then o dimensions) (b .holds 11)) ∙ h; some = z }
 
   read-or : (g : Got Node) → value k s at ≡ g → dimensionsAt g ≡ gives ns → ShapeAt k s at (closingOf c) ns
   read-or (got n e) hv h = bracket-or n e hv h (eqb (closingOf c) 0) refl
@@ -151,6 +169,87 @@ module _ (k : ℕ) (s : List ℕ) (at : ℕ) (ns : List ℕ) (c : Kind) (hk : c 
 
   pub shape-at : (close : ℕ) → close ≡ closingOf c → dimensionsAt (value k s at) ≡ gives ns → ShapeAt k s at close ns
   shape-at close hc h = subst (λ (x : ℕ). ShapeAt k s at x ns) (sym hc) (read-or (value k s at) refl h)
+
+-- ---- whether a list or tuple may stand at the position
+inside-by : (s : List ℕ) (at : ℕ) (c : Kind) → kindOf (byteAt s at) ≡ c → (closingOf c ≡ 0 → ⊥) → at < length s
+inside-by s at Square h z = kind-in s at h refl
+inside-by s at Round h z = kind-in s at h refl
+inside-by s at Curly h z = absurd (z refl)
+inside-by s at Quote h z = absurd (z refl)
+inside-by s at Minus h z = absurd (z refl)
+inside-by s at Digit h z = absurd (z refl)
+inside-by s at TrueWord h z = absurd (z refl)
+inside-by s at FalseWord h z = absurd (z refl)
+inside-by s at NoneWord h z = absurd (z refl)
+inside-by s at Other h z = absurd (z refl)
+
+neither : (a b : Bool) → (a || b) ≡ false → (a ≡ false) × (b ≡ false)
+neither true b h = true-false h
+neither false b h = (refl, h)
+
+module _ (s : List ℕ) (at close : ℕ) (hc : close ≡ closingOf (kindOf (byteAt s at))) where
+  pub front-nothing : (k : ℕ) → (eqb close 0 || eqb k 0) ≡ true → [] ≡ frontAt k s at
+  unfolding frontAt
+  front-nothing k h =
+      let z : (eqb (closingOf (kindOf (byteAt s at))) 0 || eqb k 0) ≡ true = ap (λ (x : ℕ). eqb x 0 || eqb k 0) (sym hc) ∙ h in
+      rw (frontAt, z)
+
+  pub front-some : (k : ℕ) → (eqb close 0 || eqb k 0) ≡ false → (0 < k) × (at < length s) × (frontIn (k - 1) s (at + 1) close ≡ frontAt k s at)
+  unfolding frontAt
+  front-some k h =
+      let o = neither (eqb close 0) (eqb k 0) h in
+      let z : eqb (closingOf (kindOf (byteAt s at))) 0 ≡ false = ap (λ (x : ℕ). eqb x 0) (sym hc) ∙ o .0 in
+      let n : k ≡ 0 → ⊥ = eqb-false k 0 (o .1) in
+      (omega (arith, n), inside-by s at (kindOf (byteAt s at)) refl (eqb-false _ _ z), rw (frontAt, z, o .1, hc))
+
+-- ---- of a shape these are all its dimensions
+parts : (d : Outcome ℕ) (ds : Outcome (List ℕ)) (ms : List ℕ) → then d (λ n. each (λ ns. n ∷ ns) ds) ≡ gives ms
+    → (n : ℕ) × (ts : List ℕ) × (d ≡ gives n) × (ds ≡ gives ts) × (ms ≡ n ∷ ts)
+parts (gives n) (gives ts) ms h = (n, ts, refl, refl, (let z : ms ≡ n ∷ ts = cc in z))
+parts (gives n) (refused m) ms h = absurd (let z : _≡_ {A = ℕ} 0 1 = cc in omega arith)
+parts (refused m) ds ms h = absurd (let z : _≡_ {A = ℕ} 0 1 = cc in omega arith)
+
+module _ (k : ℕ) (s : List ℕ) (close : ℕ) (small : close < 256) where
+  front-row : (m : ℕ) (g : Gap) (vs : List Node) (e : ℕ) (ns : List ℕ) → gapLeft (length s) g < m → Row (value k s) s close vs g e → dimensionsOf vs ≡ gives ns → frontFrom (value k s) s close m g ≡ ns
+  unfolding frontFrom forget forgetAll
+  front-row zero g vs e ns lt h d = absurd (not-suc-le-zero lt)
+  front-row (suc m) (Shut p) [] e ns lt h d = let z : [] ≡ ns = cc in z
+  front-row (suc m) (Shut p) (v ∷ vs) e ns lt h d = absurd h
+  front-row (suc m) (Stray p) [] e ns lt h d = absurd h
+  front-row (suc m) (Stray p) (v ∷ vs) e ns lt h d = absurd h
+  front-row (suc m) (Item p) [] e ns lt h d = absurd h
+  front-row (suc m) (Item p) (v ∷ vs) e ns lt h d =
+      let q = h .0 in
+      let x = parts (dimension (forget v)) (dimensionsOf vs) ns d in
+      let ahead : (p < q) × (q ≤ length s) = subst (λ (g : Got Node). Ahead p (length s) (pos g)) (h .1) (value-ahead k s p) in
+      let falls = gap-falls p q (length s) (thenAt s q close) (ahead .0) (ahead .1) (then-ahead s q close small) in
+      let ih = front-row m (thenAt s q close) vs e (x .1) (omega arith) (h .2) (x .3) in
+      front-more k s close m p q (x .0) v (h .1) (x .2) ∙ ap (λ (l : List ℕ). x .0 ∷ l) ih ∙ sym (x .4)
+
+closing-small : (c : Kind) → closingOf c < 256
+closing-small Square = lit< tt
+closing-small Round = lit< tt
+closing-small Curly = lit< tt
+closing-small Quote = lit< tt
+closing-small Minus = lit< tt
+closing-small Digit = lit< tt
+closing-small TrueWord = lit< tt
+closing-small FalseWord = lit< tt
+closing-small NoneWord = lit< tt
+closing-small Other = lit< tt
+
+pub front-shape : (k : ℕ) (s : List ℕ) (at : ℕ) (ns : List ℕ) → dimensionsAt (value k s at) ≡ gives ns → frontAt k s at ≡ ns
+unfolding frontAt
+front-shape k s at ns h =
+    let c = kindOf (byteAt s at) in
+    let x = shape-at k s at ns c refl (closingOf c) refl h in
+    let l : 0 < k = x .is .room in
+    rw (frontAt, x .some, ne-eqb k 0 (λ (z : k ≡ 0). omega arith))
+    (front-row (k - 1) s (closingOf c) (closing-small c) (length s + 2) (gapAt s (at + 1) (closingOf c)) (x .is .held) (x .end) ns (gap-enough (length s) (gapAt s (at + 1) (closingOf c))) (x .is .row) (x .gives-them))
+
+-- what storing a shape owes
+pub stored-shape : (k : ℕ) (s : List ℕ) (at : ℕ) (out : List ℕ) (r : ℕ) (out′ : List ℕ) → Stored (frontAt k s at) out r out′ → Fills (value k s at) out r out′
+stored-shape k s at out r out′ w ns h = subst (λ (l : List ℕ). Stored l out r out′) (front-shape k s at ns h) w
 
 -- ---- where there is room for all
 pub stored-over : (ns old : List ℕ) → length ns ≤ length old → sets old 0 ns ≡ atFront ns old

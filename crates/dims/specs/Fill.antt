@@ -1,31 +1,52 @@
 -- Storing dimensions. Document 01, "The refusal numbers": "On success, room beyond what was needed is unchanged." Where there is room for them, `sets`
 -- from the front is the numbers and then what stood behind them (proofs/Stored.antt). Definitions only. Assumes nothing.
-use Prim.Native.Nat.{ℕ}
+use Prim.Native.Nat.{ℕ, zero, suc, _+_, _-_}
 use mathlib.Core.Path.{_≡_}
-use mathlib.Core.List.{List}
+use mathlib.Core.List.{List, [], _∷_}
+use mathlib.Core.Bool.{_||_, cond}
 use lib.ListN.{length}
 use lib.Seq.{sets}
-use Rattle.counts.specs.Outcome.{gives}
+use lib.Dec.{eqb}
+use Rattle.counts.specs.Outcome.{gives, refused}
+use Rattle.record.specs.Dimensions.{dimension}
 use Rattle.tokens.specs.Node.{Node}
-use Rattle.tokens.specs.Got.{Got}
+use Rattle.tokens.specs.Got.{Got, got, fault, deep}
+use Rattle.tokens.specs.Text.{byteAt, kindOf}
+use Rattle.literal.specs.Forget.{forget}
 use Rattle.literal.specs.Literal.{value}
-use Rattle.literal.specs.Brackets.{gapAt}
-use Rattle.literal.specs.Rows.{Row}
+use Rattle.literal.specs.Brackets.{gapAt, thenAt}
+use Rattle.literal.specs.declared.gaps.Gap.{Gap}
+use Rattle.literal.specs.declared.gaps.Gap.the-variants.{Shut, Item, Stray}
 use Rattle.dims.specs.Answer.{dimensionsAt}
-use Rattle.dims.specs.Walk.{dimensionsOf}
+use Rattle.dims.specs.Walk.{closingOf}
 
--- what was read is a shape or sub-shape
-abbrev pub Shape : Got Node → Type 0
-Shape g = (ns : List ℕ) × (dimensionsAt g ≡ gives ns)
+-- the dimensions from a gap on, fewer than m: as far as each item is one
+unfoldable pub frontFrom : (ℕ → Got Node) → List ℕ → ℕ → ℕ → Gap → List ℕ
+frontFrom rd s close zero g = []
+frontFrom rd s close (suc m) (Shut e) = []
+frontFrom rd s close (suc m) (Stray p) = []
+frontFrom rd s close (suc m) (Item p) = elim (rd p) [
+  | got v q ↦ elim (dimension (forget v)) [ gives n ↦ n ∷ frontFrom rd s close m (thenAt s q close) | refused j ↦ [] ]
+  | fault a ↦ []
+  | deep a ↦ []
+]
+
+-- those of the members from a position up to the bracket
+abbrev pub frontIn : ℕ → List ℕ → ℕ → ℕ → List ℕ
+frontIn k s from close = frontFrom (value k s) s close (length s + 2) (gapAt s from close)
+
+-- those of the list or tuple at a position, where k brackets more may open: all of a shape (`front-shape`, proofs/Stored.antt), none where no such
+-- bracket may stand
+unfoldable pub frontAt : ℕ → List ℕ → ℕ → List ℕ
+frontAt k s at =
+    cond (eqb (closingOf (kindOf (byteAt s at))) 0 || eqb k 0) []
+    (frontIn (k - 1) s (at + 1) (closingOf (kindOf (byteAt s at))))
 
 -- the dimensions ns were stored, and counted
 pub record Stored (ns out : List ℕ) (r : ℕ) (out′ : List ℕ) : Type 0 where
   pub counted : r ≡ length ns
   pub out-after : out′ ≡ sets out 0 ns
 
+-- what storing a shape owes
 abbrev pub Fills : Got Node → (out : List ℕ) (r : ℕ) (out′ : List ℕ) → Type 0
 Fills g out r out′ = (ns : List ℕ) → dimensionsAt g ≡ gives ns → Stored ns out r out′
-
--- the same of the members from a position up to the bracket
-abbrev pub MembersFill : ℕ → List ℕ → ℕ → ℕ → (out : List ℕ) (r : ℕ) (out′ : List ℕ) → Type 0
-MembersFill k s from close out r out′ = (vs : List Node) (e : ℕ) → Row (value k s) s close vs (gapAt s from close) e → (ns : List ℕ) → dimensionsOf vs ≡ gives ns → Stored ns out r out′

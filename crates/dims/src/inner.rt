@@ -1,31 +1,32 @@
-// Storing the dimensions of a shape that was judged good: for the crates of the header reader, which judge first.
+// Storing the dimensions of a shape: for the crates of the header reader, which judge first. No function here has a `requires`.
 use super::closing;
-use super::dimension;
+use super::member_at;
 use literal::gaps::Gap;
 use literal::gaps::gap_at;
 use literal::gaps::then_at;
-use literal::value;
 use products::Member;
 use tokens::Parsed;
 use tokens::bytes::kind_of;
 use tokens::bytes::peek;
 ghost use mathlib.Core.Path.{_≡_};
 ghost use lib.ListN.{set};
-ghost use Rattle.literal.specs.Literal.{value as valueOf};
-ghost use Rattle.dims.specs.Fill.{Shape, Fills, MembersFill};
+ghost use Rattle.dims.specs.Fill.{frontIn, frontAt, Stored};
 
-// Writes the dimensions of the shape at `at` to the front of `out`, as many as have room there, and answers how many they are.
+// Writes the dimensions of the shape at `at` to the front of `out`, as many as have room there, and answers how many they are. Of a list or tuple that is
+// no shape these are the members before the first that is no dimension, and of anything else none.
 pub fn fill(text: &[u8], at: usize, room: usize, out: &mut [u64]) -> usize
-    requires { ⌜ Shape (valueOf room (now text) at) ⌝ }
-    ensures { λ r. ⌜ Fills (valueOf room (now (text .entry)) at) (now (out .entry)) r (now (out .exit)) ⌝ }
+    ensures { λ r. ⌜ Stored (frontAt room (now (text .entry)) at) (now (out .entry)) r (now (out .exit)) ⌝ }
 {
     let close = closing(kind_of(peek(text, at)));
+    if (close == 0) | (room == 0) {
+        return 0;
+    }
     fill_members(text, at + 1, close, room - 1, out)
 }
 
 // The members from `from` up to the closing bracket.
 fn fill_members(text: &[u8], from: usize, close: u8, room: usize, out: &mut [u64]) -> usize
-    ensures { λ r. ⌜ MembersFill room (now (text .entry)) from close (now (out .entry)) r (now (out .exit)) ⌝ }
+    ensures { λ r. ⌜ Stored (frontIn room (now (text .entry)) from close) (now (out .entry)) r (now (out .exit)) ⌝ }
 {
     let mut g = gap_at(text, from, close);
     let mut i: usize = 0;
@@ -33,12 +34,13 @@ fn fill_members(text: &[u8], from: usize, close: u8, room: usize, out: &mut [u64
         let Gap::Item(p) = g else {
             return i;
         };
-        let v = value(text, p, room);
-        let Parsed::Value(q) = v else {
+        let m = member_at(text, p, room);
+        let ended = m.ended;
+        let size = m.size;
+        let Parsed::Value(q) = ended else {
             return i;
         };
-        let d = dimension(text, p);
-        let Member::Is(n) = d else {
+        let Member::Is(n) = size else {
             return i;
         };
         put(out, i, n);

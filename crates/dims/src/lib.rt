@@ -23,6 +23,7 @@ ghost use Rattle.decimal.specs.Decimal.{decimal};
 ghost use Rattle.record.specs.Dimensions.{signed};
 ghost use mathlib.Core.Bool.{true, false};
 ghost use Rattle.literal.specs.Literal.{value as valueOf};
+ghost use Rattle.tokens.specs.Got.{pos};
 ghost use Rattle.tokens.specs.Text.{part};
 ghost use Rattle.tokens.specs.Tokens.{naturalAt};
 ghost use Rattle.products.specs.Answer.{sized};
@@ -33,6 +34,18 @@ ghost use Rattle.dims.specs.Walk.{closingOf, SizeAt, MembersFrom};
 pub struct Judged {
     pub end: usize,
     pub verdict: Verdict,
+}
+
+// How the text of a member ends, and the dimension that it is.
+struct Item {
+    ended: Parsed,
+    size: Member,
+}
+
+// How the text of a number ends, and its number.
+struct Digits {
+    ended: Parsed,
+    number: Number,
 }
 
 // Judges the value at `at`, where `room` brackets more may open at once. Every member is looked at, and the first bad one decides.
@@ -77,14 +90,31 @@ pub fn closing(k: Kind) -> u8
     }
 }
 
-// The dimension that the value at `at` is.
-fn dimension(text: &[u8], at: usize) -> Member
-    ensures { λ r. ⌜ SizeAt (now (text .entry)) at r ⌝ }
+// The value at `at`: how it ends, and the dimension that it is.
+fn member_at(text: &[u8], at: usize, room: usize) -> Item
+    ensures { λ r. ⌜ r .ended ≡ pos (valueOf room (now (text .entry)) at) ⌝ }
+    ensures { λ r. ⌜ SizeAt (now (text .entry)) at (r .size) ⌝ }
 {
     let k = kind_of(peek(text, at));
     match k {
-        Kind::Digit => positive(digits_at(text, at)),
-        Kind::Minus => negative(digits_at(text, at + 1)),
+        Kind::Digit => {
+            let d = digits_at(text, at);
+            let ended = d.ended;
+            let number = d.number;
+            Item {
+                ended: ended,
+                size: positive(number),
+            }
+        }
+        Kind::Minus => {
+            let d = digits_at(text, at + 1);
+            let ended = d.ended;
+            let number = d.number;
+            Item {
+                ended: ended,
+                size: negative(number),
+            }
+        }
         Kind::Square
         | Kind::Round
         | Kind::Curly
@@ -92,7 +122,10 @@ fn dimension(text: &[u8], at: usize) -> Member
         | Kind::TrueWord
         | Kind::FalseWord
         | Kind::NoneWord
-        | Kind::Other => Member::Form,
+        | Kind::Other => Item {
+            ended: value(text, at, room),
+            size: Member::Form,
+        },
     }
 }
 
@@ -111,24 +144,35 @@ fn members(text: &[u8], from: usize, close: u8, room: usize) -> Verdict
         let Gap::Item(p) = g else {
             return verdict;
         };
-        let v = value(text, p, room);
-        let Parsed::Value(q) = v else {
+        let m = member_at(text, p, room);
+        let ended = m.ended;
+        let size = m.size;
+        let Parsed::Value(q) = ended else {
             return verdict;
         };
-        verdict = joined(verdict, dimension(text, p));
+        verdict = joined(verdict, size);
         g = then_at(text, q, close);
     }
 }
 
-// The number that the digits at `at` write.
-fn digits_at(text: &[u8], at: usize) -> Number
-    ensures { λ r. ⌜ ((e : ℕ) → naturalAt (now (text .entry)) at ≡ Parsed.Value e → r ≡ number (decimal (part (now (text .entry)) at e))) ⌝ }
+// The digits at `at`: how they end, and the number that they write.
+fn digits_at(text: &[u8], at: usize) -> Digits
+    ensures { λ r. ⌜ r .ended ≡ naturalAt (now (text .entry)) at ⌝ }
+    ensures { λ r. ⌜ ((e : ℕ) → naturalAt (now (text .entry)) at ≡ Parsed.Value e → r .number ≡ number (decimal (part (now (text .entry)) at e))) ⌝ }
 {
     let n = natural(text, at);
     let Parsed::Value(e) = n else {
-        return Number::Over;
+        return Digits {
+            ended: n,
+            number: Number::Over,
+        };
     };
-    decimal::read(&text[at..e]).number
+    let read = decimal::read(&text[at..e]);
+    let number = read.number;
+    Digits {
+        ended: n,
+        number: number,
+    }
 }
 
 // A number without a `-`.

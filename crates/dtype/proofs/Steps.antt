@@ -18,22 +18,10 @@ use Rattle.dtype.specs.Limits.{over, someOver}
 use Rattle.dtype.specs.Paths.{plainAt, plainOf, offset}
 use Rattle.dtype.specs.Agrees.{entryAt}
 use Rattle.dtype.specs.Seen.{fieldAt, fieldBytes}
+use Rattle.dtype.specs.Leads.{Leads}
 use Rattle.dtype.proofs.Stands.{stands-entry, stands-below, stands-after}
 use Rattle.dtype.proofs.Record.{type-back}
 use Rattle.dtype.proofs.Seen.{or-left, or-right, bytes-exact}
-
--- the number i leads from d, which ends before entry `end`, to the dtype `inner` at entry `at`, `before` bytes further
-pub record Leads (t : List ℕ) (d : Dtype) (end i at before : ℕ) : Type 0 where
-  pub inner : Dtype
-  pub up : ℕ
-  pub name : ℕ
-  pub rest : List ℕ
-  pub stands : drop (entry-width * at) t ≡ flat inner at up name rest
-  pub within : at + entriesOf inner ≤ end
-  pub same-plain : (p : List ℕ) → plainAt d (i ∷ p) ≡ plainAt inner p
-  pub further : (p : List ℕ) → offset d (i ∷ p) ≡ before + offset inner p
-  pub inside : before + sizeOf inner ≤ sizeOf d
-  pub none-over : someOver inner ≡ false
 
 pub array-leads : (n : ℕ) (d : Dtype) (t : List ℕ) (e up m : ℕ) (x : List ℕ) (i : ℕ) → drop (entry-width * e) t ≡ flat (array n d) e up m x
     → someOver (array n d) ≡ false → i < n → Leads t (array n d) (e + entriesOf (array n d)) i (suc e) (i * entryAt t (suc e) .bytes)

@@ -1,3 +1,4 @@
 pub mod Stores
 pub mod Levels
+pub mod Lifts
 pub mod Outcomes

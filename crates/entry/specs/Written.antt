@@ -1,23 +1,19 @@
--- What is written for a plain type, and for the array levels of a sub-shape above their type. Document 01, "The record": "The dtype table is listed depth
--- first, left to right, parent first: one entry for each plain type, array level and record." The table itself is crate dtype's. Definitions only. Assumes
--- nothing.
-use Prim.Native.Nat.{ℕ, zero, suc, _+_, _*_, _<_, _≤_}
-use mathlib.Core.Path.{_≡_}
-use mathlib.Core.List.{List, []}
-use lib.ListN.{length, drop}
+-- What is written for a plain type, for a record, and for the array levels of a sub-shape above their type. Document 01, "The record": "The dtype table is
+-- listed depth first, left to right, parent first: one entry for each plain type, array level and record." The table itself is crate dtype's. Definitions
+-- only. Assumes nothing.
+use Prim.Native.Nat.{ℕ, zero, suc, _+_, _-_, _*_, _/_, _%_}
+use mathlib.Core.List.{List, [], _∷_}
+use mathlib.Core.Bool.{cond}
+use lib.Dec.{ltb, eqb}
+use lib.ListN.{length, take, drop}
 use lib.Seq.{sets}
-use Rattle.counts.specs.Outcome.{gives}
 use Rattle.spelling.specs.declared.Endianness.the-variants.{Irrelevant}
 use Rattle.spelling.specs.declared.TypeChar.the-variants.{Object}
 use Rattle.units.specs.declared.TimeUnits.the-variants.{Absent}
 use Rattle.type_str.specs.declared.TypeStr.{TypeStr}
 use Rattle.type_str.specs.declared.TypeRead.{TypeRead}
-use Rattle.dtype.specs.Dtype.{Dtype, sizeOf}
-use Rattle.dtype.specs.Entries.{entriesOf}
-use Rattle.dtype.specs.Flat.{entry-width, saturated, flat}
-use Rattle.record.specs.Descr.{arrays}
-use Rattle.literal.specs.Literal.{value}
-use Rattle.dims.specs.Answer.{dimensionsAt}
+use Rattle.dtype.specs.declared.Entry.{Entry}
+use Rattle.dtype.specs.Flat.{entry-width, saturated, numbers}
 
 -- the type that was read; where none was, what stands for it
 abbrev pub noType : TypeStr
@@ -31,6 +27,15 @@ typeIn TypeRead.ByteOrder = noType
 typeIn TypeRead.Size = noType
 typeIn TypeRead.Units = noType
 
+-- a table with e as its entry number `at`, where it has room for that
+abbrev pub put : (table : List ℕ) (at : ℕ) → Entry → List ℕ
+put table at e = cond (ltb at (length table / entry-width)) (sets table (entry-width * at) (numbers e [])) table
+
+-- the entry of an array level or of a record
+abbrev pub bare : (kind up number extent bytes m : ℕ) → Entry
+bare kind up number extent bytes m =
+    record { parent = up; kind = kind; order = 0; letter = 0; number = number; units = 0; extent = extent; bytes = bytes; name = m }
+
 -- the parent and the name of level k of a field whose first entry is `entry`
 abbrev pub upOf : ℕ → (entry up : ℕ) → ℕ
 upOf zero entry up = up
@@ -40,29 +45,33 @@ abbrev pub nameOf : ℕ → ℕ → ℕ
 nameOf zero m = m
 nameOf (suc k) m = 0
 
--- the table holds, behind the k outermost levels of ns, the others and the type d, whose entries end before `last`; they have this size
-pub record Levelled (old : List ℕ) (entry up m last : ℕ) (ns : List ℕ) (d : Dtype) (k : ℕ) (table : List ℕ) (size : ℕ) : Type 0 where
-  pub long : length table ≡ length old
-  pub room : entry-width * last ≤ length old
-  pub reaches : last ≡ entry + k + entriesOf (arrays (drop k ns) d)
-  pub sized : size ≡ saturated (sizeOf (arrays (drop k ns) d))
-  pub holds : table ≡ sets old (entry-width * (entry + k)) (flat (arrays (drop k ns) d) (entry + k) (upOf k entry up) (nameOf k m) [])
+-- the size of the levels ns above a type of this size, as an entry holds it
+abbrev pub sizeOver : List ℕ → ℕ → ℕ
+sizeOver [] size = size
+sizeOver (n ∷ ns) size = saturated (n * sizeOver ns size)
 
--- so does the table with no level left out, where it did with all of them
-abbrev pub LevelsOver : (entry up m last : ℕ) (ns : List ℕ) (table : List ℕ) (size : ℕ) (table′ : List ℕ) (size′ : ℕ) → Type 0
-LevelsOver entry up m last ns table size table′ size′ =
-    (old : List ℕ) (d : Dtype) → Levelled old entry up m last ns d (length ns) table size → Levelled old entry up m last ns d 0 table′ size′
+-- a table with the levels ns as its entries from `at` on, above a type of this size whose own end before `last`
+abbrev pub levelled : (ns : List ℕ) (at up m last size : ℕ) (table : List ℕ) → List ℕ
+levelled [] at up m last size table = table
+levelled (n ∷ ns) at up m last size table =
+    put (levelled ns (suc at) at 0 last size table) at (bare 1 up n (last - at) (sizeOver (n ∷ ns) size) m)
 
--- the levels ns of a sub-shape, which stands at `at` where it has dimensions, are due above the type d
-pub record LevelsDue (k : ℕ) (s : List ℕ) (at rank : ℕ) (old : List ℕ) (entry up m last : ℕ) (ns : List ℕ) (d : Dtype) (table : List ℕ) (size : ℕ) : Type 0 where
-  pub ranked : rank ≡ length ns
-  pub few : length ns ≤ 32
-  pub shaped : 0 < length ns → dimensionsAt (value k s at) ≡ gives ns
-  pub levelled : Levelled old entry up m last ns d (length ns) table size
+-- number i of entries that move on by `by`: their parents move with them, but the parent of the first is `up`, and it has no name
+unfoldable pub movedNumber : (i n by up : ℕ) → ℕ
+movedNumber i n by up = cond (eqb i 0) up (cond (eqb i 8) 0 (cond (eqb (i % entry-width) 0) (saturated (n + by)) n))
 
-abbrev pub LevelsDueAt : (k : ℕ) (s : List ℕ) (at rank entry up m last : ℕ) (table : List ℕ) (size : ℕ) → Type 0
-LevelsDueAt k s at rank entry up m last table size = (ns : List ℕ) × (old : List ℕ) × (d : Dtype) × LevelsDue k s at rank old entry up m last ns d table size
+abbrev pub movedFrom : (i by up : ℕ) → List ℕ → List ℕ
+movedFrom i by up [] = []
+movedFrom i by up (n ∷ l) = movedNumber i n by up ∷ movedFrom (suc i) by up l
 
-abbrev pub Levels : (k : ℕ) (s : List ℕ) (at rank entry up m last : ℕ) (table : List ℕ) (size : ℕ) (table′ : List ℕ) (size′ : ℕ) → Type 0
-Levels k s at rank entry up m last table size table′ size′ =
-    (ns : List ℕ) (old : List ℕ) (d : Dtype) → LevelsDue k s at rank old entry up m last ns d table size → Levelled old entry up m last ns d 0 table′ size′
+-- a table in which so many entries from `entry` on stand `by` later, below the entry before them, where it has room for that
+abbrev pub lifted : (table : List ℕ) (entry count by : ℕ) → List ℕ
+lifted table entry count by =
+    cond (ltb (length table / entry-width) (entry + by + count)) table
+    (sets table (entry-width * (entry + by)) (movedFrom 0 by (entry + by - 1) (take (entry-width * count) (drop (entry-width * entry) table))))
+
+-- a table with the levels ns above a type of this size, whose own entries are those from `entry` up to `last` and move on
+abbrev pub above : (ns : List ℕ) (entry up m last size : ℕ) (table : List ℕ) → List ℕ
+above [] entry up m last size table = table
+above (n ∷ ns) entry up m last size table =
+    levelled (n ∷ ns) entry up m (saturated (last + suc (length ns))) size (lifted table entry (last - entry) (suc (length ns)))

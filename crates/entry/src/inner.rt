@@ -1,10 +1,11 @@
-// Entries of the table written to lent room, for this project's own crates: the header reader has judged first what is written. The array levels of a
-// sub-shape are written behind their type, the innermost first, as their sizes are known then.
+// Entries of the table written to lent room, for this project's own crates. An entry that the room does not hold is not written. The array levels of a
+// sub-shape are written behind their type, the innermost first, as their sizes are known then. No function here has a `requires`.
 use dtype::ARRAY;
 use dtype::ENTRY;
 use dtype::Entry;
 use dtype::RECORD;
 use held::held_product;
+use held::held_sum;
 use plain::plain_entry;
 use spelling::Endianness;
 use spelling::TypeChar;
@@ -12,13 +13,10 @@ use type_str::TypeRead;
 use type_str::TypeStr;
 use units::TimeUnits;
 ghost use mathlib.Core.Path.{_≡_};
-ghost use mathlib.Core.List.{List, []};
-ghost use Prim.Native.Nat.{ℕ, _+_, _-_, _*_, _^_, _≤_, _<_};
-ghost use lib.ListN.{length};
-ghost use lib.Seq.{sets};
-ghost use Rattle.dtype.specs.Dtype.{Dtype, plain, sizeOf};
-ghost use Rattle.dtype.specs.Flat.{saturated, entryOf, numbers};
-ghost use Rattle.entry.specs.Written.{noType, typeIn, upOf, nameOf, Levelled, LevelsOver, LevelsDueAt, Levels};
+ghost use Prim.Native.Nat.{_+_, _-_};
+ghost use Rattle.dtype.specs.Dtype.{plain, sizeOf};
+ghost use Rattle.dtype.specs.Flat.{saturated, entryOf};
+ghost use Rattle.entry.specs.Written.{noType, typeIn, put, bare, upOf, nameOf, sizeOver, levelled, movedNumber, lifted, above};
 
 // The type that was read.
 pub fn type_of(r: TypeRead) -> TypeStr
@@ -47,18 +45,17 @@ fn no_type() -> TypeStr
 }
 
 // The parent of level k of a field: of the outermost its own, of another the level above it.
-pub fn parent(k: usize, entry: usize, up: u64) -> u64
-    requires { ⌜ entry + k < 2 ^ 64 ⌝ }
-    ensures { λ r. ⌜ r ≡ upOf k entry up ⌝ }
+fn parent(k: usize, entry: usize, up: u64) -> u64
+    ensures { λ r. ⌜ r ≡ saturated (upOf k entry up) ⌝ }
 {
     if k == 0 {
         return up;
     }
-    (entry + (k - 1)) as u64
+    held_sum(entry as u64, (k - 1) as u64)
 }
 
 // The length of the name of level k of a field: only the outermost has one.
-pub fn name_of(k: usize, name: u64) -> u64
+fn name_of(k: usize, name: u64) -> u64
     ensures { λ r. ⌜ r ≡ nameOf k name ⌝ }
 {
     if k == 0 { name } else { 0 }
@@ -66,9 +63,8 @@ pub fn name_of(k: usize, name: u64) -> u64
 
 // Writes the entry of a plain type, and answers its size as the entry holds it.
 pub fn put_plain(table: &mut [u64], at: usize, t: TypeStr, up: u64, name: u64) -> u64
-    requires { ⌜ 9 * at + 9 ≤ length (now table) ⌝ }
     ensures { λ r. ⌜ r ≡ saturated (sizeOf (plain t)) ⌝ }
-    ensures { λ _. ⌜ now (table .exit) ≡ sets (now (table .entry)) (9 * at) (numbers (entryOf (plain t) up name) []) ⌝ }
+    ensures { λ _. ⌜ now (table .exit) ≡ put (now (table .entry)) at (entryOf (plain t) up name) ⌝ }
 {
     let e = plain_entry(t, up, name);
     put_entry(table, at, e);
@@ -85,39 +81,76 @@ pub fn put_record(
     stop: usize,
     size: u64,
 )
-    requires { ⌜ 9 * at + 9 ≤ length (now table) ⌝ }
-    requires { ⌜ at ≤ stop ⌝ }
-    ensures { λ _. ⌜ now (table .exit) ≡ sets (now (table .entry)) (9 * at) (numbers (record { parent = up; kind = 2; order = 0; letter = 0; number = count; units = 0; extent = stop - at; bytes = size; name = name }) []) ⌝ }
+    ensures { λ _. ⌜ now (table .exit) ≡ put (now (table .entry)) at (bare 2 up count (stop - at) size name) ⌝ }
 {
     put_entry(
         table,
         at,
-        bare_entry(RECORD, up, count, (stop - at) as u64, size, name),
+        bare_entry(RECORD, up, count, from_to(at, stop), size, name),
     );
 }
 
-// Writes the levels of the sub-shape at `at`, which has so many dimensions, above their type, and answers their size.
-pub fn put_shape(
-    text: &[u8],
-    at: usize,
-    room: usize,
-    rank: usize,
+// Writes the levels of a sub-shape above the type whose entries are those from `entry` up to `stop`, which move on for them, and answers their size.
+pub fn put_over(
     table: &mut [u64],
     entry: usize,
     up: u64,
     name: u64,
+    shape: &[u64],
     stop: usize,
     size: u64,
 ) -> u64
-    requires { ⌜ LevelsDueAt room (now text) at rank entry up name stop (now table) size ⌝ }
-    ensures { λ r. ⌜ Levels room (now (text .entry)) at rank entry up name stop (now (table .entry)) size (now (table .exit)) r ⌝ }
+    ensures { λ r. ⌜ r ≡ sizeOver (now (shape .entry)) size ⌝ }
+    ensures { λ _. ⌜ now (table .exit) ≡ above (now (shape .entry)) entry up name stop size (now (table .entry)) ⌝ }
 {
+    let rank = shape.len();
     if rank == 0 {
         return size;
     }
-    let mut shape: [u64; 32] = [0; 32];
-    dims::inner::fill(text, at, room, &mut shape);
-    put_levels(table, entry, up, name, &shape[..rank], stop, size)
+    let count = from_to(entry, stop) as usize;
+    let last = held_sum(stop as u64, rank as u64) as usize;
+    lift(table, entry, count, rank);
+    put_levels(table, entry, up, name, shape, last, size)
+}
+
+// Moves so many entries from `entry` on, the last number first.
+fn lift(table: &mut [u64], entry: usize, count: usize, by: usize)
+    ensures { λ _. ⌜ now (table .exit) ≡ lifted (now (table .entry)) entry count by ⌝ }
+{
+    let all = table.len() / ENTRY;
+    if all < count {
+        return;
+    }
+    if all - count < by {
+        return;
+    }
+    if all - count - by < entry {
+        return;
+    }
+    let from = ENTRY * entry;
+    let to = ENTRY * (entry + by);
+    let head = from_to(1, entry + by);
+    let mut i = ENTRY * count;
+    while 0 < i {
+        i -= 1;
+        table[to + i] = moved(i, table[from + i], by as u64, head);
+    }
+}
+
+// Number i of entries that move, which was n.
+fn moved(i: usize, n: u64, by: u64, up: u64) -> u64
+    ensures { λ r. ⌜ r ≡ movedNumber i n by up ⌝ }
+{
+    if i == 0 {
+        return up;
+    }
+    if i == 8 {
+        return 0;
+    }
+    if i % ENTRY == 0 {
+        return held_sum(n, by);
+    }
+    n
 }
 
 // Writes the levels of a sub-shape above the type whose entries end before `stop`, from the innermost on, and answers their size.
@@ -130,35 +163,66 @@ fn put_levels(
     stop: usize,
     size: u64,
 ) -> u64
-    requires { ⌜ ((old : List ℕ) × (d : Dtype) × Levelled old entry up name stop (now shape) d (length (now shape)) (now table) size) ⌝ }
-    ensures { λ r. ⌜ LevelsOver entry up name stop (now (shape .entry)) (now (table .entry)) size (now (table .exit)) r ⌝ }
+    ensures { λ r. ⌜ r ≡ sizeOver (now (shape .entry)) size ⌝ }
+    ensures { λ _. ⌜ now (table .exit) ≡ levelled (now (shape .entry)) entry up name stop size (now (table .entry)) ⌝ }
 {
     let mut k = shape.len();
     let mut held = size;
     while 0 < k {
         k -= 1;
         held = held_product(shape[k], held);
-        put_entry(
-            table,
-            entry + k,
-            bare_entry(
-                ARRAY,
-                parent(k, entry, up),
-                shape[k],
-                (stop - (entry + k)) as u64,
-                held,
-                name_of(k, name),
-            ),
-        );
+        put_level(table, entry, k, up, name, shape[k], stop, held);
     }
     held
 }
 
+// Writes level k of a field whose outermost level is the entry `entry`.
+fn put_level(
+    table: &mut [u64],
+    entry: usize,
+    k: usize,
+    up: u64,
+    name: u64,
+    number: u64,
+    stop: usize,
+    bytes: u64,
+)
+    ensures { λ _. ⌜ now (table .exit) ≡ put (now (table .entry)) (entry + k) (bare 1 (upOf k entry up) number (stop - (entry + k)) bytes (nameOf k name)) ⌝ }
+{
+    let all = table.len() / ENTRY;
+    if all <= k {
+        return;
+    }
+    if all - k <= entry {
+        return;
+    }
+    let at = entry + k;
+    let head = parent(k, entry, up);
+    let own = name_of(k, name);
+    put_entry(
+        table,
+        at,
+        bare_entry(ARRAY, head, number, from_to(at, stop), bytes, own),
+    );
+}
+
+// How many entries there are from `at` to `stop`.
+fn from_to(at: usize, stop: usize) -> u64
+    ensures { λ r. ⌜ r ≡ stop - at ⌝ }
+{
+    if stop < at {
+        return 0;
+    }
+    (stop - at) as u64
+}
+
 // The nine numbers of an entry.
 fn put_entry(table: &mut [u64], at: usize, e: Entry)
-    requires { ⌜ 9 * at + 9 ≤ length (now table) ⌝ }
-    ensures { λ _. ⌜ now (table .exit) ≡ sets (now (table .entry)) (9 * at) (numbers e []) ⌝ }
+    ensures { λ _. ⌜ now (table .exit) ≡ put (now (table .entry)) at e ⌝ }
 {
+    if table.len() / ENTRY <= at {
+        return;
+    }
     let i = ENTRY * at;
     table[i] = e.parent;
     table[i + 1] = e.kind;
@@ -173,7 +237,7 @@ fn put_entry(table: &mut [u64], at: usize, e: Entry)
 
 // An entry that is not of a plain type.
 fn bare_entry(kind: u64, up: u64, number: u64, extent: u64, bytes: u64, name: u64) -> Entry
-    ensures { λ r. ⌜ r ≡ record { parent = up; kind = kind; order = 0; letter = 0; number = number; units = 0; extent = extent; bytes = bytes; name = name } ⌝ }
+    ensures { λ r. ⌜ r ≡ bare kind up number extent bytes name ⌝ }
 {
     Entry {
         parent: up,

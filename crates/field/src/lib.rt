@@ -1,5 +1,5 @@
 // What both walks over a descr, the judging and the filling one, ask of a header's text (document 01, "The record": "`descr` is a string (a type string) or
-// a list (a record). Each record item is a list or tuple of 2 or 3"). No function here has a `requires`.
+// a list (a record). Each record item is a list or tuple of 2 or 3"). These serve our own crates. No function here has a `requires`.
 use dims::closing;
 use literal::gaps::Gap;
 use literal::value;

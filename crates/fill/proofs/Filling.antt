@@ -1,12 +1,12 @@
 -- The filling walk on plain values. A descr is a type string or a list of fields. What is kept along the fields: what is left to put on the table and on
 -- the names as they are gives the due table and the due names. A record's entry comes behind its fields, a field's levels behind its type. Assumes nothing.
-use Prim.Native.Nat.{ℕ, suc, _+_, _-_, _*_, _<_, _≤_}
+use Prim.Native.Nat.{ℕ, suc, _+_, _-_, _*_, _^_, _<_, _≤_}
 use native.Mathlib.Omega.{arith}
 use mathlib.Core.Path.{_≡_, refl, sym, ap, subst, _∙_}
 use mathlib.Core.List.{List, [], _∷_, _++_, append-assoc}
 use mathlib.Core.Bool.{true, false}
-use lib.ListN.{length, drop, length-append}
-use lib.Seq.{sets, length-sets, drop-length}
+use lib.ListN.{length, length-append}
+use lib.Seq.{sets, length-sets}
 use denote.Enum.Declared.{tagOf}
 use types.Run.{OneOf}
 use Rattle.counts.specs.Outcome.{Outcome, gives, refused, then, each}
@@ -40,13 +40,13 @@ use Rattle.literal.proofs.Ends.{Ahead, value-ahead, then-ahead}
 use Rattle.literal.proofs.Steps.{gapLeft, gap-falls}
 use Rattle.fill.specs.declared.Spot.{Spot}
 use Rattle.fill.specs.declared.Many.{Many}
-use Rattle.fill.specs.declared.Parts.{Parts}
 use Rattle.field.specs.Begins.{gapPlace, isString}
-use Rattle.entry.specs.Written.{typeIn, upOf, nameOf, Levelled, LevelsDue, LevelsDueAt, Levels}
+use Rattle.entry.specs.Written.{typeIn, put, bare, above}
 use Rattle.entry.proofs.Stores.{sets-append, flat-front, names-front}
-use Rattle.entry.proofs.Levels.{entry-before}
-use Rattle.fill.specs.Filled.{Narrow, NarrowIn, PartsOf, Due, Fills, Filled, DueFields, DueFieldsFrom, FillsFields, FilledFields, DueField, FilledField}
-use Rattle.fill.proofs.Parted.{refused-gives, read-back, row-none}
+use Rattle.entry.proofs.Levels.{put-room, entry-before, size-over, arrays-entries}
+use Rattle.entry.proofs.Lifts.{above-flat}
+use Rattle.fill.specs.Filled.{Narrow, NarrowIn, DueShape, Shapes, Due, Fills, Filled, DueFields, DueFieldsFrom, FillsFields, FilledFields, DueField, FilledField}
+use Rattle.fill.proofs.Parted.{refused-gives, read-back, row-none, Opened}
 
 -- ---- a type string
 plain-back : (o : Outcome TypeStr) (d : Dtype) → each plain o ≡ gives d → (t : TypeStr) × (o ≡ gives t) × (d ≡ plain t)
@@ -330,10 +330,6 @@ narrow-levels (n ∷ ns) d h = (omega (arith, h .0, deep ns), narrow-levels ns d
     deep (n ∷ ns) = omega (arith, deep ns)
 
 -- ---- a field
-arrays-entries : (ns : List ℕ) (d : Dtype) → entriesOf (arrays ns d) ≡ length ns + entriesOf d
-arrays-entries [] d = omega arith
-arrays-entries (n ∷ ns) d = omega (arith, arrays-entries ns d)
-
 arrays-bytes : (ns : List ℕ) (d : Dtype) → nameBytes (arrays ns d) ≡ nameBytes d
 arrays-bytes [] d = refl
 arrays-bytes (n ∷ ns) d = arrays-bytes ns d
@@ -342,87 +338,74 @@ arrays-names : (ns : List ℕ) (d : Dtype) (y : List ℕ) → namesOf (arrays ns
 arrays-names [] d y = refl
 arrays-names (n ∷ ns) d y = arrays-names ns d y
 
-module _ (k : ℕ) (s : List ℕ) (at entry up byte : ℕ) (table names : List ℕ) (n : Node) (e : ℕ) (f : Field) (p : Parts) (due : DueField k s at entry table byte names n e f) (w : PartsOf k s e f p)
-    (m : ℕ) (names1 : List ℕ) (hm : m ≡ length (spelled (byteAt s (p .name)) s (p .name + 1) .bytes)) (hn : names1 ≡ sets names byte (spelled (byteAt s (p .name)) s (p .name + 1) .bytes)) where
-  entries-are : entriesOf (f .type) ≡ p .rank + entriesOf (w .d)
-  entries-are = ap entriesOf (w .typed) ∙ arrays-entries (w .ns) (w .d) ∙ ap (λ (x : ℕ). x + entriesOf (w .d)) (sym (w .ranked))
+module _ (k : ℕ) (s : List ℕ) (at entry up byte : ℕ) (table names : List ℕ) (n : Node) (e : ℕ) (f : Field) (close p1 p2 : ℕ) (due : DueField k s at entry table byte names n e f) (w : Opened k s close p1 p2 e f) where
+  entries-are : entriesOf (f .type) ≡ length (w .ns) + entriesOf (w .d)
+  entries-are = ap entriesOf (w .typed) ∙ arrays-entries (w .ns) (w .d)
 
   bytes-are : nameBytes (f .type) ≡ nameBytes (w .d)
   bytes-are = ap nameBytes (w .typed) ∙ arrays-bytes (w .ns) (w .d)
 
-  length-is : m ≡ length (f .name)
-  length-is = hm ∙ sym (ap length (w .named))
-
-  pub few-levels : (length (w .ns) ≤ 32) × Narrow (w .d)
+  few-levels : (length (w .ns) ≤ 32) × Narrow (w .d)
   few-levels = narrow-levels (w .ns) (w .d) (subst (λ (x : Dtype). Narrow x) (w .typed) (due .narrow))
 
-  pub inner-due : Due (k - 1) s (p .inner) (entry + p .rank) table (byte + m) names1 (w .node) (w .end-of-node) (w .d)
-  inner-due =
-      let len = ap length hn ∙ length-sets names byte (spelled (byteAt s (p .name)) s (p .name + 1) .bytes) in
-      record {
-        stands = w .stands;
-        is = w .is;
-        narrow = few-levels .1;
-        room = omega (arith, due .room, entries-are);
-        name-room = omega (arith, due .name-room, bytes-are, length-is, len);
-      }
+  pub name-fits : byte + length (spelled (byteAt s p1) s (p1 + 1) .bytes) ≤ length names
+  name-fits = let l = ap length (w .named) in omega (arith, due .name-room, l)
 
-  module _ (p′ m′ : ℕ) (table1 names2 : List ℕ) (r : Spot) (hp : p′ ≡ upOf (p .rank) entry up) (hm′ : m′ ≡ nameOf (p .rank) m)
-      (fl : Filled (w .end-of-node) (entry + p .rank) p′ m′ (byte + m) (w .d) table names1 table1 names2 r) where
-    pub levels-due : LevelsDue (k - 1) s (p .shape) (p .rank) table entry up m (r .entry) (w .ns) (w .d) table1 (r .size)
-    levels-due =
-        let rest : arrays (drop (length (w .ns)) (w .ns)) (w .d) ≡ w .d = ap (λ (l : List ℕ). arrays l (w .d)) (drop-length (w .ns)) in
-        let ents : entriesOf (arrays (drop (length (w .ns)) (w .ns)) (w .d)) ≡ entriesOf (w .d) = ap entriesOf rest in
-        let rk = w .ranked in
+  module _ (m : ℕ) (names1 : List ℕ) (hm : m ≡ length (spelled (byteAt s p1) s (p1 + 1) .bytes)) (hn : names1 ≡ sets names byte (spelled (byteAt s p1) s (p1 + 1) .bytes)) where
+    length-is : m ≡ length (f .name)
+    length-is = hm ∙ sym (ap length (w .named))
+
+    pub inner-due : Due (k - 1) s p2 entry table (byte + m) names1 (w .node) (w .end-of-node) (w .d)
+    inner-due =
+        let len = ap length hn ∙ length-sets names byte (spelled (byteAt s p1) s (p1 + 1) .bytes) in
         record {
-          ranked = rk;
-          few = few-levels .0;
-          shaped = w .shaped;
-          levelled = record {
-            long = ap length (fl .table-after) ∙ length-sets table (entry-width * (entry + p .rank)) (flat (w .d) (entry + p .rank) p′ m′ []);
-            room = omega (arith, fl .next, due .room, entries-are);
-            reaches = omega (arith, fl .next, ents, rk);
-            sized = fl .sized ∙ ap (λ (x : Dtype). saturated (sizeOf x)) (sym rest);
-            holds = fl .table-after
-                ∙ ap (λ (x : ℕ). sets table (entry-width * (entry + p .rank)) (flat (w .d) (entry + p .rank) x m′ [])) hp
-                ∙ ap (λ (x : ℕ). sets table (entry-width * (entry + p .rank)) (flat (w .d) (entry + p .rank) (upOf (p .rank) entry up) x [])) hm′
-                ∙ ap (λ (x : ℕ). sets table (entry-width * (entry + x)) (flat (w .d) (entry + x) (upOf x entry up) (nameOf x m) [])) rk
-                ∙ ap (λ (x : Dtype). sets table (entry-width * (entry + length (w .ns))) (flat x (entry + length (w .ns)) (upOf (length (w .ns)) entry up) (nameOf (length (w .ns)) m) [])) (sym rest);
-          };
+          stands = w .stands;
+          is = w .is;
+          narrow = few-levels .1;
+          room = omega (arith, due .room, entries-are);
+          name-room = omega (arith, due .name-room, bytes-are, length-is, len);
         }
 
-    pub field-filled : (table2 : List ℕ) (size : ℕ) → Levelled table entry up m (r .entry) (w .ns) (w .d) 0 table2 size
-        → FilledField e entry up byte f table names table2 names2 (record { end = p .end; entry = r .entry; byte = r .byte; size = size })
-    field-filled table2 size l =
-        let zero-more : entry + 0 ≡ entry = omega arith in
-        let ws = spelled (byteAt s (p .name)) s (p .name + 1) .bytes in
-        let inner = namesOf (w .d) [] in
-        record {
-          ends = w .ends;
-          next = omega (arith, fl .next, entries-are);
-          next-name = omega (arith, fl .next-name, bytes-are, length-is);
-          sized = l .sized ∙ ap (λ (x : Dtype). saturated (sizeOf x)) (sym (w .typed));
-          table-after = l .holds ∙ ap (λ (x : ℕ). sets table (entry-width * x) (flat (arrays (w .ns) (w .d)) x up m [])) zero-more
-              ∙ ap (λ (x : ℕ). sets table (entry-width * entry) (flat (arrays (w .ns) (w .d)) entry up x [])) length-is
-              ∙ ap (λ (x : Dtype). sets table (entry-width * entry) (flat x entry up (length (f .name)) [])) (sym (w .typed));
-          names-after = fl .names-after ∙ ap (λ (x : List ℕ). sets x (byte + m) inner) hn ∙ ap (λ (x : ℕ). sets (sets names byte ws) (byte + x) inner) hm
-              ∙ sym (sets-append names byte ws inner) ∙ ap (λ (x : List ℕ). sets names byte (x ++ inner)) (sym (w .named))
-              ∙ ap (λ (x : List ℕ). sets names byte (f .name ++ x)) (sym (arrays-names (w .ns) (w .d) []) ∙ ap (λ (x : Dtype). namesOf x []) (sym (w .typed)));
-        }
+    module _ (table1 names2 : List ℕ) (r : Spot) (fills : Fills (k - 1) s p2 entry up m (byte + m) table names1 table1 names2 r) where
+      inner-filled : Filled (w .end-of-node) entry up m (byte + m) (w .d) table names1 table1 names2 r
+      inner-filled = fills (w .node) (w .end-of-node) (w .d) inner-due
 
-  module _ (p′ m′ : ℕ) (table1 names2 : List ℕ) (r : Spot) (hp : p′ ≡ upOf (p .rank) entry up) (hm′ : m′ ≡ nameOf (p .rank) m)
-      (fills : Fills (k - 1) s (p .inner) (entry + p .rank) p′ m′ (byte + m) table names1 table1 names2 r) where
-    inner-filled : Filled (w .end-of-node) (entry + p .rank) p′ m′ (byte + m) (w .d) table names1 table1 names2 r
-    inner-filled = fills (w .node) (w .end-of-node) (w .d) inner-due
+      pub shape-due : DueShape (k - 1) s close table1 r e (w .ns)
+      shape-due =
+          let fl = inner-filled in
+          let long = ap length (fl .table-after) ∙ length-sets table (entry-width * entry) (flat (w .d) entry up m []) in
+          record {
+            behind = record {
+              us = w .us;
+              row = subst (λ (q : ℕ). Row (value (k - 1) s) s close (w .us) (thenAt s q close) e) (sym (fl .ends)) (w .row);
+              few = w .few;
+              shaped = w .shaped;
+              low = few-levels .0;
+            };
+            room = omega (arith, long, fl .next, due .room, entries-are);
+          }
 
-    pub levels-asked : LevelsDueAt (k - 1) s (p .shape) (p .rank) entry up m (r .entry) table1 (r .size)
-    levels-asked = (w .ns, table, w .d, levels-due p′ m′ table1 names2 r hp hm′ inner-filled)
+      pub field-whole : length table < 2 ^ 64 → (table2 : List ℕ) (o : Spot) → Shapes (k - 1) s close entry up m table1 table2 r o → FilledField e entry up byte f table names table2 names2 o
+      field-whole big table2 o l =
+          let fl = inner-filled in
+          let sh = l e (w .ns) shape-due in
+          let ws = spelled (byteAt s p1) s (p1 + 1) .bytes in
+          let inner = namesOf (w .d) [] in
+          record {
+            ends = sh .ends;
+            next = omega (arith, sh .next, fl .next, entries-are);
+            next-name = omega (arith, sh .next-name, fl .next-name, bytes-are, length-is);
+            sized = sh .sized ∙ size-over (w .ns) (w .d) (r .size) (fl .sized) ∙ ap (λ (x : Dtype). saturated (sizeOf x)) (sym (w .typed));
+            table-after = sh .table-after ∙ ap (above (w .ns) entry up m (r .entry) (r .size)) (fl .table-after)
+                ∙ above-flat (w .ns) (w .d) entry up m (r .entry) (r .size) table (fl .sized) (fl .next) (omega (arith, fl .next, due .room, entries-are)) big
+                ∙ ap (λ (x : ℕ). sets table (entry-width * entry) (flat (arrays (w .ns) (w .d)) entry up x [])) length-is
+                ∙ ap (λ (x : Dtype). sets table (entry-width * entry) (flat x entry up (length (f .name)) [])) (sym (w .typed));
+            names-after = fl .names-after ∙ ap (λ (x : List ℕ). sets x (byte + m) inner) hn ∙ ap (λ (x : ℕ). sets (sets names byte ws) (byte + x) inner) hm
+                ∙ sym (sets-append names byte ws inner) ∙ ap (λ (x : List ℕ). sets names byte (x ++ inner)) (sym (w .named))
+                ∙ ap (λ (x : List ℕ). sets names byte (f .name ++ x)) (sym (arrays-names (w .ns) (w .d) []) ∙ ap (λ (x : Dtype). namesOf x []) (sym (w .typed)));
+          }
 
-    pub field-whole : (table2 : List ℕ) (size : ℕ) → Levels (k - 1) s (p .shape) (p .rank) entry up m (r .entry) table1 (r .size) table2 size
-        → FilledField e entry up byte f table names table2 names2 (record { end = p .end; entry = r .entry; byte = r .byte; size = size })
-    field-whole table2 size l = field-filled p′ m′ table1 names2 r hp hm′ inner-filled table2 size (l (w .ns) table (w .d) (levels-due p′ m′ table1 names2 r hp hm′ inner-filled))
-
--- ---- what is asked of the parts of a descr and of a field
+-- ---- what is asked of the fields of a descr
 pub fields-due : (k : ℕ) (s : List ℕ) (at entry byte : ℕ) (table names : List ℕ) (n : Node) (e : ℕ) (d : Dtype) → Due k s at entry table byte names n e d → (l : Listed k s at e d)
     → DueFields (k - 1) s (at + 1) (entry + 1) table byte names (l .ns) e (l .fs)
 fields-due k s at entry byte table names n e d h l =
@@ -436,24 +419,15 @@ fields-due k s at entry byte table names n e d h l =
       name-room = omega (arith, h .name-room, m2);
     }
 
-pub name-fits : (k : ℕ) (s : List ℕ) (at entry byte : ℕ) (table names : List ℕ) (n : Node) (e : ℕ) (f : Field) (p : Parts) → DueField k s at entry table byte names n e f → PartsOf k s e f p
-    → byte + length (spelled (byteAt s (p .name)) s (p .name + 1) .bytes) ≤ length names
-name-fits k s at entry byte table names n e f p h w = let m = ap length (w .named) in omega (arith, h .name-room, m)
-
-pub rank-fits : (k : ℕ) (s : List ℕ) (at entry byte : ℕ) (table names : List ℕ) (n : Node) (e : ℕ) (f : Field) (p : Parts) → DueField k s at entry table byte names n e f → PartsOf k s e f p
-    → entry + p .rank < length table
-rank-fits k s at entry byte table names n e f p h w =
-    let m = ap entriesOf (w .typed) ∙ arrays-entries (w .ns) (w .d) in
-    omega (arith, h .room, m, w .ranked, some-entry (w .d))
-
 -- ---- a descr as a whole, by what stands at `at`
 module _ (k : ℕ) (s : List ℕ) (at entry up m byte : ℕ) (table names : List ℕ) (n : Node) (e : ℕ) (d : Dtype) (h : Due k s at entry table byte names n e d) where
   pub text-whole : isString (kindOf (byteAt s at)) ≡ true → (r : TypeRead) → answer r ≡ typeString (spelled (byteAt s at) s (at + 1) .bytes) → (u : TypeStr) → u ≡ typeIn r
       → (end : ℕ) → end ≡ place (pos (value k s at)) → (size : ℕ) → size ≡ saturated (sizeOf (plain u))
-      → (table′ : List ℕ) → table′ ≡ sets table (entry-width * entry) (numbers (entryOf (plain u) up m) []) → Filled e entry up m byte d table names table′ names (record { end = end; entry = entry + 1; byte = byte; size = size })
+      → (table′ : List ℕ) → table′ ≡ put table entry (entryOf (plain u) up m) → Filled e entry up m byte d table names table′ names (record { end = end; entry = entry + 1; byte = byte; size = size })
   text-whole hq r hr u hu end he size hs table′ ht =
       let t = text-due k s at e d n (h .stands) (h .is) hq in
-      text-filled e entry up m byte d (t .t) u table names table′ size end (t .plainly) (hu ∙ ap typeIn (read-back r (t .t) (hr ∙ t .is))) (he ∙ ap (λ (g : Got Node). place (pos g)) (h .stands)) hs ht
+      text-filled e entry up m byte d (t .t) u table names table′ size end (t .plainly) (hu ∙ ap typeIn (read-back r (t .t) (hr ∙ t .is))) (he ∙ ap (λ (g : Got Node). place (pos g)) (h .stands)) hs
+      (ht ∙ put-room table entry (entryOf (plain u) up m) (omega (arith, h .room, some-entry d)))
 
   module _ (hq : isString (kindOf (byteAt s at)) ≡ false) where
     listed : Listed k s at e d
@@ -466,18 +440,17 @@ module _ (k : ℕ) (s : List ℕ) (at entry up m byte : ℕ) (table names : List
       fields-filled : FilledFields e (entry + 1) entry byte (listed .fs) table names mid names′ r
       fields-filled = hf (listed .ns) e (listed .fs) (fields-due k s at entry byte table names n e d h listed)
 
-      pub record-room : (9 * entry + 9 ≤ length mid) × (entry ≤ r .entry)
+      record-room : entry-width * entry + 9 ≤ length mid
       record-room =
-          let w = fields-filled in
-          let long = ap length (w .table-after) ∙ length-sets table (entry-width * (entry + 1)) (flats (listed .fs) (entry + 1) entry []) in
-          (omega (arith, long, h .room, some-entry d), omega (arith, w .next))
+          let long = ap length (fields-filled .table-after) ∙ length-sets table (entry-width * (entry + 1)) (flats (listed .fs) (entry + 1) entry []) in
+          omega (arith, long, h .room, some-entry d)
 
       pub record-whole : (table′ : List ℕ)
-          → table′ ≡ sets mid (entry-width * entry) (numbers (record { parent = up; kind = 2; order = 0; letter = 0; number = r .count; units = 0; extent = r .entry - entry; bytes = r .size; name = m }) [])
+          → table′ ≡ put mid entry (bare 2 up (r .count) (r .entry - entry) (r .size) m)
           → Filled e entry up m byte d table names table′ names′ (record { end = r .end; entry = r .entry; byte = r .byte; size = r .size })
       record-whole table′ ht =
-          record-filled e entry up m byte (listed .fs) d table names mid names′ table′ r (record { parent = up; kind = 2; order = 0; letter = 0; number = r .count; units = 0; extent = r .entry - entry; bytes = r .size; name = m }) (listed .recorded)
-          fields-filled refl ht
+          let x = bare 2 up (r .count) (r .entry - entry) (r .size) m in
+          record-filled e entry up m byte (listed .fs) d table names mid names′ table′ r x (listed .recorded) fields-filled refl (ht ∙ put-room mid entry x record-room)
 
 -- ---- no length changes
 module _ {e entry up m byte : ℕ} {table names table′ names′ : List ℕ} where

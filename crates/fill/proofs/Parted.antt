@@ -5,7 +5,8 @@ use native.Mathlib.Omega.{arith}
 use mathlib.Core.Path.{_≡_, refl, sym, ap, subst, _∙_}
 use mathlib.Core.List.{List, [], _∷_}
 use mathlib.Core.Bool.{Bool, true, false, not}
-use lib.ListN.{length}
+use lib.ListN.{length, take, drop}
+use lib.Seq.{take-append-seam}
 use lib.Dec.{eqb}
 use borrow.Author.Tests.{eqb-true, eqb-false}
 use denote.Enum.Declared.{tagOf}
@@ -34,17 +35,15 @@ use Rattle.literal.specs.declared.gaps.Gap.the-variants.{Shut, Item, Stray}
 use Rattle.literal.proofs.gaps.Gap.{the-type}
 use Rattle.tokens.proofs.Positions.{kind-in}
 use Rattle.literal.proofs.View.{view, value-kind}
-use Rattle.products.specs.declared.Outline.{Outline}
-use Rattle.products.specs.declared.Verdict.{Verdict}
-use Rattle.products.specs.declared.Verdict.the-variants.{Good, Form, Large}
-use Rattle.dims.specs.declared.Judged.{Judged}
-use Rattle.products.specs.Outline.{outlineOf}
-use Rattle.products.specs.Answer.{outlined, rankOf}
-use Rattle.dims.specs.Answer.{endOr, dimensionsAt, Judges}
+use Rattle.dims.specs.Answer.{dimensionsAt}
+use Rattle.dims.specs.Fill.{Stored}
+use Rattle.dims.proofs.Stored.{stored-over}
+use Rattle.entry.specs.Written.{sizeOver, above}
 use Rattle.dims.specs.Walk.{closingOf}
 use Rattle.dims.proofs.Held.{Bracket, bracket, no-bracket}
 use Rattle.field.specs.Begins.{gapPlace}
-use Rattle.fill.specs.Filled.{OneField, PartsOf}
+use Rattle.fill.specs.Filled.{OneField, DueShape, Shaped}
+use Rattle.fill.specs.declared.Spot.{Spot}
 
 pub refused-gives : {A B : Type 0} {a : A} {n : ℕ} → refused n ≡ gives a → B
 refused-gives h = absurd (let z : _≡_ {A = ℕ} 0 1 = cc in omega arith)
@@ -162,121 +161,103 @@ name-is k s p q (list x ns) w hv hs = refused-gives hs
 name-is k s p q (tuple x ns) w hv hs = refused-gives hs
 name-is k s p q (dict x ps) w hv hs = refused-gives hs
 
--- ---- a sub-shape
-pub rank-is : (v : Verdict) (ns : List ℕ) → outlined v ≡ gives (outlineOf ns) → rankOf v ≡ length ns
-unfolding outlineOf
-rank-is (Good o) ns h = let z : o ≡ outlineOf ns = cc in ap (λ (x : Outline). x .rank) z
-rank-is Form ns h = refused-gives h
-rank-is Large ns h = refused-gives h
-
 -- ---- the parts
-module _ (k : ℕ) (s : List ℕ) (at close p1 p2 e1 e2 : ℕ) (g3 : Gap) (hc : close ≡ closingOf (kindOf (byteAt s at))) (h1 : p1 ≡ gapPlace (gapAt s (at + 1) close))
-    (he1 : e1 ≡ place (pos (read.value (k - 1) s p1))) (h2 : p2 ≡ gapPlace (thenAt s e1 close)) (he2 : e2 ≡ place (pos (read.value (k - 1) s p2))) (h3 : g3 ≡ thenAt s e2 close) where
-  abbrev rd : ℕ → Got Node
-  rd = read.value (k - 1) s
+-- a name at p1; an inner descr at p2 that gives d; behind it nothing or a sub-shape ns
+pub record Opened (k : ℕ) (s : List ℕ) (close p1 p2 e : ℕ) (f : Field) : Type 0 where
+  pub deep : 0 < k
+  pub begins : p1 < length s
+  pub named : f .name ≡ spelled (byteAt s p1) s (p1 + 1) .bytes
+  pub node : Node
+  pub end-of-node : ℕ
+  pub stands : read.value (k - 1) s p2 ≡ got node end-of-node
+  pub d : Dtype
+  pub is : descrOf (forget node) ≡ gives d
+  pub ns : List ℕ
+  pub us : List Node
+  pub row : Row (read.value (k - 1) s) s close us (thenAt s end-of-node close) e
+  pub few : length us ≤ 1
+  pub shaped : perhaps (forgetAll (nodes us)) ≡ gives ns
+  pub typed : f .type ≡ arrays ns d
 
-  ended : (p e q : ℕ) (v : Node) → rd p ≡ got v q → e ≡ place (pos (rd p)) → q ≡ e
-  ended p e q v h he = sym (he ∙ ap (λ (g : Got Node). place (pos g)) h)
+pub opened : (k : ℕ) (s : List ℕ) (at close p1 p2 e1 : ℕ) → close ≡ closingOf (kindOf (byteAt s at)) → p1 ≡ gapPlace (gapAt s (at + 1) close) → e1 ≡ place (pos (read.value (k - 1) s p1))
+    → p2 ≡ gapPlace (thenAt s e1 close) → (n : Node) (e : ℕ) (f : Field) → OneField k s at n e f → Opened k s close p1 p2 e f
+opened k s at close p1 p2 e1 hc h1 he1 h2 n e f o =
+    let rd = read.value (k - 1) s in
+    let br = field-bracket k s at e close n f hc o in
+    let i = field-items k s at e close n f br o in
+    let x = row-head rd s close (i .first) (i .second ∷ i .others) (gapAt s (at + 1) close) e (subst (λ (l : List Node). Row rd s close l (gapAt s (at + 1) close) e) (i .are) (br .row)) in
+    let v1 : rd p1 ≡ got (i .first) (x .0) = ap rd h1 ∙ x .1 in
+    let q1 : x .0 ≡ e1 = sym (he1 ∙ ap (λ (g : Got Node). place (pos g)) v1) in
+    let y = row-head rd s close (i .second) (i .others) (thenAt s e1 close) e (subst (λ (q : ℕ). Row rd s close (i .second ∷ i .others) (thenAt s q close) e) q1 (x .2)) in
+    let nm = name-is (k - 1) s p1 (x .0) (i .first) (f .name) v1 (i .named) in
+    record {
+      deep = br .room;
+      begins = nm .1;
+      named = nm .0;
+      node = i .second;
+      end-of-node = y .0;
+      stands = ap rd h2 ∙ y .1;
+      d = i .d;
+      is = i .is;
+      ns = i .dims;
+      us = i .others;
+      row = y .2;
+      few = i .few;
+      shaped = i .shaped;
+      typed = i .typed;
+    }
 
-  pub record Opened (e : ℕ) (f : Field) : Type 0 where
-    pub deep : 0 < k
-    pub a : Node
-    pub b : Node
-    pub us : List Node
-    pub first : rd p1 ≡ got a e1
-    pub second : rd p2 ≡ got b e2
-    pub row : Row rd s close us g3 e
-    pub few : length us ≤ 1
-    pub named : stringOr 14 (forget a) ≡ gives (f .name)
-    pub d : Dtype
-    pub dims : List ℕ
-    pub is : descrOf (forget b) ≡ gives d
-    pub shaped : perhaps (forgetAll (nodes us)) ≡ gives dims
-    pub typed : f .type ≡ arrays dims d
-
-  pub opened : (n : Node) (e : ℕ) (f : Field) → OneField k s at n e f → Opened e f
-  opened n e f o =
-      let br = field-bracket k s at e close n f hc o in
-      let i = field-items k s at e close n f br o in
-      let x = row-head rd s close (i .first) (i .second ∷ i .others) (gapAt s (at + 1) close) e (subst (λ (l : List Node). Row rd s close l (gapAt s (at + 1) close) e) (i .are) (br .row)) in
-      let v1 : rd p1 ≡ got (i .first) (x .0) = ap rd h1 ∙ x .1 in
-      let q1 = ended p1 e1 (x .0) (i .first) v1 he1 in
-      let y = row-head rd s close (i .second) (i .others) (thenAt s e1 close) e (subst (λ (q : ℕ). Row rd s close (i .second ∷ i .others) (thenAt s q close) e) q1 (x .2)) in
-      let v2 : rd p2 ≡ got (i .second) (y .0) = ap rd h2 ∙ y .1 in
-      let q2 = ended p2 e2 (y .0) (i .second) v2 he2 in
-      record {
-        deep = br .room;
-        a = i .first;
-        b = i .second;
-        us = i .others;
-        first = v1 ∙ ap (λ (q : ℕ). got (i .first) q) q1;
-        second = v2 ∙ ap (λ (q : ℕ). got (i .second) q) q2;
-        row = subst (λ (g : Gap). Row rd s close (i .others) g e) (ap (λ (q : ℕ). thenAt s q close) q2 ∙ sym h3) (y .2);
-        few = i .few;
-        named = i .named;
-        d = i .d;
-        dims = i .dims;
-        is = i .is;
-        shaped = i .shaped;
-        typed = i .typed;
-      }
+-- ---- behind the inner descr
+module _ (k : ℕ) (s : List ℕ) (close : ℕ) (table : List ℕ) (r : Spot) (e : ℕ) (ns : List ℕ) (h : DueShape k s close table r e ns) (g : Gap) (hg : g ≡ thenAt s (r .end) close) where
+  row-here : Row (read.value k s) s close (h .behind .us) g e
+  row-here = subst (λ (x : Gap). Row (read.value k s) s close (h .behind .us) x e) (sym hg) (h .behind .row)
 
   -- no sub-shape
-  pub parts-two : (end : ℕ) → end ≡ gapPlace g3 → OneOf (0 ∷ 2 ∷ []) (tagOf the-type g3) → (n : Node) (e : ℕ) (f : Field) → OneField k s at n e f
-      → PartsOf k s e f (record { name = p1; inner = p2; shape = 0; rank = 0; end = end })
+  pub shaped-none : (entry up m end : ℕ) → OneOf (0 ∷ 2 ∷ []) (tagOf the-type g) → end ≡ gapPlace g → Shaped e entry up m ns table table r (record { end = end; entry = r .entry; byte = r .byte; size = r .size })
   unfolding forgetAll
-  parts-two end hend o n e f h =
-      let w = opened n e f h in
-      let z = row-none rd s close (w .us) g3 e o (w .row) in
-      let nm = name-is (k - 1) s p1 e1 (w .a) (f .name) (w .first) (w .named) in
-      let g : gives [] ≡ gives (w .dims) = sym (ap (λ (l : List Node). perhaps (forgetAll (nodes l))) (z .0)) ∙ w .shaped in
-      let none : [] ≡ w .dims = cc in
-      let len : length {A = ℕ} [] ≡ length (w .dims) = ap length none in
-      record {
-        deep = w .deep;
-        ends = hend ∙ z .1;
-        begins = nm .1;
-        named = nm .0;
-        node = w .b;
-        end-of-node = e2;
-        stands = w .second;
-        d = w .d;
-        is = w .is;
-        ns = w .dims;
-        ranked = len;
-        shaped = λ lt. absurd (omega arith);
-        typed = w .typed;
-      }
+  shaped-none entry up m end o he =
+      let z = row-none (read.value k s) s close (h .behind .us) g e o row-here in
+      let q : gives [] ≡ gives ns = sym (ap (λ (l : List Node). perhaps (forgetAll (nodes l))) (z .0)) ∙ h .behind .shaped in
+      let none : [] ≡ ns = cc in
+      let next : r .entry ≡ r .entry + 0 = omega arith in
+      subst (λ (l : List ℕ). Shaped e entry up m l table table r (record { end = end; entry = r .entry; byte = r .byte; size = r .size })) none
+      (record { ends = he ∙ z .1; next = next; next-name = refl; sized = refl; table-after = refl })
 
   -- a sub-shape
-  module _ (p3 : ℕ) (r : Judged) (end rank : ℕ) (hg : g3 ≡ Item p3) (hj : Judges p3 (read.value (k - 1) s p3) r) (hend : end ≡ gapPlace (thenAt s (r .end) close)) (hr : rank ≡ rankOf (r .verdict)) where
-    third : (us : List Node) (e : ℕ) → length us ≤ 1 → Row rd s close us (Item p3) e → (c : Node) × (q : ℕ) × (us ≡ c ∷ []) × (rd p3 ≡ got c q) × Row rd s close [] (thenAt s q close) e
-    third [] e few h = absurd h
-    third (c ∷ []) e few h = (c, h .0, refl, h .1, h .2)
-    third (c ∷ u ∷ us) e few h = absurd (omega arith)
+  module _ (p : ℕ) (hp : g ≡ Item p) where
+    third : (us : List Node) → length us ≤ 1 → Row (read.value k s) s close us (Item p) e → (c : Node) × (q : ℕ) × (us ≡ c ∷ []) × (read.value k s p ≡ got c q) × Row (read.value k s) s close [] (thenAt s q close) e
+    third [] few w = absurd w
+    third (c ∷ []) few w = (c, w .0, refl, w .1, w .2)
+    third (c ∷ u ∷ us) few w = absurd (omega arith)
 
-    pub parts-three : (n : Node) (e : ℕ) (f : Field) → OneField k s at n e f → PartsOf k s e f (record { name = p1; inner = p2; shape = p3; rank = rank; end = end })
+    third-here : (c : Node) × (q : ℕ) × (h .behind .us ≡ c ∷ []) × (read.value k s p ≡ got c q) × Row (read.value k s) s close [] (thenAt s q close) e
+    third-here = third (h .behind .us) (h .behind .few) (subst (λ (x : Gap). Row (read.value k s) s close (h .behind .us) x e) hp row-here)
+
+    pub shape-stands : dimensionsAt (read.value k s p) ≡ gives ns
     unfolding forgetAll
-    parts-three n e f h =
-        let w = opened n e f h in
-        let t = third (w .us) e (w .few) (subst (λ (g : Gap). Row rd s close (w .us) g e) hg (w .row)) in
-        let nm = name-is (k - 1) s p1 e1 (w .a) (f .name) (w .first) (w .named) in
-        let sh : subShape (forget (t .0)) ≡ gives (w .dims) = sym (ap (λ (l : List Node). perhaps (forgetAll (nodes l))) (t .2)) ∙ w .shaped in
-        let da : dimensionsAt (rd p3) ≡ gives (w .dims) = ap dimensionsAt (t .3) ∙ sh in
-        let ends : r .end ≡ t .1 = hj .ends ∙ ap (endOr p3) (t .3) in
-        let said : outlined (r .verdict) ≡ gives (outlineOf (w .dims)) = hj .says ∙ ap (each outlineOf) da in
+    shape-stands =
+        let t = third-here in
+        let sh : subShape (forget (t .0)) ≡ gives ns = sym (ap (λ (l : List Node). perhaps (forgetAll (nodes l))) (t .2)) ∙ h .behind .shaped in
+        ap dimensionsAt (t .3) ∙ sh
+
+    pub shape-ends : (end1 end : ℕ) → end1 ≡ place (pos (read.value k s p)) → end ≡ gapPlace (thenAt s end1 close) → end ≡ e
+    shape-ends end1 end h1 he =
+        let t = third-here in
+        let q : end1 ≡ t .1 = h1 ∙ ap (λ (x : Got Node). place (pos x)) (t .3) in
+        he ∙ ap (λ (x : ℕ). gapPlace (thenAt s x close)) q ∙ row-last (read.value k s) s close (thenAt s (t .1) close) e (t .4)
+
+    pub shaped-some : (entry up m rank end1 end size : ℕ) (front table′ : List ℕ) → rank ≡ length ns → front ≡ ns → end1 ≡ place (pos (read.value k s p)) → end ≡ gapPlace (thenAt s end1 close)
+        → size ≡ sizeOver front (r .size) → table′ ≡ above front entry up m (r .entry) (r .size) table → Shaped e entry up m ns table table′ r (record { end = end; entry = r .entry + rank; byte = r .byte; size = size })
+    shaped-some entry up m rank end1 end size front table′ hr hf h1 he hs ht =
         record {
-          deep = w .deep;
-          ends = hend ∙ ap (λ (q : ℕ). gapPlace (thenAt s q close)) ends ∙ row-last rd s close (thenAt s (t .1) close) e (t .4);
-          begins = nm .1;
-          named = nm .0;
-          node = w .b;
-          end-of-node = e2;
-          stands = w .second;
-          d = w .d;
-          is = w .is;
-          ns = w .dims;
-          ranked = hr ∙ rank-is (r .verdict) (w .dims) said;
-          shaped = λ lt. da;
-          typed = w .typed;
+          ends = shape-ends end1 end h1 he;
+          next = ap (λ (x : ℕ). r .entry + x) hr;
+          next-name = refl;
+          sized = hs ∙ ap (λ (l : List ℕ). sizeOver l (r .size)) hf;
+          table-after = ht ∙ ap (λ (l : List ℕ). above l entry up m (r .entry) (r .size) table) hf;
         }
+
+-- the dimensions at the front of a buffer that has room for them
+pub shape-front : (ns zeros out : List ℕ) (r rank : ℕ) → Stored ns zeros r out → length ns ≤ length zeros → rank ≡ r → take rank out ≡ ns
+shape-front ns zeros out r rank st le hr =
+    ap (λ (i : ℕ). take i out) (hr ∙ st .counted) ∙ ap (take (length ns)) (st .out-after ∙ stored-over ns zeros le) ∙ take-append-seam ns (drop (length ns) zeros)

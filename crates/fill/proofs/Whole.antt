@@ -1,15 +1,14 @@
--- What the whole header needs of `fill`: 13 not given makes a dtype narrow; the buffers, filled from their front, hold the table and the names as crate record
--- has them; and no second outcome satisfies the contract. Assumes nothing.
-use Prim.Native.Nat.{ℕ, _+_, _*_, _≤_}
+-- What the whole text needs of `fill`: 13 not given makes a dtype narrow; and the buffers, filled from their front, hold the table and the names as crate
+-- record has them. Assumes nothing.
+use Prim.Native.Nat.{ℕ, _*_, _≤_}
 use native.Mathlib.Omega.{arith}
-use mathlib.Core.Path.{_≡_, refl, sym, ap, _∙_}
+use mathlib.Core.Path.{_≡_, refl}
 use mathlib.Core.List.{List}
 use mathlib.Core.Bool.{Bool, true, false, _||_}
 use lib.ListN.{length}
 use lib.Seq.{sets}
 use lib.Dec.{ltb}
 use borrow.Author.Tests.{ltb-false}
-use Rattle.counts.specs.OneOutcome.{OneOutcome}
 use Rattle.dtype.specs.Dtype.{Dtype, Fields, plain, array, record-of, end-of-fields, field-then}
 use Rattle.dtype.specs.Entries.{entriesOf, levels, someEntry, someEntryIn}
 use Rattle.dtype.specs.Names.{nameBytes}
@@ -19,8 +18,7 @@ use Rattle.dtype.specs.Limits.{overLevels}
 use Rattle.dtype.proofs.Seen.{table-length, all-names-length}
 use Rattle.record.specs.Rooms.{atFront}
 use Rattle.dims.proofs.Stored.{stored-over}
-use Rattle.fill.specs.declared.Spot.{Spot}
-use Rattle.fill.specs.Filled.{Narrow, NarrowIn, DueAt, Fills}
+use Rattle.fill.specs.Filled.{Narrow, NarrowIn}
 
 -- ---- 13
 or-none : (a b : Bool) → (a || b) ≡ false → (a ≡ false) × (b ≡ false)
@@ -47,19 +45,3 @@ table-held d l le = stored-over (table d) l (omega (arith, table-length d))
 
 pub names-held : (d : Dtype) (l : List ℕ) → nameBytes d ≤ length l → sets l 0 (names d) ≡ atFront (names d) l
 names-held d l le = stored-over (names d) l (omega (arith, all-names-length d))
-
--- ---- an outcome of `fill` is its answer and what the two buffers then hold
-spot-eq : {a b c d a′ b′ c′ d′ : ℕ} → a ≡ a′ → b ≡ b′ → c ≡ c′ → d ≡ d′ → _≡_ {A = Spot} (record { end = a; entry = b; byte = c; size = d }) (record { end = a′; entry = b′; byte = c′; size = d′ })
-spot-eq ha hb hc hd = cc
-
-three-eq : {r r′ : Spot} {a a′ b b′ : List ℕ} → r ≡ r′ → a ≡ a′ → b ≡ b′ → _≡_ {A = Spot × List ℕ × List ℕ} (r, a, b) (r′, a′, b′)
-three-eq hr ha hb = cc
-
-pub fill-one : (k : ℕ) (s : List ℕ) (at entry up m byte : ℕ) (t ns : List ℕ) → DueAt k s at entry t byte ns → OneOutcome {A = Spot × List ℕ × List ℕ} (λ o. Fills k s at entry up m byte t ns (o .1) (o .2) (o .0))
-fill-one k s at entry up m byte t ns w x y p q =
-    let a = p (w .0) (w .1) (w .2) (w .3) in
-    let b = q (w .0) (w .1) (w .2) (w .3) in
-    three-eq {r = x .0} {r′ = y .0} {a = x .1} {a′ = y .1} {b = x .2} {b′ = y .2}
-    (spot-eq {a = x .0 .end} {b = x .0 .entry} {c = x .0 .byte} {d = x .0 .size} {a′ = y .0 .end} {b′ = y .0 .entry} {c′ = y .0 .byte} {d′ = y .0 .size}
-    (a .ends ∙ sym (b .ends)) (a .next ∙ sym (b .next)) (a .next-name ∙ sym (b .next-name)) (a .sized ∙ sym (b .sized)))
-    (a .table-after ∙ sym (b .table-after)) (a .names-after ∙ sym (b .names-after))

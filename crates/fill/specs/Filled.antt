@@ -1,7 +1,7 @@
 -- What the filling walk is asked and what it owes. Document 01, "The record": "The dtype table is listed depth first, left to right, parent first: one
 -- entry for each plain type, array level and record. Names are stored decoded, end to end in table order", and "The refusal numbers": "On success, room
 -- beyond what was needed is unchanged." The table and the names themselves are crate dtype's. Definitions only. Assumes nothing.
-use Prim.Native.Nat.{ℕ, _+_, _-_, _*_, _<_, _≤_}
+use Prim.Native.Nat.{ℕ, _+_, _*_, _≤_}
 use mathlib.Core.Path.{_≡_}
 use mathlib.Core.List.{List, [], _++_}
 use lib.ListN.{length}
@@ -11,19 +11,16 @@ use Rattle.dtype.specs.Dtype.{Dtype, Fields, plain, array, record-of, end-of-fi
 use Rattle.dtype.specs.Entries.{entriesOf, entriesIn, fieldCount, levels}
 use Rattle.dtype.specs.Names.{nameBytes, nameBytesIn, namesOf, namesIn}
 use Rattle.dtype.specs.Flat.{entry-width, saturated, flat, flats}
-use Rattle.record.specs.Descr.{Field, arrays, descrOf, fieldOf, fieldsOf}
+use Rattle.record.specs.Descr.{Field, perhaps, descrOf, fieldOf, fieldsOf}
 use Rattle.tokens.specs.Node.{Node, nodes}
 use Rattle.tokens.specs.Got.{got}
-use Rattle.tokens.specs.Text.{byteAt}
-use Rattle.tokens.specs.Strings.{spelled}
 use Rattle.literal.specs.Literal.{value}
-use Rattle.literal.specs.Brackets.{gapAt}
+use Rattle.literal.specs.Brackets.{gapAt, thenAt}
 use Rattle.literal.specs.Rows.{Row}
 use Rattle.literal.specs.Forget.{forget, forgetAll}
-use Rattle.dims.specs.Answer.{dimensionsAt}
+use Rattle.entry.specs.Written.{sizeOver, above}
 use Rattle.fill.specs.declared.Spot.{Spot}
 use Rattle.fill.specs.declared.Many.{Many}
-use Rattle.fill.specs.declared.Parts.{Parts}
 
 -- no field has over 32 array levels
 abbrev mutual
@@ -42,27 +39,32 @@ pub record OneField (k : ℕ) (s : List ℕ) (at : ℕ) (n : Node) (e : ℕ) (f 
   pub stands : value k s at ≡ got n e
   pub is : fieldOf (forget n) ≡ gives f
 
-abbrev pub FieldAt : ℕ → List ℕ → ℕ → Type 0
-FieldAt k s at = (n : Node) × (e : ℕ) × (f : Field) × OneField k s at n e f
+-- ---- what stands behind the inner descr of a field
+-- it ended at q, and then comes nothing or a sub-shape: its dimensions are ns, and the field ends at e
+pub record Behind (k : ℕ) (s : List ℕ) (close q e : ℕ) (ns : List ℕ) : Type 0 where
+  pub us : List Node
+  pub row : Row (value k s) s close us (thenAt s q close) e
+  pub few : length us ≤ 1
+  pub shaped : perhaps (forgetAll (nodes us)) ≡ gives ns
+  pub low : length ns ≤ 32
 
--- its parts: a name; an inner descr that gives d; a sub-shape ns, which stands there where it has dimensions
-pub record PartsOf (k : ℕ) (s : List ℕ) (e : ℕ) (f : Field) (r : Parts) : Type 0 where
-  pub deep : 0 < k
-  pub ends : r .end ≡ e
-  pub begins : r .name < length s
-  pub named : f .name ≡ spelled (byteAt s (r .name)) s (r .name + 1) .bytes
-  pub node : Node
-  pub end-of-node : ℕ
-  pub stands : value (k - 1) s (r .inner) ≡ got node end-of-node
-  pub d : Dtype
-  pub is : descrOf (forget node) ≡ gives d
-  pub ns : List ℕ
-  pub ranked : r .rank ≡ length ns
-  pub shaped : 0 < length ns → dimensionsAt (value (k - 1) s (r .shape)) ≡ gives ns
-  pub typed : f .type ≡ arrays ns d
+-- the type of a field was written and ended at r; there is room for the levels ns
+pub record DueShape (k : ℕ) (s : List ℕ) (close : ℕ) (table : List ℕ) (r : Spot) (e : ℕ) (ns : List ℕ) : Type 0 where
+  pub behind : Behind k s close (r .end) e ns
+  pub room : entry-width * (r .entry + length ns) ≤ length table
 
-abbrev pub PartsAt : ℕ → List ℕ → ℕ → Parts → Type 0
-PartsAt k s at r = (n : Node) (e : ℕ) (f : Field) → OneField k s at n e f → PartsOf k s e f r
+pub record Shaped (e entry up m : ℕ) (ns table table′ : List ℕ) (r r′ : Spot) : Type 0 where
+  pub ends : r′ .end ≡ e
+  pub next : r′ .entry ≡ r .entry + length ns
+  pub next-name : r′ .byte ≡ r .byte
+  pub sized : r′ .size ≡ sizeOver ns (r .size)
+  pub table-after : table′ ≡ above ns entry up m (r .entry) (r .size) table
+
+abbrev pub DueShapeAt : (k : ℕ) (s : List ℕ) (close : ℕ) (table : List ℕ) → Spot → Type 0
+DueShapeAt k s close table r = (e : ℕ) × (ns : List ℕ) × DueShape k s close table r e ns
+
+abbrev pub Shapes : (k : ℕ) (s : List ℕ) (close entry up m : ℕ) (table table′ : List ℕ) (r r′ : Spot) → Type 0
+Shapes k s close entry up m table table′ r r′ = (e : ℕ) (ns : List ℕ) → DueShape k s close table r e ns → Shaped e entry up m ns table table′ r r′
 
 -- ---- a descr
 -- the value at `at` is a descr that gives d, and there is room for d

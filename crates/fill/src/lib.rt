@@ -1,6 +1,50 @@
-// The table and the names of a dtype, written to lent room (document 01, "The record"): the walk that comes when the whole header has been judged.
-// It can not fail, so that its functions, which are in `inner`, ask for a descr that was accepted and for the room that it needs.
-pub mod inner;
+// The record of a header's text (document 01, "The record"): judged, and then its table, names and shape written to three lent rooms, or 23. Nothing is
+// written before the last refusal is ruled out, so that the walk which writes cannot fail: `fill`, `fields` and `field` call each other in a cycle, and each
+// bracket that opens leaves one fewer. A record's entry is written behind its fields', and the array levels of a sub-shape behind their type's: their sizes
+// are known then. No public function here has a `requires`.
+use dtype::ENTRY;
+use dtype::Order;
+use entry::inner::put_over;
+use entry::inner::put_plain;
+use entry::inner::put_record;
+use entry::inner::type_of;
+use field::closing_at;
+use field::end_of;
+use field::place_of;
+use field::string_at;
+use field::type_at;
+use grammar::OPEN;
+use held::held_sum;
+use judge::Judged;
+use judge::Plan;
+use literal::gaps::Gap;
+use literal::gaps::gap_at;
+use literal::gaps::then_at;
+use refusal::Refusal;
+use tokens::strings::decode;
+ghost use mathlib.Core.Path.{_≡_};
+ghost use Prim.Native.Nat.{_+_, _≤_, _<_};
+ghost use lib.ListN.{length};
+ghost use lib.Seq.{sets};
+ghost use Rattle.tokens.specs.Strings.{spelled};
+ghost use Rattle.dtype.specs.Record.{Record};
+ghost use Rattle.tokens.specs.Text.{byteAt, skip};
+ghost use Rattle.judge.specs.Judged.{PlanOf};
+ghost use Rattle.fill.specs.Text.{lent, ReadsText, Houses};
+ghost use Rattle.fill.specs.Filled.{DueShapeAt, Shapes, DueAt, Fills, DueFieldsFrom, FillsFields, DueFieldAt, FillsField};
+
+// What a record has beside its table, names and shape, which are in the lent rooms: its order, and how much of each room it takes.
+pub struct Said {
+    pub order: Order,
+    pub rank: usize,
+    pub entries: usize,
+    pub names: usize,
+}
+
+pub enum TextRead {
+    Read(Said),
+    Refused(Refusal),
+}
 
 // Where a descr ends, the entry and the name byte that come behind its own, and its size as an entry holds it.
 pub struct Spot {
@@ -19,11 +63,187 @@ pub struct Many {
     pub count: u64,
 }
 
-// Where the parts of a field begin: its name, its inner descr, and its sub-shape of so many dimensions, where there are some; and where it ends.
-pub struct Parts {
-    pub name: usize,
-    pub inner: usize,
-    pub shape: usize,
-    pub rank: usize,
-    pub end: usize,
+// The record of a header's text.
+pub fn read_text(text: &[u8], table: &mut [u64], names: &mut [u8], shape: &mut [u64]) -> TextRead
+    ensures { λ r. ⌜ ReadsText (now (text .entry)) (lent (now (table .entry)) (now (names .entry)) (now (shape .entry))) r (lent (now (table .exit)) (now (names .exit)) (now (shape .exit))) ⌝ }
+{
+    match judge::judge(text) {
+        Judged::Fits(plan) => house(text, plan, table, names, shape),
+        Judged::Refused(r) => TextRead::Refused(r),
+    }
+}
+
+// The parts of an accepted record, written to the lent rooms; or 23.
+fn house(
+    text: &[u8],
+    plan: Plan,
+    table: &mut [u64],
+    names: &mut [u8],
+    shape: &mut [u64],
+) -> TextRead
+    requires { ⌜ ((r : Record) × PlanOf (now text) (skip (now text) 0) plan r) ⌝ }
+    ensures { λ x. ⌜ ((r : Record) → PlanOf (now (text .entry)) (skip (now (text .entry)) 0) plan r → Houses r (lent (now (table .entry)) (now (names .entry)) (now (shape .entry))) x (lent (now (table .exit)) (now (names .exit)) (now (shape .exit)))) ⌝ }
+{
+    let order = plan.order;
+    let shaped = plan.shape;
+    let outline = shaped.outline;
+    let rank = outline.rank;
+    let descr = plan.descr;
+    let totals = descr.totals;
+    let entries = totals.entries as usize;
+    let bytes = totals.names as usize;
+    if (table.len() / ENTRY < entries) | (names.len() < bytes) | (shape.len() < rank) {
+        return TextRead::Refused(Refusal::Room);
+    }
+    fill(text, descr.at, OPEN - 1, table, 0, 0, 0, names, 0);
+    dims::inner::fill(text, shaped.at, OPEN - 1, shape);
+    TextRead::Read(Said {
+        order: order,
+        rank: rank,
+        entries: entries,
+        names: bytes,
+    })
+}
+
+// Writes the table and the names of the descr at `at`, from entry `entry` and from byte `byte` on. Its parent is the entry `up`, and its name has so many
+// bytes.
+fn fill(
+    text: &[u8],
+    at: usize,
+    room: usize,
+    table: &mut [u64],
+    entry: usize,
+    up: u64,
+    name: u64,
+    names: &mut [u8],
+    byte: usize,
+) -> Spot
+    requires { ⌜ DueAt room (now text) at entry (now table) byte (now names) ⌝ }
+    ensures { λ r. ⌜ Fills room (now (text .entry)) at entry up name byte (now (table .entry)) (now (names .entry)) (now (table .exit)) (now (names .exit)) r ⌝ }
+{
+    if string_at(text, at) {
+        let size = put_plain(table, entry, type_of(type_at(text, at)), up, name);
+        return Spot {
+            end: end_of(text, at, room),
+            entry: entry + 1,
+            byte: byte,
+            size: size,
+        };
+    }
+    let own = entry as u64;
+    let r = fields(text, at + 1, room - 1, table, entry + 1, own, names, byte);
+    put_record(table, entry, up, name, r.count, r.entry, r.size);
+    Spot {
+        end: r.end,
+        entry: r.entry,
+        byte: r.byte,
+        size: r.size,
+    }
+}
+
+// The fields of a record, up to its closing bracket.
+fn fields(
+    text: &[u8],
+    from: usize,
+    room: usize,
+    table: &mut [u64],
+    entry: usize,
+    up: u64,
+    names: &mut [u8],
+    byte: usize,
+) -> Many
+    requires { ⌜ DueFieldsFrom room (now text) from entry (now table) byte (now names) ⌝ }
+    ensures { λ r. ⌜ FillsFields room (now (text .entry)) from entry up byte (now (table .entry)) (now (names .entry)) (now (table .exit)) (now (names .exit)) r ⌝ }
+{
+    let mut g = gap_at(text, from, 93);
+    let mut at = entry;
+    let mut b = byte;
+    let mut size: u64 = 0;
+    let mut count: u64 = 0;
+    loop {
+        let Gap::Item(p) = g else {
+            return Many {
+                end: place_of(g),
+                entry: at,
+                byte: b,
+                size: size,
+                count: count,
+            };
+        };
+        let r = field(text, p, room, table, at, up, names, b);
+        at = r.entry;
+        b = r.byte;
+        size = held_sum(size, r.size);
+        count += 1;
+        g = then_at(text, r.end, 93);
+    }
+}
+
+// A field: its name, its type, and then the levels of its sub-shape above the type. Where the inner descr ends is known once it is written, so that no
+// text is read once for each bracket around it.
+fn field(
+    text: &[u8],
+    at: usize,
+    room: usize,
+    table: &mut [u64],
+    entry: usize,
+    up: u64,
+    names: &mut [u8],
+    byte: usize,
+) -> Spot
+    requires { ⌜ DueFieldAt room (now text) at entry (now table) byte (now names) ⌝ }
+    ensures { λ r. ⌜ FillsField room (now (text .entry)) at entry up byte (now (table .entry)) (now (names .entry)) (now (table .exit)) (now (names .exit)) r ⌝ }
+{
+    let close = closing_at(text, at);
+    let deep = room - 1;
+    let p1 = place_of(gap_at(text, at + 1, close));
+    let m = name_at(text, p1, names, byte);
+    let n = m as u64;
+    let p2 = place_of(then_at(text, end_of(text, p1, deep), close));
+    let r = fill(text, p2, deep, table, entry, up, n, names, byte + m);
+    shaped(text, close, deep, r, table, entry, up, n)
+}
+
+// The levels of the sub-shape behind a type that ended at `r`, where there is one, written above its entries, which move on for them.
+fn shaped(
+    text: &[u8],
+    close: u8,
+    room: usize,
+    r: Spot,
+    table: &mut [u64],
+    entry: usize,
+    up: u64,
+    name: u64,
+) -> Spot
+    requires { ⌜ DueShapeAt room (now text) close (now table) r ⌝ }
+    ensures { λ o. ⌜ Shapes room (now (text .entry)) close entry up name (now (table .entry)) (now (table .exit)) r o ⌝ }
+{
+    let g = then_at(text, r.end, close);
+    let Gap::Item(p) = g else {
+        return Spot {
+            end: place_of(g),
+            entry: r.entry,
+            byte: r.byte,
+            size: r.size,
+        };
+    };
+    let mut shape: [u64; 32] = [0; 32];
+    let rank = dims::inner::fill(text, p, room, &mut shape);
+    let size = put_over(table, entry, up, name, &shape[..rank], r.entry, r.size);
+    Spot {
+        end: place_of(then_at(text, end_of(text, p, room), close)),
+        entry: r.entry + rank,
+        byte: r.byte,
+        size: size,
+    }
+}
+
+// The name that the string at `at` spells, from byte `byte` on, and its length.
+fn name_at(text: &[u8], at: usize, names: &mut [u8], byte: usize) -> usize
+    requires { ⌜ at < length (now text) ⌝ }
+    requires { ⌜ byte + length (spelled (byteAt (now text) at) (now text) (at + 1) .bytes) ≤ length (now names) ⌝ }
+    ensures { λ r. ⌜ r ≡ length (spelled (byteAt (now (text .entry)) at) (now (text .entry)) (at + 1) .bytes) ⌝ }
+    ensures { λ _. ⌜ now (names .exit) ≡ sets (now (names .entry)) byte (spelled (byteAt (now (text .entry)) at) (now (text .entry)) (at + 1) .bytes) ⌝ }
+{
+    decode(text, at + 1, text[at], &mut names[byte..])
 }

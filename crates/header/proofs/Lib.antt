@@ -1,4 +1,3 @@
-pub mod Housing
 pub mod Whole
 pub mod Held
 pub mod Outcomes

@@ -21,11 +21,12 @@ use Rattle.prefix.specs.Answer.{versionIs}
 use Rattle.prefix.proofs.Outcomes.{version-apart}
 use Rattle.judge.specs.Judged.{reading}
 use Rattle.judge.proofs.Top.{reading-keeps}
-use Rattle.header.specs.declared.Said.{Said}
-use Rattle.header.specs.declared.TextRead.{TextRead}
+use Rattle.fill.specs.declared.Said.{Said}
+use Rattle.fill.specs.declared.TextRead.{TextRead}
+use Rattle.fill.proofs.Reading as text
 use Rattle.header.specs.declared.Header.{Header}
 use Rattle.header.specs.declared.HeaderRead.{HeaderRead}
-use Rattle.header.specs.Answer.{textAnswer, ReadsText, Told, headerIs, answer, ReadsHeld, Reads}
+use Rattle.header.specs.Answer.{ReadsText, Told, headerIs, answer, ReadsHeld, Reads}
 
 module _ {A : Type 0} where
   gives-apart : (a b : A) → _≡_ {A = Outcome A} (gives a) (gives b) → a ≡ b
@@ -38,12 +39,6 @@ module _ {A : Type 0} where
   never a n e = absurd (let z : _≡_ {A = ℕ} 0 1 = cc in omega arith)
 
 -- ---- no two answers stand for the same
-text-apart : (x y : TextRead) → textAnswer x ≡ textAnswer y → x ≡ y
-text-apart (TextRead.Read s) (TextRead.Read u) e = ap TextRead.Read (gives-apart s u e)
-text-apart (TextRead.Read s) (TextRead.Refused g) e = never s (numberOf g) e
-text-apart (TextRead.Refused f) (TextRead.Read u) e = never u (numberOf f) (sym e)
-text-apart (TextRead.Refused f) (TextRead.Refused g) e = ap TextRead.Refused (number-apart f g (refused-apart {A = Said} (numberOf f) (numberOf g) e))
-
 header-eq : {v w : Version} {s u : Said} {a b : ℕ} → v ≡ w → s ≡ u → a ≡ b → _≡_ {A = Header} (record { version = v; said = s; start = record { 0 = a } }) (record { version = w; said = u; start = record { 0 = b } })
 header-eq hv hs ha = cc
 
@@ -68,7 +63,7 @@ pub read-held-one : (longer : Bool) (file : List ℕ) (l : Lent) → OneOutcome 
 read-held-one longer file l x y p q = pair-eq (apart (x .0) (y .0) (p .answered ∙ sym (q .answered))) (p .after ∙ sym (q .after))
 
 pub read-text-one : (text : List ℕ) (l : Lent) → OneOutcome {A = TextRead × Lent} (λ o. ReadsText text l (o .0) (o .1))
-read-text-one text l x y p q = pair-eq (text-apart (x .0) (y .0) (p .answered ∙ sym (q .answered))) (p .after ∙ sym (q .after))
+read-text-one = text.read-text-one
 
 -- the front of a room
 pub front-one : (room : List ℕ) (n : ℕ) → OneOutcome {A = List ℕ} (λ r. r ≡ take n room)

@@ -1,4 +1,4 @@
--- From the judged text to the text read with lent rooms, from there to what stands behind a prefix, and to the whole file. Assumes nothing.
+-- From the text read with lent rooms to what stands behind a prefix, and to the whole file. Assumes nothing.
 use Prim.Native.Nat.{ℕ, _+_, _-_, _<_, _≤_}
 use native.Mathlib.Omega.{arith}
 use mathlib.Core.Path.{_≡_, refl, sym, ap, subst, _∙_}
@@ -15,48 +15,16 @@ use Rattle.record.specs.Version.{Version, textStart, one-zero, two-zero, three-
 use Rattle.record.specs.Prefix.{Prefix, dataStart, prefix, textOf}
 use Rattle.record.specs.Rooms.{Rooms, needs, tooSmall, Lent, roomsOf}
 use Rattle.record.specs.Header as header
-use Rattle.tokens.specs.Text.{skip}
 use Rattle.prefix.specs.declared.Version as declared
 use Rattle.prefix.specs.declared.Prefix as before
 use Rattle.prefix.specs.declared.PrefixRead.{PrefixRead}
 use Rattle.prefix.specs.Answer as prefixes
 use Rattle.prefix.specs.Answer.{versionIs, prefixIs}
-use Rattle.judge.specs.declared.Plan.{Plan}
-use Rattle.judge.specs.declared.Judged.{Judged}
-use Rattle.judge.specs.Judged.{reading, PlanOf, JudgedIs}
-use Rattle.header.specs.declared.Said.{Said}
-use Rattle.header.specs.declared.TextRead.{TextRead}
+use Rattle.judge.specs.Judged.{reading}
+use Rattle.fill.specs.declared.Said.{Said}
+use Rattle.fill.specs.declared.TextRead.{TextRead}
 use Rattle.header.specs.declared.HeaderRead.{HeaderRead}
-use Rattle.header.specs.Answer.{saidOf, textAnswer, roomed, textInto, filled, Houses, ReadsText, Told, told, answer, missing, behind, heldInto, ReadsBehind, ReadsHeld, Reads}
-
--- ---- the text
-module _ (text : List ℕ) (j : Judged) (h : JudgedIs text (skip text 0) j (header.recordIn reading text)) where
-  plan-of : (plan : Plan) (o : Outcome Record) → JudgedIs text (skip text 0) (Judged.Fits plan) o → (r : Record) × PlanOf text (skip text 0) plan r × (o ≡ gives r)
-  plan-of plan (gives r) k = (r, k, refl)
-  plan-of plan (refused n) k = absurd k
-
-  fits : (plan : Plan) → j ≡ Judged.Fits plan → (r : Record) × PlanOf text (skip text 0) plan r × (header.recordIn reading text ≡ gives r)
-  fits plan e = plan-of plan (header.recordIn reading text) (subst (λ (x : Judged). JudgedIs text (skip text 0) x (header.recordIn reading text)) e h)
-
-  pub text-plan : (plan : Plan) → j ≡ Judged.Fits plan → (r : Record) × PlanOf text (skip text 0) plan r
-  text-plan plan e = let x = fits plan e in (x .0, x .1)
-
-  pub text-housed : (plan : Plan) (l : Lent) (x : TextRead) (l′ : Lent) → j ≡ Judged.Fits plan → ((r : Record) → PlanOf text (skip text 0) plan r → Houses r l x l′) → ReadsText text l x l′
-  text-housed plan l x l′ e k =
-      let y = fits plan e in
-      let a = k (y .0) (y .1) in
-      let same : textInto text l ≡ roomed (roomsOf l) (y .0) = ap (λ (o : Outcome Record). then o (roomed (roomsOf l))) (y .2) in
-      record { answered = a .answered ∙ ap (each saidOf) (sym same); after = a .after ∙ ap (λ (o : Outcome Record). filled o l) (sym same) }
-
-  none-of : (f : Refusal) (o : Outcome Record) → JudgedIs text (skip text 0) (Judged.Refused f) o → o ≡ refused (numberOf f)
-  none-of f (gives r) k = absurd k
-  none-of f (refused n) k = ap refused (sym k)
-
-  pub text-refused : (f : Refusal) (l : Lent) → j ≡ Judged.Refused f → ReadsText text l (TextRead.Refused f) l
-  text-refused f l e =
-      let z = none-of f (header.recordIn reading text) (subst (λ (x : Judged). JudgedIs text (skip text 0) x (header.recordIn reading text)) e h) in
-      let same : textInto text l ≡ refused (numberOf f) = ap (λ (o : Outcome Record). then o (roomed (roomsOf l))) z in
-      record { answered = sym (ap (each saidOf) same); after = sym (ap (λ (o : Outcome Record). filled o l) same) }
+use Rattle.header.specs.Answer.{saidOf, textAnswer, roomed, textInto, filled, ReadsText, Told, told, answer, missing, behind, heldInto, ReadsBehind, ReadsHeld, Reads}
 
 -- ---- behind the prefix
 pub start-small : (v : Version) → textStart v ≤ 12

@@ -1,5 +1,5 @@
 -- What each answer of this crate stands for, and what the lent rooms then hold. Document 01, "The refusal numbers": "Each returns its number only; every
--- lent buffer stays unchanged. On success, room beyond what was needed is unchanged." What a file and a text give is `headerInto` and `recordIn` of
+-- lent buffer stays unchanged. On success, room beyond what was needed is unchanged." What is said of a text is crate fill's. What a file gives is `headerInto` of
 -- crate record, with the literal's own reading; every other that keeps the grammar's promise gives the same (`any-reading` in proofs/Outcomes.antt). Definitions only. Assumes nothing.
 use Prim.Native.Nat.{ℕ}
 use mathlib.Core.Path.{_≡_}
@@ -9,54 +9,16 @@ use lib.Dec.{ltb}
 use lib.ListN.{length, take, drop}
 use Rattle.counts.specs.Outcome.{Outcome, gives, refused, then, each, unless}
 use Rattle.refusal.specs.Numbers.{numberOf}
-use Rattle.dtype.specs.Entries.{entriesOf}
-use Rattle.dtype.specs.Names.{nameBytes}
-use Rattle.dtype.specs.Record.{Record}
 use Rattle.record.specs.Version.{Version, textStart}
 use Rattle.record.specs.Prefix.{Prefix, dataStart, prefix}
-use Rattle.record.specs.Rooms.{Rooms, needs, tooSmall, Lent, roomsOf, holding}
+use Rattle.record.specs.Rooms.{Lent, roomsOf}
 use Rattle.record.specs.Header as header
 use Rattle.prefix.specs.Answer.{versionIs}
 use Rattle.judge.specs.Judged.{reading}
-use Rattle.header.specs.declared.Said.{Said}
-use Rattle.header.specs.declared.TextRead.{TextRead}
+use Rattle.fill.specs.declared.Said.{Said}
+pub use Rattle.fill.specs.Text.{lent, saidOf, textAnswer, roomed, textInto, filled, ReadsText}
 use Rattle.header.specs.declared.Header.{Header}
 use Rattle.header.specs.declared.HeaderRead.{HeaderRead}
-
--- the three lent rooms
-abbrev pub lent : (table names shape : List ℕ) → Lent
-lent t ns s = record { table = t; names = ns; shape = s }
-
--- ---- a text
--- what is said of a record beside the rooms
-abbrev pub saidOf : Record → Said
-saidOf r = record { order = r .order; rank = length (r .shape); entries = entriesOf (r .dtype); names = nameBytes (r .dtype) }
-
-abbrev pub textAnswer : TextRead → Outcome Said
-textAnswer (TextRead.Read s) = gives s
-textAnswer (TextRead.Refused r) = refused (numberOf r)
-
--- 23, the last
-abbrev pub roomed : Rooms → Record → Outcome Record
-roomed rooms r = unless (tooSmall rooms (needs r)) 23 (gives r)
-
--- the record of a text, read with three lent rooms
-abbrev pub textInto : (text : List ℕ) → Lent → Outcome Record
-textInto text l = then (header.recordIn reading text) (roomed (roomsOf l))
-
--- the rooms then
-abbrev pub filled : Outcome Record → Lent → Lent
-filled (gives r) l = holding r l
-filled (refused n) l = l
-
--- an accepted record and its rooms
-pub record Houses (r : Record) (l : Lent) (x : TextRead) (l′ : Lent) : Type 0 where
-  pub answered : textAnswer x ≡ each saidOf (roomed (roomsOf l) r)
-  pub after : l′ ≡ filled (roomed (roomsOf l) r) l
-
-pub record ReadsText (text : List ℕ) (l : Lent) (x : TextRead) (l′ : Lent) : Type 0 where
-  pub answered : textAnswer x ≡ each saidOf (textInto text l)
-  pub after : l′ ≡ filled (textInto text l) l
 
 -- ---- a file
 -- what is told of a header beside the rooms
@@ -92,7 +54,7 @@ behind longer file p l = then (textHeld longer p file) (λ text. then (header.re
 abbrev pub heldInto : (longer : Bool) (file : List ℕ) → Lent → Outcome header.Header
 heldInto longer file l = then (prefix file) (λ p. behind longer file p l)
 
--- the header of a file by its first k bytes, of the file itself: that the bytes held tell it is proofs/Held.antt
+-- the header of a file that is longer than k, by its first k bytes, of the file itself: that the bytes held tell it is proofs/Held.antt (k < length file)
 abbrev pub heldOf : (k : ℕ) (file : List ℕ) → Lent → Outcome header.Header
 heldOf k file l = then (prefix file) (λ p. unless (ltb k (dataStart p)) 23 (behind false file p l))
 

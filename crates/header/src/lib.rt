@@ -1,10 +1,8 @@
 // The header reader (document 01, "From first byte to text" and "The record"): any bytes and three lent rooms in, the header or one number out. Nothing is
 // written before the last refusal is ruled out. No public function here has a `requires`. What each answer stands for is in specs/Answer.antt.
 use counts::Bytes;
-use dtype::Order;
-use grammar::OPEN;
-use judge::Judged;
-use judge::Plan;
+use fill::Said;
+use fill::TextRead;
 use prefix::Prefix;
 use prefix::PrefixRead;
 use prefix::Version;
@@ -15,25 +13,9 @@ ghost use Prim.Native.Nat.{_*_, _≤_};
 ghost use lib.ListN.{take};
 ghost use Rattle.dtype.specs.Flat.{entry-width};
 ghost use Rattle.refusal.specs.Numbers.{numberOf};
-ghost use Rattle.dtype.specs.Record.{Record};
 ghost use Rattle.record.specs.Prefix.{most-text};
-ghost use Rattle.tokens.specs.Text.{skip};
 ghost use Rattle.prefix.specs.Answer.{prefixIs};
-ghost use Rattle.judge.specs.Judged.{PlanOf};
-ghost use Rattle.header.specs.Answer.{lent, missing as missingNumber, Reads, ReadsHeld, ReadsBehind, ReadsText, Houses};
-
-// What a record has beside its table, names and shape, which are in the lent rooms: its order, and how much of each room it takes.
-pub struct Said {
-    pub order: Order,
-    pub rank: usize,
-    pub entries: usize,
-    pub names: usize,
-}
-
-pub enum TextRead {
-    Read(Said),
-    Refused(Refusal),
-}
+ghost use Rattle.header.specs.Answer.{lent, missing as missingNumber, Reads, ReadsHeld, ReadsBehind, ReadsText};
 
 // A file's header: its version, what its record has beside the lent rooms, and where the data starts.
 pub struct Header {
@@ -88,7 +70,7 @@ fn read_behind(
     if file.len() < end {
         return HeaderRead::Refused(missing(longer));
     }
-    match read_text(&file[start..end], table, names, shape) {
+    match fill::read_text(&file[start..end], table, names, shape) {
         TextRead::Read(said) => HeaderRead::Read(Header {
             version: version,
             said: said,
@@ -113,42 +95,7 @@ fn missing(longer: bool) -> Refusal
 pub fn read_text(text: &[u8], table: &mut [u64], names: &mut [u8], shape: &mut [u64]) -> TextRead
     ensures { λ r. ⌜ ReadsText (now (text .entry)) (lent (now (table .entry)) (now (names .entry)) (now (shape .entry))) r (lent (now (table .exit)) (now (names .exit)) (now (shape .exit))) ⌝ }
 {
-    match judge::judge(text) {
-        Judged::Fits(plan) => house(text, plan, table, names, shape),
-        Judged::Refused(r) => TextRead::Refused(r),
-    }
-}
-
-// The parts of an accepted record, written to the lent rooms; or 23.
-fn house(
-    text: &[u8],
-    plan: Plan,
-    table: &mut [u64],
-    names: &mut [u8],
-    shape: &mut [u64],
-) -> TextRead
-    requires { ⌜ ((r : Record) × PlanOf (now text) (skip (now text) 0) plan r) ⌝ }
-    ensures { λ x. ⌜ ((r : Record) → PlanOf (now (text .entry)) (skip (now (text .entry)) 0) plan r → Houses r (lent (now (table .entry)) (now (names .entry)) (now (shape .entry))) x (lent (now (table .exit)) (now (names .exit)) (now (shape .exit)))) ⌝ }
-{
-    let order = plan.order;
-    let shaped = plan.shape;
-    let outline = shaped.outline;
-    let rank = outline.rank;
-    let descr = plan.descr;
-    let totals = descr.totals;
-    let entries = totals.entries as usize;
-    let bytes = totals.names as usize;
-    if (table.len() / dtype::ENTRY < entries) | (names.len() < bytes) | (shape.len() < rank) {
-        return TextRead::Refused(Refusal::Room);
-    }
-    fill::inner::fill(text, descr.at, OPEN - 1, table, 0, 0, 0, names, 0);
-    dims::inner::fill(text, shaped.at, OPEN - 1, shape);
-    TextRead::Read(Said {
-        order: order,
-        rank: rank,
-        entries: entries,
-        names: bytes,
-    })
+    fill::read_text(text, table, names, shape)
 }
 
 // The entries, the name bytes and the dimensions that were written, at the front of their rooms.

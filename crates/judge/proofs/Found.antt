@@ -15,7 +15,6 @@ use Rattle.tokens.specs.Node.{Node}
 use Rattle.tokens.specs.Got.{Got, got}
 use Rattle.literal.specs.Forget.{forget}
 use Rattle.literal.specs.Literal.{value, most-open}
-use Rattle.literal.specs.Rows.{Stands}
 use Rattle.products.specs.Answer.{outlined}
 use Rattle.dims.specs.Answer.{valueOr, dimensionsAt}
 use Rattle.products.specs.Outline.{outlineOf}
@@ -65,9 +64,6 @@ module _ (s : List ℕ) (at : ℕ) (w : List ℕ) where
 
   pub found-none : (r : Found) → FoundIs inside s r (nodeFor w g) → r ≡ found.Found.Missing → neededAt w g ≡ refused 9
   found-none r h e = none-node (nodeFor w g) refl (subst (λ (x : Found). FoundIs inside s x (nodeFor w g)) e h)
-
-  pub found-stands : (p : ℕ) → Counts s at w p → Stands inside s p
-  found-stands p v = (v .node, v .end, v .stands)
 
   -- the value that counts, its places forgotten
   value-is : (p : ℕ) (v : Counts s at w p) → neededAt w g ≡ gives (forget (v .node))

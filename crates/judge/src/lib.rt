@@ -194,7 +194,7 @@ fn descr_in(text: &[u8], at: usize, found: Found) -> DescrRead
     let Found::At(p) = found else {
         return DescrRead::Refused(Refusal::NoKey);
     };
-    let judged = descr::inner::judge(text, p, OPEN - 1);
+    let judged = descr::judge(text, p, OPEN - 1);
     let verdict = judged.verdict;
     match verdict {
         sums::Verdict::Fits(totals) => DescrRead::Is(Descr {

@@ -2,8 +2,8 @@
 use Prim.Native.Nat.{ℕ}
 use mathlib.Core.Path.{_≡_, refl, sym, ap, _∙_}
 use mathlib.Core.List.{List}
-use mathlib.Core.Bool.{Bool}
-use Rattle.counts.specs.Outcome.{Outcome, gives, refused, then}
+use mathlib.Core.Bool.{Bool, not}
+use Rattle.counts.specs.Outcome.{Outcome, gives, refused, then, each, unless}
 use Rattle.counts.specs.OneOutcome.{OneOutcome}
 use Rattle.counts.proofs.Alike.{true-false}
 use Rattle.counts.proofs.OneOutcome.{by-inverse}
@@ -19,8 +19,9 @@ use Rattle.keys.specs.declared.Found.{Found}
 use Rattle.keys.specs.declared.Declared as declared
 use Rattle.keys.specs.declared.Declared.{Declared}
 use Rattle.keys.specs.declared.Places.{Places}
+use Rattle.keys.specs.declared.KeysRead.{KeysRead}
 use Rattle.keys.specs.declared.KeysRead.the-variants.{Read, NotDict}
-use Rattle.keys.specs.Answer.{FoundIs, KeysAt, KeysAre, ordered}
+use Rattle.keys.specs.Answer.{FoundIs, KeysAt, keysAnswer, KeysAre, ordered}
 use Rattle.keys.proofs.Seek.{places-eq}
 
 found-by : (k : ℕ) (s : List ℕ) (o : Outcome Node) (x y : Found) → FoundIs k s x o → FoundIs k s y o → x ≡ y
@@ -44,6 +45,12 @@ keys-one k s strings node (Read x) (Read y) a b = ap Read (keys-by k s node x y 
 keys-one k s strings node (Read x) NotDict a b = true-false (sym (a .0) ∙ b)
 keys-one k s strings node NotDict (Read y) a b = true-false (sym (b .0) ∙ a)
 keys-one k s strings node NotDict NotDict a b = refl
+
+-- and by its number: 8 exactly where some key is no string
+pub keys-number : (k : ℕ) (s : List ℕ) (r : KeysRead) (strings : Bool) (node : List ℕ → Outcome Node) → KeysAre k s r strings node
+    → each (λ x. strings) (keysAnswer r) ≡ unless (not strings) 8 (gives strings)
+keys-number k s (Read x) strings node h = rw (h .0) refl
+keys-number k s NotDict strings node h = rw h refl
 
 declaredOf : Outcome Order → Declared
 declaredOf (gives o) = declared.Declared.Is o

@@ -40,10 +40,18 @@ pub record KeysAt (k : ℕ) (s : List ℕ) (x : Places) (node : List ℕ → Out
   pub of-order : FoundIs k s (x .order) (node key-order)
   pub of-shape : FoundIs k s (x .shape) (node key-shape)
 
--- the three keys, where all keys are strings; or 8
+-- the places of the three keys, or 8
+abbrev pub keysAnswer : KeysRead → Outcome Places
+keysAnswer (Read x) = gives x
+keysAnswer NotDict = refused 8
+
+-- the three keys, where all keys are strings; 8 exactly where one is not (`keys-number` in proofs/OneOutcome.antt)
+abbrev pub KeysBy : ℕ → List ℕ → Outcome Places → Bool → (List ℕ → Outcome Node) → Type 0
+KeysBy k s (gives x) strings node = (strings ≡ true) × KeysAt k s x node
+KeysBy k s (refused n) strings node = strings ≡ false
+
 abbrev pub KeysAre : ℕ → List ℕ → KeysRead → Bool → (List ℕ → Outcome Node) → Type 0
-KeysAre k s (Read x) strings node = (strings ≡ true) × KeysAt k s x node
-KeysAre k s NotDict strings node = strings ≡ false
+KeysAre k s r strings node = KeysBy k s (keysAnswer r) strings node
 
 -- the same of the pairs that were read up to the brace
 abbrev pub KeysOf : ℕ → List ℕ → KeysRead → Got (List Pair) → Type 0

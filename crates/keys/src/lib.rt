@@ -1,5 +1,5 @@
-// The keys of a header's dict (document 01, "The record"): refusals 8, 9 and 10. No public function here has a `requires`. What each answer stands for
-// is in specs/Answer.antt.
+// The keys of a header's dict (document 01, "The record"): refusals 8, 9 and 10. These serve our own crates, which judge a header. No public function here has a
+// `requires`. What each answer stands for is in specs/Answer.antt.
 use dtype::Order;
 use grammar::OPEN;
 use literal::gaps::Gap;

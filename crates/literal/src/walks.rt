@@ -1,4 +1,4 @@
-// Walks over a text that was read. No function here has a `requires`.
+// Walks over a text that was read, for a crate that walks one by itself; none of ours asks them yet. No function here has a `requires`.
 ghost use mathlib.Core.Path.{_≡_};
 ghost use Rattle.literal.specs.Brackets.{listBy};
 ghost use Rattle.literal.specs.Literal.{value as valueOf};

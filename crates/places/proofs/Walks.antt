@@ -24,7 +24,8 @@ use Rattle.dtype.specs.Seen.{fieldAt, fieldBytes}
 use Rattle.dtype.proofs.Flat.{some-entry, flat-length}
 use Rattle.dtype.proofs.Stands.{stands-entry}
 use Rattle.dtype.proofs.Seen.{or-left, or-right, size-fits, bytes-exact}
-use Rattle.dtype.proofs.Steps.{Leads, array-leads, record-leads, plain-leads-nowhere, past-leads-nowhere}
+use Rattle.dtype.specs.Leads.{Leads}
+use Rattle.dtype.proofs.Steps.{array-leads, record-leads, plain-leads-nowhere, past-leads-nowhere}
 use Rattle.table.specs.Checked.{untyped}
 use Rattle.table.specs.EntryType.{typeOf}
 use Rattle.table.proofs.Types.{type-of-written}

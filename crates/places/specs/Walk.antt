@@ -18,7 +18,7 @@ use Rattle.table.specs.Valid.{Valid}
 use Rattle.table.specs.Answer.{itemSize}
 use Rattle.table.specs.declared.ItemSize.{ItemSize}
 use Rattle.dtype.specs.Paths.{plainAt, offset}
-use Rattle.dtype.proofs.Steps.{Leads}
+use Rattle.dtype.specs.Leads.{Leads}
 use Rattle.places.specs.declared.Led.{Led}
 use Rattle.places.specs.declared.Found.{Found}
 

@@ -1,6 +1,6 @@
 -- The outline of dimensions, one dimension after the other: what is behind the last 0 begins anew at a 0, and what is before the first 0 is left as it
 -- is from then on. A product that is over stays over, for no factor of it is 0. Assumes nothing.
-use Prim.Native.Nat.{ℕ, zero, suc, _+_, _*_, _<_, _≤_, _^_}
+use Prim.Native.Nat.{ℕ, zero, suc, _+_, _*_, _-_, _<_, _≤_, _^_}
 use native.Mathlib.Omega.{arith}
 use native.Mathlib.Nat.{mul-suc}
 use mathlib.Core.Path.{_≡_, refl, sym, ap, _∙_}
@@ -16,14 +16,14 @@ use Rattle.counts.specs.declared.Number.the-variants.{Is}
 use Rattle.counts.proofs.Fits.{number-is, number-over}
 use Rattle.dtype.specs.Limits.{over}
 use Rattle.dtype.proofs.Digits.{lt-or-ge}
-use Rattle.counts.specs.Outcome.{gives, then, each}
+use Rattle.counts.specs.Outcome.{Outcome, gives, refused, then, each}
 use Rattle.products.specs.declared.Outline.{Outline}
 use Rattle.products.specs.declared.Verdict.{Verdict}
-use Rattle.products.specs.declared.Verdict.the-variants.{Good}
+use Rattle.products.specs.declared.Verdict.the-variants.{Good, Form, Large}
 use Rattle.products.specs.declared.Member as member
 use Rattle.products.specs.declared.Member.{Member}
-use Rattle.products.specs.Answer.{sized, outlined}
-use Rattle.products.specs.Outline.{hasZero, beforeZero, behindZero, outlineOf, scaledBy, extendedBy, isOver}
+use Rattle.products.specs.Answer.{sized, outlined, rankOf}
+use Rattle.products.specs.Outline.{hasZero, beforeZero, behindZero, outlineOf, scaledBy, extendedTo, extendedBy, capped, heldBy, isOver}
 
 -- a product of numbers that fit or are over, where the new factor is not 0
 pub number-scaled : (a n : ℕ) → eqb n 0 ≡ false → number (a * n) ≡ scaledBy (number a) n
@@ -90,7 +90,7 @@ outline-eq hr he ha hb = cc
 
 -- one dimension more
 pub outline-last : (us : List ℕ) (n : ℕ) → outlineOf (us ++ n ∷ []) ≡ extendedBy (outlineOf us) n
-unfolding outlineOf extendedBy
+unfolding outlineOf extendedTo
 outline-last us n = outline-eq (length-append us (n ∷ [])) (zero-last us n) (ap number (before-last us n) ∙ before (hasZero us) (eqb n 0) refl) (ap number (behind-last us n) ∙ behind (eqb n 0) refl)
   where
     before : (b z : Bool) → eqb n 0 ≡ z → number (cond (b || z) (beforeZero us) (beforeZero us * n)) ≡ cond (b || z) (number (beforeZero us)) (scaledBy (number (beforeZero us)) n)
@@ -103,18 +103,18 @@ outline-last us n = outline-eq (length-append us (n ∷ [])) (zero-last us n) (a
     behind false h = number-scaled (behindZero us) n h
 
 -- by whether the new dimension is 0, and whether one before it is
-module _ (o : Outline) (n : ℕ) where
-  pub extended-zero : n ≡ 0 → record { rank = o .rank + 1; empty = true; before = o .before; behind = Is 1 } ≡ extendedBy o n
-  unfolding extendedBy
+module _ (k : ℕ) (o : Outline) (n : ℕ) where
+  pub extended-zero : n ≡ 0 → record { rank = k; empty = true; before = o .before; behind = Is 1 } ≡ extendedTo k o n
+  unfolding extendedTo
   extended-zero h = rw (eq-eqb n 0 h, or-true (o .empty))
 
-  pub extended-empty : (b : Number) → (n ≡ 0 → ⊥) → o .empty ≡ true → b ≡ scaledBy (o .behind) n → record { rank = o .rank + 1; empty = true; before = o .before; behind = b } ≡ extendedBy o n
-  unfolding extendedBy
+  pub extended-empty : (b : Number) → (n ≡ 0 → ⊥) → o .empty ≡ true → b ≡ scaledBy (o .behind) n → record { rank = k; empty = true; before = o .before; behind = b } ≡ extendedTo k o n
+  unfolding extendedTo
   extended-empty b h e hb = rw (ne-eqb n 0 h, e, hb)
 
   pub extended-more : (a b : Number) → (n ≡ 0 → ⊥) → o .empty ≡ false → a ≡ scaledBy (o .before) n → b ≡ scaledBy (o .behind) n
-      → record { rank = o .rank + 1; empty = false; before = a; behind = b } ≡ extendedBy o n
-  unfolding extendedBy
+      → record { rank = k; empty = false; before = a; behind = b } ≡ extendedTo k o n
+  unfolding extendedTo
   extended-more a b h e ha hb = rw (ne-eqb n 0 h, e, ha, hb)
 
 -- the outline of dimensions that are behind those of the outline o
@@ -131,6 +131,15 @@ pub outline-whole : (ns : List ℕ) → outlineOf ns ≡ extends (outlineOf []) 
 outline-whole ns = sym (extends-from [] ns)
 
 -- a good verdict and a dimension
-pub joined-good : (v : Verdict) (m : Member) (o r : Outline) (n : ℕ) → v ≡ Good o → m ≡ member.Member.Is n → r ≡ extendedBy o n
-    → gives r ≡ then (outlined v) (λ o. each (extendedBy o) (sized m))
+pub joined-good : (v : Verdict) (m : Member) (o r : Outline) (n : ℕ) → v ≡ Good o → m ≡ member.Member.Is n → r ≡ heldBy o n
+    → gives r ≡ then (outlined v) (λ o. each (heldBy o) (sized m))
 joined-good v m o r n hv hm hr = rw (hv, hm) (ap gives hr)
+
+-- below 2^64-1 the rank that is held is the rank
+pub joined-below : (v : Verdict) (m : Outcome ℕ) → rankOf v < 2 ^ 64 - 1 → then (outlined v) (λ o. each (heldBy o) m) ≡ then (outlined v) (λ o. each (extendedBy o) m)
+joined-below (Good o) (gives n) lt =
+    let e : capped (o .rank + 1) ≡ o .rank + 1 = omega arith in
+    ap (λ (k : ℕ). gives (extendedTo k o n)) e
+joined-below (Good o) (refused n) lt = refl
+joined-below Form m lt = refl
+joined-below Large m lt = refl

@@ -3,7 +3,7 @@
 -- that is on its other side: in C order stride k is the product of all dimensions after k, in Fortran order of all before k. So the largest of these
 -- products is that of the dimensions behind the last 0, or before the first 0; that this decides 21 and 22 is proved in proofs/Levels.antt and
 -- proofs/Orders.antt. Definitions only. Assumes nothing.
-use Prim.Native.Nat.{ℕ, _+_, _*_}
+use Prim.Native.Nat.{ℕ, _+_, _*_, _-_, _^_, min}
 use mathlib.Core.List.{List, [], _∷_}
 use mathlib.Core.Bool.{Bool, true, false, _||_, cond}
 use lib.Dec.{eqb}
@@ -39,15 +39,25 @@ unfoldable pub scaledBy : Number → ℕ → Number
 scaledBy (Is a) n = number (a * n)
 scaledBy Over n = Over
 
--- the outline with one dimension more behind the others
-unfoldable pub extendedBy : Outline → ℕ → Outline
-extendedBy o n =
+-- the outline with one dimension more behind the others, where that makes the rank k
+unfoldable pub extendedTo : ℕ → Outline → ℕ → Outline
+extendedTo k o n =
     record {
-      rank = o .rank + 1;
+      rank = k;
       empty = o .empty || eqb n 0;
       before = cond (o .empty || eqb n 0) (o .before) (scaledBy (o .before) n);
       behind = cond (eqb n 0) (Is 1) (scaledBy (o .behind) n);
     }
+
+abbrev pub extendedBy : Outline → ℕ → Outline
+extendedBy o n = extendedTo (o .rank + 1) o n
+
+-- the same as it is held: a rank is at most 2^64-1. No text has so many dimensions (`joined-below`, proofs/Outlines.antt)
+abbrev pub capped : ℕ → ℕ
+capped n = min n (2 ^ 64 - 1)
+
+abbrev pub heldBy : Outline → ℕ → Outline
+heldBy o n = extendedTo (capped (o .rank + 1)) o n
 
 -- 21, by the outline: the largest size that an array level has, over items of s bytes
 unfoldable pub largestIn : Outline → ℕ → Number

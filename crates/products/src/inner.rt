@@ -1,19 +1,18 @@
-// One dimension more, for this project's own crates: a text has fewer dimensions than 2^64-1.
+// One dimension more, for this project's own crates. No function here has a `requires`: a rank stays at 2^64-1, which no text comes to.
 use super::Member;
 use super::Outline;
 use super::Verdict;
 use super::scaled;
 use counts::Number;
 ghost use mathlib.Core.Path.{_≡_};
-ghost use Prim.Native.Nat.{_<_, _^_, _-_};
+ghost use Prim.Native.Nat.{_+_};
 ghost use Rattle.counts.specs.Outcome.{then, each};
-ghost use Rattle.products.specs.Outline.{extendedBy};
-ghost use Rattle.products.specs.Answer.{sized, outlined, rankOf};
+ghost use Rattle.products.specs.Outline.{capped, heldBy};
+ghost use Rattle.products.specs.Answer.{sized, outlined};
 
 // A verdict and one member more: the first refusal stays.
 pub fn joined(verdict: Verdict, member: Member) -> Verdict
-    requires { ⌜ rankOf verdict < 2 ^ 64 - 1 ⌝ }
-    ensures { λ r. ⌜ outlined r ≡ then (outlined verdict) (λ o. each (extendedBy o) (sized member)) ⌝ }
+    ensures { λ r. ⌜ outlined r ≡ then (outlined verdict) (λ o. each (heldBy o) (sized member)) ⌝ }
 {
     match verdict {
         Verdict::Form => Verdict::Form,
@@ -27,14 +26,14 @@ pub fn joined(verdict: Verdict, member: Member) -> Verdict
 }
 
 fn extended(o: Outline, n: u64) -> Outline
-    requires { ⌜ o .rank < 2 ^ 64 - 1 ⌝ }
-    ensures { λ r. ⌜ r ≡ extendedBy o n ⌝ }
+    ensures { λ r. ⌜ r ≡ heldBy o n ⌝ }
 {
     let before = o.before;
     let behind = o.behind;
+    let rank = next(o.rank);
     if n == 0 {
         return Outline {
-            rank: o.rank + 1,
+            rank: rank,
             empty: true,
             before: before,
             behind: Number::Is(1),
@@ -42,16 +41,27 @@ fn extended(o: Outline, n: u64) -> Outline
     }
     if o.empty {
         return Outline {
-            rank: o.rank + 1,
+            rank: rank,
             empty: true,
             before: before,
             behind: scaled(behind, n),
         };
     }
     Outline {
-        rank: o.rank + 1,
+        rank: rank,
         empty: false,
         before: scaled(before, n),
         behind: scaled(behind, n),
+    }
+}
+
+// One more, where a rank has room for it.
+fn next(rank: usize) -> usize
+    ensures { λ r. ⌜ r ≡ capped (rank + 1) ⌝ }
+{
+    if rank < 18446744073709551615 {
+        rank + 1
+    } else {
+        rank
     }
 }

@@ -1,5 +1,5 @@
 // The products of a shape's or sub-shape's dimensions that 13, 21 and 22 need (document 01, "The record" and "The refusal numbers"), as far as one is
-// over 2^64-1 or not. No function here has a `requires`. What each answer stands for is in specs/Answer.antt.
+// over 2^64-1 or not. These serve our own crates, which read a header. No function here has a `requires`. What each answer stands for is in specs/Answer.antt.
 pub mod inner;
 
 use counts::Number;

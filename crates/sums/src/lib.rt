@@ -1,6 +1,6 @@
 // What the parts of a descr come to (document 01, "The record": "An array has n times its inner size; a record has the sum"): what the later refusals 13,
-// 20 and 21 need of it, or the first of 11, 12 and 14 to 19 that applies. No function here has a `requires`. What each answer stands for is in
-// specs/Verdict.antt.
+// 20 and 21 need of it, or the first of 11, 12 and 14 to 19 that applies. These serve our own crates, which read a header. No function here has a `requires`.
+// What each answer stands for is in specs/Verdict.antt.
 use counts::Number;
 use counts::sum;
 use products::Outline;

@@ -14,9 +14,10 @@ use Rattle.dtype.specs.Agrees.{entryAt, Agrees, Agrees-as, Record-agrees}
 use Rattle.dtype.specs.Seen.{fieldBytes, overAt}
 use Rattle.dtype.specs.declared.Entry.{Entry}
 use Rattle.dtype.proofs.Digits.{lt-or-ge}
+use Rattle.counts.specs.Counts.{bytes}
 use Rattle.table.specs.Decides.{isOver}
 
-pub over-number : (n : ℕ) → isOver (number n) ≡ over n
+pub over-number : (n : ℕ) → isOver (bytes (number n)) ≡ over n
 over-number n =
     ⊎-elim
     (λ (l : n < 2 ^ 64). simp (number-is n l, lt-leb (2 ^ 64) n l))
@@ -24,7 +25,7 @@ over-number n =
     (lt-or-ge n (2 ^ 64))
 
 -- `U`, and other letters
-pub unicode-over : (letter size : ℕ) → letter ≡ 85 → isOver (number (4 * size)) ≡ over (bytesOf letter size)
+pub unicode-over : (letter size : ℕ) → letter ≡ 85 → isOver (bytes (number (4 * size))) ≡ over (bytesOf letter size)
 unicode-over letter size h = over-number (4 * size) ∙ rw h
 
 not-over : (letter size : ℕ) (b : Bool) → isObject letter ≡ b → (letter ≡ 85 → ⊥) → size < 2 ^ 64 → false ≡ over (bytesOf letter size)
@@ -42,7 +43,7 @@ module _ (t : List ℕ) (n e : ℕ) (x : Entry) (s : x ≡ entryAt t e) where
   pub plain-size : x .kind ≡ 0 → over (bytesOf (x .letter) (x .number)) ≡ overAt t e
   plain-size h = rw (kind-is 0 h, s)
 
-  pub array-size : x .kind ≡ 1 → (y : Entry) → y ≡ entryAt t (e + 1) → isOver (number (x .number * y .bytes)) ≡ overAt t e
+  pub array-size : x .kind ≡ 1 → (y : Entry) → y ≡ entryAt t (e + 1) → isOver (bytes (number (x .number * y .bytes))) ≡ overAt t e
   array-size h y q =
       let z : e + 1 ≡ suc e = omega arith in
       let p : y ≡ entryAt t (suc e) = rw z at q in

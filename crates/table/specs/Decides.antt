@@ -6,7 +6,7 @@ use mathlib.Core.List.{List}
 use lib.Dec.{eqb}
 use lib.ListN.{length}
 use Rattle.counts.specs.Outcome.{Outcome, gives, refused}
-use Rattle.counts.specs.declared.Number.{Number}
+use Rattle.counts.specs.declared.ByteCount.{ByteCount}
 use Rattle.utf8.specs.Decode.{utf8}
 use Rattle.dtype.specs.Dtype.{Dtype}
 use Rattle.dtype.specs.declared.Entry.{Entry}
@@ -50,9 +50,9 @@ pub record Outermost (e : Entry) (n : ℕ) : Type 0 where
   pub no-parent : e .parent ≡ 0
   pub no-name : e .name ≡ 0
 
-abbrev pub isOver : Number → Bool
-isOver (Number.Is n) = false
-isOver Number.Over = true
+abbrev pub isOver : ByteCount → Bool
+isOver (ByteCount.Is n) = false
+isOver ByteCount.Over = true
 
 -- a dtype is read, or 27
 pub record Reads (r : Bool) (o : Outcome Dtype) : Type 0 where

@@ -1,9 +1,11 @@
 // A caller's record: its flat table read entry by entry, and the check that every function over a record makes first (document 01, "The refusal
 // numbers": 27, 13, 20, 21, 22, in this order). No public function here has a `requires`. What each answer stands for is in specs/Answer.antt.
+use counts::ByteCount;
 use counts::Bytes;
 use counts::ItemCount;
 use counts::Items;
 use counts::Number;
+use counts::Points;
 use dtype::Entry;
 use dtype::Order;
 use held::held_bytes;
@@ -419,7 +421,8 @@ fn entry_over(table: &[u64], n: usize, e: usize) -> bool
     }
     if entry.kind == dtype::ARRAY {
         let inner = entry_at(table, e + 1);
-        return is_over(counts::product(entry.number, inner.bytes));
+        let count = Items(entry.number);
+        return is_over(count.of_size(Bytes(inner.bytes)));
     }
     fields_over(table, n, e)
 }
@@ -429,17 +432,18 @@ fn plain_over(letter: u64, size: u64) -> bool
     ensures { λ r. ⌜ r ≡ over (bytesOf letter size) ⌝ }
 {
     if letter == 85 {
-        return is_over(counts::product(4, size));
+        let points = Points(size);
+        return is_over(points.in_bytes());
     }
     false
 }
 
-fn is_over(n: Number) -> bool
+fn is_over(n: ByteCount) -> bool
     ensures { λ r. ⌜ r ≡ isOver n ⌝ }
 {
     match n {
-        Number::Is(n) => false,
-        Number::Over => true,
+        ByteCount::Is(n) => false,
+        ByteCount::Over => true,
     }
 }
 

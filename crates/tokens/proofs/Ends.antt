@@ -50,7 +50,7 @@ ahead-from lo mid hi (Fault p) le h = tt
 ahead-from lo mid hi (Deep p) le h = tt
 
 -- ---- tokens
-run-within : (f : ℕ → Bool) (l : List ℕ) → run f l ≤ length l
+pub run-within : (f : ℕ → Bool) (l : List ℕ) → run f l ≤ length l
 unfolding run
 run-within f [] = omega arith
 run-within f (b ∷ l) = go (f b) (run-within f l)

@@ -3,4 +3,5 @@ pub mod Spelling
 pub mod Matching
 pub mod Words
 pub mod Ends
+pub mod Plain
 pub mod Outcomes

@@ -3,11 +3,11 @@ use Prim.Native.Nat.{ℕ, suc, _+_, _<_, _≤_}
 use native.Mathlib.Omega.{arith}
 use native.Mathlib.Decide.{decLt}
 use native.Mathlib.Numerals.{add-one}
-use mathlib.Core.Path.{_≡_, sym, ap, _∙_}
+use mathlib.Core.Path.{_≡_, refl, sym, ap, _∙_}
 use mathlib.Core.List.{List, [], _∷_, _++_, append-assoc, append-nil}
 use mathlib.Core.Bool.{false, and-true, and-false}
 use lib.ListN.{length, getD, drop, set, drop-of-length-le}
-use lib.Seq.{drop-cons, sets}
+use lib.Seq.{drop-cons, set-out, sets}
 use lib.Dec.{eqb}
 use borrow.Author.Tests.{eq-eqb, ne-eqb}
 use Rattle.counts.specs.Same.{same}
@@ -42,15 +42,21 @@ module _ (us key : List ℕ) (i : ℕ) (h : Matches us key i) where
   pub match-more : (b : ℕ) → i < length key → getD key i 0 ≡ b → Matches (us ++ b ∷ []) key (i + 1)
   match-more b lt e x = next b x ∙ rw (drop-cons key i 0 lt, eq-eqb b (getD key i 0) (sym e), and-true, ← add-one i)
 
-sets-more : (old us : List ℕ) (i b : ℕ) → sets old i (us ++ b ∷ []) ≡ set (sets old i us) (i + length us) b
-sets-more old [] i b = simp plus-zero
-  where
-    plus-zero : i + 0 ≡ i
-    plus-zero = omega arith
-sets-more old (u ∷ us) i b = sets-more (set old i u) us (suc i) b ∙ ap (λ (k : ℕ). set (sets (set old i u) (suc i) us) k b) (omega arith)
+-- a store in a row, one byte of the run after the other: the rest is yet to be stored
+pub stored-next : (out run : List ℕ) (at i : ℕ) → i < length run → sets (set out at (getD run i 0)) (at + 1) (drop (i + 1) run) ≡ sets out at (drop i run)
+stored-next out run at i lt = rw (add-one at, add-one i, drop-cons run i 0 lt)
 
--- one store more, where the bytes us are stored
-pub stored-more : (old us out : List ℕ) (n b : ℕ) → n ≡ length us → out ≡ sets old 0 us → set out n b ≡ sets old 0 (us ++ b ∷ [])
-stored-more old us out n b hn ho =
+-- past the end nothing is stored
+pub stored-outside : (out vs : List ℕ) (at : ℕ) → length out ≤ at → out ≡ sets out at vs
+stored-outside out [] at le = refl
+stored-outside out (v ∷ vs) at le = stored-outside out vs (suc at) (omega arith) ∙ ap (λ (l : List ℕ). sets l (suc at) vs) (sym (set-out out at v le))
+
+sets-append : (old us run : List ℕ) (i : ℕ) → sets old i (us ++ run) ≡ sets (sets old i us) (i + length us) run
+sets-append old [] run i = ap (λ (k : ℕ). sets old k run) (omega arith)
+sets-append old (u ∷ us) run i = sets-append (set old i u) us run (suc i) ∙ ap (λ (k : ℕ). sets (sets (set old i u) (suc i) us) k run) (omega arith)
+
+-- more bytes stored behind the bytes us; one byte is the run `b ∷ []`
+pub stored-more : (old us run out : List ℕ) (n : ℕ) → n ≡ length us → out ≡ sets old 0 us → sets out n run ≡ sets old 0 (us ++ run)
+stored-more old us run out n hn ho =
     let at : n ≡ 0 + length us = omega arith in
-    ap (λ (l : List ℕ). set l n b) ho ∙ ap (λ (k : ℕ). set (sets old 0 us) k b) at ∙ sym (sets-more old us 0 b)
+    ap (λ (l : List ℕ). sets l n run) ho ∙ ap (λ (k : ℕ). sets (sets old 0 us) k run) at ∙ sym (sets-append old us run 0)

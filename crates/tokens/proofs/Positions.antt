@@ -6,7 +6,7 @@ use native.Mathlib.Numerals.{add-one}
 use mathlib.Core.Path.{_≡_, refl, sym, ap, _∙_}
 use mathlib.Core.List.{List, [], _∷_}
 use mathlib.Core.Bool.{Bool, true, false, cond}
-use lib.ListN.{length, getD, drop}
+use lib.ListN.{length, getD, drop, drop-of-length-le}
 use Rattle.grammar.specs.Bytes.{isBlank, isQuote, isOpen}
 use Rattle.grammar.proofs.Texts.{true-false}
 use Rattle.decimal.specs.Decimal.{isDigit}
@@ -88,6 +88,10 @@ run-more f (x ∷ s) (suc at) lt h = run-more f s at (le-of-suc-le-suc lt) h
 pub past-stop : (f : ℕ → Bool) (s : List ℕ) (at : ℕ) → f (byteAt s at) ≡ false → past f s at ≡ at
 unfolding past
 past-stop f s at h = omega (arith, run-stop f s at h)
+
+pub past-end : (f : ℕ → Bool) (s : List ℕ) (at : ℕ) → length s ≤ at → past f s at ≡ at
+unfolding past run
+past-end f s at le = rw (past, drop-of-length-le s le) (omega arith)
 
 pub past-more : (f : ℕ → Bool) (s : List ℕ) (at : ℕ) → at < length s → f (byteAt s at) ≡ true → past f s at ≡ past f s (at + 1)
 unfolding past

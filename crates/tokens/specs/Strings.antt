@@ -2,7 +2,7 @@
 -- an opening quote, piece by piece: a piece is a byte as it stands, or an escape. Definitions only. Assumes nothing.
 use Prim.Native.Nat.{ℕ, zero, suc, _+_}
 use mathlib.Core.List.{List, [], _∷_}
-use mathlib.Core.Bool.{Bool, false, _||_, cond}
+use mathlib.Core.Bool.{Bool, false, _||_, not, cond}
 use lib.ListN.{length}
 use lib.Dec.{eqb, ltb}
 use Rattle.grammar.specs.Bytes.{isBreak, isEscape, unescape}
@@ -21,6 +21,10 @@ escapeAt s at = cond (isEscape (byteAt s at)) (Byte (unescape (byteAt s at)) (at
 -- a byte of the text, in a string whose quote is q: the closing quote, a fault, an escape, or a byte that stands for itself
 abbrev pub pieceBy : ℕ → List ℕ → ℕ → Piece
 pieceBy q s at = cond (eqb (byteAt s at) q) (Close (at + 1)) (cond (isBreak (byteAt s at)) (Bad at) (cond (eqb (byteAt s at) 92) (escapeAt s (at + 1)) (Byte (byteAt s at) (at + 1))))
+
+-- whether a byte of such a string stands for itself
+unfoldable pub isPlain : ℕ → ℕ → Bool
+isPlain q b = not (eqb b q || isBreak b || eqb b 92)
 
 -- the piece at a position; the text's end is a fault
 unfoldable pub pieceAt : ℕ → List ℕ → ℕ → Piece

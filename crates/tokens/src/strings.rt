@@ -1,14 +1,14 @@
-// Strings, decoded in one place: `piece_at`. No function here has a `requires`. A string's `from` is the position behind its opening quote, and
+// Strings, decoded in one place: `piece_at`, behind the bytes that stand for themselves (`plain_to`). No function here has a `requires`. A string's `from` is the position behind its opening quote, and
 // `quote` is that quote.
 ghost use mathlib.Core.Path.{_≡_};
 ghost use lib.ListN.{length, set};
 ghost use lib.Seq.{sets};
-ghost use Rattle.tokens.specs.Strings.{escapeAt, pieceAt, spelled, scanned};
+ghost use Rattle.tokens.specs.Strings.{escapeAt, pieceAt, isPlain, spelled, scanned};
+ghost use Rattle.tokens.specs.Text.{past};
 ghost use Rattle.counts.specs.Same.{same};
 use super::Parsed;
 use super::bytes::is_break;
 use super::bytes::is_escape;
-use super::bytes::peek;
 use super::bytes::unescape;
 
 // What stands at a position of a string: its closing quote, which ends before the position; a byte that the string stands for, and where the
@@ -61,6 +61,27 @@ pub fn piece_at(text: &[u8], at: usize, quote: u8) -> Piece
     Piece::Byte(b, at + 1)
 }
 
+// Whether a byte of a string stands for itself.
+fn is_plain(b: u8, quote: u8) -> bool
+    ensures { λ r. ⌜ r ≡ isPlain quote b ⌝ }
+{
+    !((b == quote) | is_break(b) | (b == 92))
+}
+
+// The first position from `from` on where no byte stands that stands for itself.
+fn plain_to(text: &[u8], from: usize, quote: u8) -> usize
+    ensures { λ r. ⌜ r ≡ past (isPlain quote) (now (text .entry)) from ⌝ }
+{
+    let mut at = from;
+    while at < text.len() {
+        if !is_plain(text[at], quote) {
+            return at;
+        }
+        at += 1;
+    }
+    at
+}
+
 // Passes over a string, up to its end or its fault.
 pub fn scan_at(text: &[u8], from: usize, quote: u8) -> Scan
     ensures { λ r. ⌜ r ≡ scanned (spelled quote (now (text .entry)) from) ⌝ }
@@ -69,7 +90,9 @@ pub fn scan_at(text: &[u8], from: usize, quote: u8) -> Scan
     let mut len: usize = 0;
     let mut escape = false;
     loop {
-        let p = piece_at(text, at, quote);
+        let to = plain_to(text, at, quote);
+        len += to - at;
+        let p = piece_at(text, to, quote);
         match p {
             Piece::Close(e) => {
                 return Scan {
@@ -86,7 +109,7 @@ pub fn scan_at(text: &[u8], from: usize, quote: u8) -> Scan
                 };
             }
             Piece::Byte(_, e) => {
-                escape = escape | (peek(text, at) == 92);
+                escape = true;
                 len += 1;
                 at = e;
             }
@@ -103,15 +126,37 @@ fn put(out: &mut [u8], at: usize, b: u8)
     }
 }
 
+// Stores in a row, as many as have room.
+fn put_run(out: &mut [u8], from: usize, run: &[u8])
+    ensures { λ _. ⌜ now (out .exit) ≡ sets (now (out .entry)) from (now (run .entry)) ⌝ }
+{
+    let mut at = from;
+    let mut i: usize = 0;
+    while i < run.len() {
+        if out.len() <= at {
+            return;
+        }
+        out[at] = run[i];
+        at += 1;
+        i += 1;
+    }
+}
+
 // Writes the bytes that the string stands for to the front of `out`, as many as have room there, and answers how many they are.
 pub fn decode(text: &[u8], from: usize, quote: u8, out: &mut [u8]) -> usize
     ensures { λ r. ⌜ r ≡ length (spelled quote (now (text .entry)) from .bytes) ⌝ }
     ensures { λ _. ⌜ now (out .exit) ≡ sets (now (out .entry)) 0 (spelled quote (now (text .entry)) from .bytes) ⌝ }
 {
+    if text.len() < from {
+        return 0;
+    }
     let mut at = from;
     let mut n: usize = 0;
     loop {
-        let p = piece_at(text, at, quote);
+        let to = plain_to(text, at, quote);
+        put_run(out, n, &text[at..to]);
+        n += to - at;
+        let p = piece_at(text, to, quote);
         let Piece::Byte(b, e) = p else {
             return n;
         };

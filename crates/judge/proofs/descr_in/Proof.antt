@@ -1,6 +1,8 @@
 -- The value that was found, and the dtype that it is. Assumes nothing.
 use Rattle.record.specs.Dict.{key-descr}
-use Rattle.judge.proofs.Found.{found-at, found-none, found-stands, descr-good, descr-bad, descr-none}
+use Rattle.descr.proofs.Whole.{judged-value}
+use Rattle.judge.specs.Judged.{inside}
+use Rattle.judge.proofs.Found.{found-at, found-none, descr-good, descr-bad, descr-none}
 use borrow.Author.Needs.{needs}
 use Rattle.judge.proofs.descr_in.Statement.{statement}
 use Rattle.judge.proofs.descr_in.Tie as tie
@@ -20,9 +22,7 @@ sub-judge : tie.Need-sub-judge
 sub-judge c = search needs
 
 judge-requires : tie.Need-judge-requires
-judge-requires c κs =
-    let a = c .before .before .before .before .args in
-    found-stands (a .text .now) (a .at) key-descr _ (found-at (a .text .now) (a .at) key-descr _ _ (c .before .before .before .before .pre) (c .before .found .given .1))
+judge-requires c κs = search needs
 
 enum-known-verdict : tie.Need-enum-known-verdict
 enum-known-verdict c = search needs
@@ -36,12 +36,12 @@ refusal-of-requires c κs = search needs
 returns-2 : tie.Need-returns-2
 returns-2 c =
     let a = c .before .before .before .before .before .before .before .before .args in
-    descr-good (a .text .now) (a .at) _ _ _ (found-at (a .text .now) (a .at) key-descr _ _ (c .before .before .before .before .before .before .before .before .pre) (c .before .before .before .before .before .found .given .1)) (c .before .before .before .judge .ensures) (c .before .verdict .given .1)
+    descr-good (a .text .now) (a .at) _ _ _ (found-at (a .text .now) (a .at) key-descr _ _ (c .before .before .before .before .before .before .before .before .pre) (c .before .before .before .before .before .found .given .1)) (judged-value inside (a .text .now) _ _ (c .before .before .before .judge .ensures)) (c .before .verdict .given .1)
 
 returns-3 : tie.Need-returns-3
 returns-3 c =
     let a = c .before .before .before .before .before .before .before .before .before .args in
-    descr-bad (a .text .now) (a .at) _ _ _ (found-at (a .text .now) (a .at) key-descr _ _ (c .before .before .before .before .before .before .before .before .before .pre) (c .before .before .before .before .before .before .found .given .1)) (c .before .before .before .before .judge .ensures) (c .before .before .verdict2 .given .1) (c .refusal-of .result) (c .refusal-of .ensures)
+    descr-bad (a .text .now) (a .at) _ _ _ (found-at (a .text .now) (a .at) key-descr _ _ (c .before .before .before .before .before .before .before .before .before .pre) (c .before .before .before .before .before .before .found .given .1)) (judged-value inside (a .text .now) _ _ (c .before .before .before .before .judge .ensures)) (c .before .before .verdict2 .given .1) (c .refusal-of .result) (c .refusal-of .ensures)
 
 pub descr-in-spec : {M : Type 1} → statement M
 descr-in-spec =

@@ -21,14 +21,14 @@ add-entry-at c = search needs
 entry-at-requires-2 : tie.Need-entry-at-requires-2
 entry-at-requires-2 c κs = search needs
 
-product-requires : tie.Need-product-requires
-product-requires c κs = search needs
+of-size-requires : tie.Need-of-size-requires
+of-size-requires c κs = search needs
 
 is-over-requires : tie.Need-is-over-requires
 is-over-requires c κs = search needs
 
 returns-2 : tie.Need-returns-2
-returns-2 c = let a = c .before .before .before .before .before .before .before .before .before .args in c .is-over .ensures ∙ ap isOver (c .before .product .ensures) ∙ array-size (a .table .now) (a .n) (a .e) _ (c .before .before .before .before .before .before .before .entry-at .ensures) (c .before .before .before .if2 .taken) _ (c .before .before .entry-at2 .ensures)
+returns-2 c = let a = c .before .before .before .before .before .before .before .before .before .args in c .is-over .ensures ∙ ap isOver (c .before .of-size .ensures) ∙ array-size (a .table .now) (a .n) (a .e) _ (c .before .before .before .before .before .before .before .entry-at .ensures) (c .before .before .before .if2 .taken) _ (c .before .before .entry-at2 .ensures)
 
 fields-over-requires : tie.Need-fields-over-requires
 fields-over-requires c κs = let a = c .before .before .before .before .before .before .args in (c .before .before .before .before .before .before .pre .0, is-record (a .table .now) (a .n) (a .e) _ (c .before .before .before .before .entry-at .ensures) (c .before .before .if1 .left) (c .if2 .left) (c .before .before .before .before .before .before .pre .1) .1)
@@ -45,7 +45,7 @@ entry-over-spec =
     returns
     add-entry-at
     entry-at-requires-2
-    product-requires
+    of-size-requires
     is-over-requires
     returns-2
     fields-over-requires

@@ -1,9 +1,12 @@
--- A shape is a bracket, whose members are stored. Assumes nothing.
+-- No list or tuple may stand there, and nothing is stored; or its members are. Assumes nothing.
 use native.Mathlib.Omega.{arith}
 use mathlib.Core.Path.{ap, _∙_}
+use lib.ListN.{length}
+use lib.Seq.{sets}
 use borrow.Author.Needs.{needs}
 use Rattle.tokens.specs.Text.{kindOf}
-use Rattle.dims.proofs.Stored.{shape-at}
+use Rattle.dims.specs.Walk.{closingOf}
+use Rattle.dims.proofs.Stored.{front-nothing, front-some}
 use Rattle.dims.proofs.inner.fill.Statement.{statement}
 use Rattle.dims.proofs.inner.fill.Tie as tie
 
@@ -16,21 +19,26 @@ kind-of-requires c κs = search needs
 closing-requires : tie.Need-closing-requires
 closing-requires c κs = search needs
 
+returns : tie.Need-returns
+returns c =
+    let a = c .before .before .before .before .before .before .args in
+    let hc = c .before .closing .ensures ∙ ap closingOf (c .before .before .kind-of .ensures ∙ ap kindOf (c .before .before .before .peek .ensures)) in
+    let e = front-nothing (a .text .now) (a .at) (c .before .closing .result) hc (a .room) (c .if1 .taken) in
+    record { counted = ap length e; out-after = ap (sets (a .out .now) 0) e }
+
 add-fill-members : tie.Need-add-fill-members
 add-fill-members c =
-    let a = c .before .before .before .before .before .args in
-    let s = a .text .now in
-    let hk = c .before .kind-of .ensures ∙ ap kindOf (c .before .before .peek .ensures) in
-    let b = shape-at (a .room) s (a .at) (c .before .before .before .before .before .pre .0) _ hk (c .closing .result) (c .closing .ensures) (c .before .before .before .before .before .pre .1) in
-    omega (arith, b .is .inside)
+    let a = c .before .before .before .before .before .before .args in
+    let hc = c .before .closing .ensures ∙ ap closingOf (c .before .before .kind-of .ensures ∙ ap kindOf (c .before .before .before .peek .ensures)) in
+    let b = front-some (a .text .now) (a .at) (c .before .closing .result) hc (a .room) (c .if1 .left) in
+    omega (arith, b .1)
 
 sub-fill-members : tie.Need-sub-fill-members
 sub-fill-members c =
-    let a = c .before .before .before .before .before .args in
-    let s = a .text .now in
-    let hk = c .before .kind-of .ensures ∙ ap kindOf (c .before .before .peek .ensures) in
-    let b = shape-at (a .room) s (a .at) (c .before .before .before .before .before .pre .0) _ hk (c .closing .result) (c .closing .ensures) (c .before .before .before .before .before .pre .1) in
-    omega (arith, b .is .room)
+    let a = c .before .before .before .before .before .before .args in
+    let hc = c .before .closing .ensures ∙ ap closingOf (c .before .before .kind-of .ensures ∙ ap kindOf (c .before .before .before .peek .ensures)) in
+    let b = front-some (a .text .now) (a .at) (c .before .closing .result) hc (a .room) (c .if1 .left) in
+    omega (arith, b .0)
 
 fill-members-requires : tie.Need-fill-members-requires
 fill-members-requires c κs = search needs
@@ -38,14 +46,13 @@ fill-members-requires c κs = search needs
 same-length : tie.Need-same-length
 same-length c = search needs
 
-returns : tie.Need-returns
-returns c =
-    let a = c .before .before .before .before .before .before .before .before .before .args in
-    let s = a .text .now in
-    let hk = c .before .before .before .before .before .kind-of .ensures ∙ ap kindOf (c .before .before .before .before .before .before .peek .ensures) in
-    λ ns h.
-    let b = shape-at (a .room) s (a .at) ns _ hk (c .before .before .before .before .closing .result) (c .before .before .before .before .closing .ensures) h in
-    c .before .before .fill-members .ensures (b .is .held) (b .end) (b .is .row) ns (b .gives-them)
+returns-2 : tie.Need-returns-2
+returns-2 c =
+    let a = c .before .before .before .before .before .before .before .before .before .before .args in
+    let hc = c .before .before .before .before .before .closing .ensures ∙ ap closingOf (c .before .before .before .before .before .before .kind-of .ensures ∙ ap kindOf (c .before .before .before .before .before .before .before .peek .ensures)) in
+    let b = front-some (a .text .now) (a .at) (c .before .before .before .before .before .closing .result) hc (a .room) (c .before .before .before .before .if1 .left) in
+    let w = c .before .before .fill-members .ensures in
+    record { counted = w .counted ∙ ap length (b .2); out-after = w .out-after ∙ ap (sets (a .out .now) 0) (b .2) }
 
 pub fill-spec : {M : Type 1} → statement M
 fill-spec =
@@ -54,8 +61,9 @@ fill-spec =
     peek-requires
     kind-of-requires
     closing-requires
+    returns
     add-fill-members
     sub-fill-members
     fill-members-requires
     same-length
-    returns)
+    returns-2)

@@ -35,11 +35,11 @@ returns c =
     let l = c .before .loop in
     filling-end (a .room) (a .text .now) (a .close) (a .from) (a .out .now) (l .out) (l .g) (l .i) (l .inv) (c .match .keys2)
 
-value-requires : tie.Need-value-requires Inv-loop μ-loop
-value-requires c κs = search needs
+member-at-requires : tie.Need-member-at-requires Inv-loop μ-loop
+member-at-requires c κs = search needs
 
-enum-known-v : tie.Need-enum-known-v Inv-loop μ-loop
-enum-known-v c = search needs
+enum-known-ended : tie.Need-enum-known-ended Inv-loop μ-loop
+enum-known-ended c = search needs
 
 same-length-2 : tie.Need-same-length-2 Inv-loop μ-loop
 same-length-2 c = c .before .before .before .before .before .loop .inv .same
@@ -48,31 +48,28 @@ returns-2 : tie.Need-returns-2 Inv-loop μ-loop
 returns-2 c =
     let a = c .before .before .before .before .before .before .before .before .before .args in
     let l = c .before .before .before .before .before .loop in
-    filling-stop (a .room) (a .text .now) (a .close) (a .from) (a .out .now) (l .out) (l .g) (l .i) (l .inv) _ (c .before .value .result) (c .before .before .before .g .given .1) (c .before .value .ensures) (c .match2 .keys2)
+    filling-stop (a .room) (a .text .now) (a .close) (a .from) (a .out .now) (l .out) (l .g) (l .i) (l .inv) _ (c .before .member-at .result .ended) (c .before .before .before .g .given .1) (c .before .member-at .ensures .0) (c .match2 .keys2)
 
-dimension-requires : tie.Need-dimension-requires Inv-loop μ-loop
-dimension-requires c κs = search needs
-
-enum-known-d : tie.Need-enum-known-d Inv-loop μ-loop
-enum-known-d c = search needs
+enum-known-size : tie.Need-enum-known-size Inv-loop μ-loop
+enum-known-size c = search needs
 
 same-length-3 : tie.Need-same-length-3 Inv-loop μ-loop
-same-length-3 c = c .before .before .before .before .before .before .before .before .before .loop .inv .same
+same-length-3 c = c .before .before .before .before .before .before .before .before .loop .inv .same
 
 returns-3 : tie.Need-returns-3 Inv-loop μ-loop
 returns-3 c =
-    let a = c .before .before .before .before .before .before .before .before .before .before .before .before .before .args in
-    let l = c .before .before .before .before .before .before .before .before .before .loop in
-    filling-none (a .room) (a .text .now) (a .close) (a .from) (a .out .now) (l .out) (l .g) (l .i) (l .inv) _ (c .before .before .before .before .before .value .result) (c .before .before .before .before .before .before .before .g .given .1) (c .before .before .before .before .before .value .ensures) (c .before .dimension .result) (c .before .dimension .ensures) (c .match3 .keys2)
+    let a = c .before .before .before .before .before .before .before .before .before .before .before .before .args in
+    let l = c .before .before .before .before .before .before .before .before .loop in
+    filling-none (a .room) (a .text .now) (a .close) (a .from) (a .out .now) (l .out) (l .g) (l .i) (l .inv) _ (c .before .before .before .before .member-at .result .ended) (c .before .before .before .before .before .before .g .given .1) (c .before .before .before .before .member-at .ensures .0) (c .before .before .before .before .member-at .result .size) (c .before .before .before .before .member-at .ensures .1) _ (c .before .before .ended .given .1) (c .match3 .keys2)
 
 put-requires : tie.Need-put-requires Inv-loop μ-loop
 put-requires c κs = search needs
 
 add-i : tie.Need-add-i Inv-loop μ-loop
 add-i c =
-    let a = c .before .before .before .before .before .before .before .before .before .before .before .before .before .before .before .before .before .before .before .args in
-    let l = c .before .before .before .before .before .before .before .before .before .before .before .before .before .before .before .loop in
-    let n = filling-count (a .room) (a .text .now) (a .close) (a .from) (a .out .now) (l .out) (l .g) (l .i) (l .inv) _ (c .before .before .before .before .before .before .before .before .before .before .before .value .result) (c .before .before .before .before .before .before .before .before .before .before .before .before .before .g .given .1) (c .before .before .before .before .before .before .before .before .before .before .before .value .ensures) (c .before .before .before .before .before .before .before .dimension .result) (c .before .before .before .before .before .before .before .dimension .ensures) _ (c .before .before .before .before .before .before .before .before .before .v .given .1) (c .before .before .before .before .before .before .before .before .before .before .before .before .before .before .before .before .before .before .before .fits .close .fits) in
+    let a = c .before .before .before .before .before .before .before .before .before .before .before .before .before .before .before .before .before .before .args in
+    let l = c .before .before .before .before .before .before .before .before .before .before .before .before .before .before .loop in
+    let n = filling-count (a .room) (a .text .now) (a .close) (a .from) (a .out .now) (l .out) (l .g) (l .i) (l .inv) _ (c .before .before .before .before .before .before .before .before .before .before .member-at .result .ended) (c .before .before .before .before .before .before .before .before .before .before .before .before .g .given .1) (c .before .before .before .before .before .before .before .before .before .before .member-at .ensures .0) (c .before .before .before .before .before .before .before .before .before .before .member-at .result .size) (c .before .before .before .before .before .before .before .before .before .before .member-at .ensures .1) _ (c .before .before .before .before .before .before .before .before .ended .given .1) in
     omega arith
 
 then-at-requires : tie.Need-then-at-requires Inv-loop μ-loop
@@ -80,16 +77,16 @@ then-at-requires c κs = search needs
 
 loop-less : tie.Need-loop-less Inv-loop μ-loop
 loop-less c =
-    let a = c .before .before .before .before .before .before .before .before .before .before .before .before .before .before .before .before .before .before .before .before .args in
-    let l = c .before .before .before .before .before .before .before .before .before .before .before .before .before .before .before .before .loop in
+    let a = c .before .before .before .before .before .before .before .before .before .before .before .before .before .before .before .before .before .before .before .args in
+    let l = c .before .before .before .before .before .before .before .before .before .before .before .before .before .before .before .loop in
     let s = a .text .now in
-    turn-less (read.value (a .room) s) s (a .close) (a .from) (value-ahead (a .room) s) (c .before .before .before .before .before .before .before .before .before .before .before .before .before .before .before .before .before .before .before .before .fits .close .fits) (l .g) (c .then-at .result) _ _ (c .before .before .before .before .before .before .before .before .before .before .before .before .value .result) (c .before .before .before .before .before .before .before .before .before .before .before .before .before .before .g .given .1) (c .before .before .before .before .before .before .before .before .before .before .v .given .1) (c .before .before .before .before .before .before .before .before .before .before .before .before .value .ensures) (c .then-at .ensures)
+    turn-less (read.value (a .room) s) s (a .close) (a .from) (value-ahead (a .room) s) (c .before .before .before .before .before .before .before .before .before .before .before .before .before .before .before .before .before .before .before .fits .close .fits) (l .g) (c .then-at .result) _ _ (c .before .before .before .before .before .before .before .before .before .before .before .member-at .result .ended) (c .before .before .before .before .before .before .before .before .before .before .before .before .before .g .given .1) (c .before .before .before .before .before .before .before .before .before .ended .given .1) (c .before .before .before .before .before .before .before .before .before .before .before .member-at .ensures .0) (c .then-at .ensures)
 
 loop-again : tie.Need-loop-again Inv-loop μ-loop
 loop-again c =
-    let a = c .before .before .before .before .before .before .before .before .before .before .before .before .before .before .before .before .before .before .before .before .args in
-    let l = c .before .before .before .before .before .before .before .before .before .before .before .before .before .before .before .before .loop in
-    filling-more (a .room) (a .text .now) (a .close) (a .from) (a .out .now) (l .out) (l .g) (l .i) (l .inv) _ (c .before .before .before .before .before .before .before .before .before .before .before .before .value .result) (c .before .before .before .before .before .before .before .before .before .before .before .before .before .before .g .given .1) (c .before .before .before .before .before .before .before .before .before .before .before .before .value .ensures) (c .before .before .before .before .before .before .before .before .dimension .result) (c .before .before .before .before .before .before .before .before .dimension .ensures) _ (c .before .before .before .before .before .before .before .before .before .before .v .given .1) (c .before .before .before .before .before .before .before .before .before .before .before .before .before .before .before .before .before .before .before .before .fits .close .fits) _ (c .then-at .result) _ (c .before .before .before .before .before .before .d .given .1) (c .before .before .before .put .ensures) (c .then-at .ensures)
+    let a = c .before .before .before .before .before .before .before .before .before .before .before .before .before .before .before .before .before .before .before .args in
+    let l = c .before .before .before .before .before .before .before .before .before .before .before .before .before .before .before .loop in
+    filling-more (a .room) (a .text .now) (a .close) (a .from) (a .out .now) (l .out) (l .g) (l .i) (l .inv) _ (c .before .before .before .before .before .before .before .before .before .before .before .member-at .result .ended) (c .before .before .before .before .before .before .before .before .before .before .before .before .before .g .given .1) (c .before .before .before .before .before .before .before .before .before .before .before .member-at .ensures .0) (c .before .before .before .before .before .before .before .before .before .before .before .member-at .result .size) (c .before .before .before .before .before .before .before .before .before .before .before .member-at .ensures .1) _ (c .before .before .before .before .before .before .before .before .before .ended .given .1) (c .before .before .before .before .before .before .before .before .before .before .before .before .before .before .before .before .before .before .before .fits .close .fits) _ (c .then-at .result) _ (c .before .before .before .before .before .before .size .given .1) (c .before .before .before .put .ensures) (c .then-at .ensures)
 
 pub fill-members-spec : {M : Type 1} → statement M
 fill-members-spec =
@@ -102,12 +99,11 @@ fill-members-spec =
     enum-known-g
     same-length
     returns
-    value-requires
-    enum-known-v
+    member-at-requires
+    enum-known-ended
     same-length-2
     returns-2
-    dimension-requires
-    enum-known-d
+    enum-known-size
     same-length-3
     returns-3
     put-requires

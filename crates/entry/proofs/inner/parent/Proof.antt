@@ -1,26 +1,21 @@
 -- The level above is the entry before. Assumes nothing.
-use Rattle.entry.proofs.Levels.{up-later}
+use mathlib.Core.Path.{_∙_}
+use Rattle.entry.proofs.Levels.{up-first, up-later}
 use borrow.Author.Needs.{needs}
 use Rattle.entry.proofs.inner.parent.Statement.{statement}
 use Rattle.entry.proofs.inner.parent.Tie as tie
 
 returns : tie.Need-returns
-returns c = search needs
+returns c = up-first _ _ _ (c .if1 .taken) (c .before .fits .up .fits)
 
-sub-result : tie.Need-sub-result
-sub-result c = search needs
+sub-held-sum : tie.Need-sub-held-sum
+sub-held-sum c = search needs
 
-add-result : tie.Need-add-result
-add-result c = search needs
+held-sum-requires : tie.Need-held-sum-requires
+held-sum-requires c κs = search needs
 
 returns-2 : tie.Need-returns-2
-returns-2 c = up-later _ _ _ (c .if1 .left)
+returns-2 c = c .held-sum .ensures ∙ up-later _ _ (c .before .before .args .up) (c .before .if1 .left)
 
 pub parent-spec : {M : Type 1} → statement M
-parent-spec =
-    tie.close
-    (tie.spec
-    returns
-    sub-result
-    add-result
-    returns-2)
+parent-spec = tie.close (tie.spec returns sub-held-sum held-sum-requires returns-2)

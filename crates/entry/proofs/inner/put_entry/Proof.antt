@@ -1,10 +1,15 @@
--- Each store is in bounds, and the nine are a run. Assumes nothing.
+-- Without the room nothing is written. With it each store is in bounds, and the nine are a run. Assumes nothing.
 use native.Mathlib.Omega.{arith}
+use mathlib.Core.Path.{sym, _∙_}
 use lib.ListN.{length-set}
 use Rattle.entry.proofs.Stores.{nine}
+use Rattle.entry.proofs.Levels.{put-room, put-none}
 use borrow.Author.Needs.{needs}
 use Rattle.entry.proofs.inner.put_entry.Statement.{statement}
 use Rattle.entry.proofs.inner.put_entry.Tie as tie
+
+returns : tie.Need-returns
+returns c = let a = c .before .args in sym (put-none (a .table .now) (a .at) (a .e) (c .if1 .taken))
 
 mul-i : tie.Need-mul-i
 mul-i c = search needs
@@ -88,15 +93,19 @@ slice-write-table-9 : tie.Need-slice-write-table-9
 slice-write-table-9 c = simp length-set (omega arith)
 
 same-length : tie.Need-same-length
-same-length c = search needs
+same-length c = simp length-set
 
-returns : tie.Need-returns
-returns c = let a = c .args in nine (a .table .now) _ (a .e .parent) (a .e .kind) (a .e .order) (a .e .letter) (a .e .number) (a .e .units) (a .e .extent) (a .e .bytes) (a .e .name)
+returns-2 : tie.Need-returns-2
+returns-2 c =
+    let a = c .before .args in
+    nine (a .table .now) _ (a .e .parent) (a .e .kind) (a .e .order) (a .e .letter) (a .e .number) (a .e .units) (a .e .extent) (a .e .bytes) (a .e .name)
+    ∙ sym (put-room (a .table .now) (a .at) (a .e) (omega (arith, c .if1 .left)))
 
 pub put-entry-spec : {M : Type 1} → statement M
 put-entry-spec =
     tie.close
     (tie.spec
+    returns
     mul-i
     mul-table
     slice-write-table
@@ -125,4 +134,4 @@ put-entry-spec =
     mul-table-9
     slice-write-table-9
     same-length
-    returns)
+    returns-2)

@@ -1,28 +1,20 @@
 -- Behind k levels the others stand, and one more is written above them. Assumes nothing.
-use Prim.Native.Nat.{ℕ, suc, _+_, _-_, _*_, _≤_}
+use Prim.Native.Nat.{ℕ, suc, _-_}
 use native.Mathlib.Omega.{arith}
-use mathlib.Core.Path.{_≡_, refl, ap, subst, _∙_}
-use mathlib.Core.List.{List, []}
-use lib.ListN.{length}
-use lib.Seq.{length-sets}
-use Rattle.dtype.specs.Dtype.{Dtype}
-use Rattle.dtype.specs.Flat.{entry-width, numbers}
-use Rattle.entry.specs.Written.{Levelled}
-use Rattle.entry.proofs.Levels.{level-more, saturated-times}
+use mathlib.Core.Path.{_≡_, refl}
+use Rattle.entry.proofs.Levels.{Above, above-start, above-more, above-all}
 use borrow.Author.Needs.{needs}
 use Rattle.entry.proofs.inner.put_levels.Statement.{statement}
 use Rattle.entry.proofs.inner.put_levels.Tie as tie
 
 abbrev Inv-loop : tie.InvT-loop
-Inv-loop table₀ entry up name shape stop size k₀ held₀ table k held =
-    (k ≤ length shape) × (length table ≡ length table₀)
-    × ((old : List ℕ) (d : Dtype) → Levelled old entry up name stop shape d (length shape) table₀ size → Levelled old entry up name stop shape d k table held)
+Inv-loop table₀ entry up name shape stop size k₀ held₀ table k held = Above shape entry up name stop size table₀ k table held
 
 abbrev μ-loop : tie.MeasureT-loop
 μ-loop table₀ entry up name shape stop size k₀ held₀ table k held = k
 
 loop-holds : tie.Need-loop-holds Inv-loop μ-loop
-loop-holds c = (omega arith, refl, λ old d h. h)
+loop-holds c = let a = c .before .before .args in above-start (a .shape .now) (a .entry) (a .up) (a .name) (a .stop) (a .size) (a .table .now)
 
 sub-k : tie.Need-sub-k Inv-loop μ-loop
 sub-k c = search needs
@@ -31,76 +23,38 @@ mul-held-product : tie.Need-mul-held-product Inv-loop μ-loop
 mul-held-product c = search needs
 
 shared-slice-read-held-product : tie.Need-shared-slice-read-held-product Inv-loop μ-loop
-shared-slice-read-held-product c = omega (arith, c .before .before .loop .inv .0, c .before .loop-test .taken)
+shared-slice-read-held-product c = omega (arith, c .before .before .loop .inv .low, c .before .loop-test .taken)
 
 held-product-requires : tie.Need-held-product-requires Inv-loop μ-loop
 held-product-requires c κs = search needs
 
-add-put-entry : tie.Need-add-put-entry Inv-loop μ-loop
-add-put-entry c =
-    let x = c .before .before .before .before .before .before .before .pre in
-    let w = c .before .before .before .before .loop .inv .2 (x .0) (x .1) (x .2) in
-    omega (arith, w .reaches, c .before .before .before .before .before .before .before .fits .stop .fits)
+mul-put-level : tie.Need-mul-put-level Inv-loop μ-loop
+mul-put-level c = search needs
 
-parent-requires : tie.Need-parent-requires Inv-loop μ-loop
-parent-requires c κs =
-    let x = c .before .before .before .before .before .before .before .pre in
-    let w = c .before .before .before .before .loop .inv .2 (x .0) (x .1) (x .2) in
-    omega (arith, w .reaches, c .before .before .before .before .before .before .before .fits .stop .fits, c .before .before .before .loop-test .taken)
+shared-slice-read-put-level : tie.Need-shared-slice-read-put-level Inv-loop μ-loop
+shared-slice-read-put-level c = omega (arith, c .before .before .before .before .before .loop .inv .low, c .before .before .before .before .loop-test .taken)
 
-mul-bare-entry : tie.Need-mul-bare-entry Inv-loop μ-loop
-mul-bare-entry c = search needs
-
-shared-slice-read-bare-entry : tie.Need-shared-slice-read-bare-entry Inv-loop μ-loop
-shared-slice-read-bare-entry c = omega (arith, c .before .before .before .before .before .before .loop .inv .0, c .before .before .before .before .before .loop-test .taken)
-
-add-bare-entry : tie.Need-add-bare-entry Inv-loop μ-loop
-add-bare-entry c =
-    let x = c .before .before .before .before .before .before .before .before .before .pre in
-    let w = c .before .before .before .before .before .before .loop .inv .2 (x .0) (x .1) (x .2) in
-    omega (arith, w .reaches, c .before .before .before .before .before .before .before .before .before .fits .stop .fits)
-
-sub-bare-entry : tie.Need-sub-bare-entry Inv-loop μ-loop
-sub-bare-entry c =
-    let x = c .before .before .before .before .before .before .before .before .before .pre in
-    let w = c .before .before .before .before .before .before .loop .inv .2 (x .0) (x .1) (x .2) in
-    omega (arith, w .reaches, c .before .before .before .before .before .loop-test .taken)
-
-name-of-requires : tie.Need-name-of-requires Inv-loop μ-loop
-name-of-requires c κs = search needs
-
-bare-entry-requires : tie.Need-bare-entry-requires Inv-loop μ-loop
-bare-entry-requires c κs = search needs
-
-put-entry-requires : tie.Need-put-entry-requires Inv-loop μ-loop
-put-entry-requires c κs =
-    let x = c .before .before .before .before .before .before .before .before .before .before .before .pre in
-    let w = c .before .before .before .before .before .before .before .before .loop .inv .2 (x .0) (x .1) (x .2) in
-    omega (arith, w .reaches, w .room, w .long, c .before .before .before .before .before .before .before .loop-test .taken)
+put-level-requires : tie.Need-put-level-requires Inv-loop μ-loop
+put-level-requires c κs = search needs
 
 loop-less : tie.Need-loop-less Inv-loop μ-loop
-loop-less c = omega (arith, c .before .before .before .before .before .before .before .before .before .before .loop-test .taken)
+loop-less c = omega (arith, c .before .before .before .before .before .before .before .loop-test .taken)
 
 loop-again : tie.Need-loop-again Inv-loop μ-loop
 loop-again c =
-    let a = c .before .before .before .before .before .before .before .before .before .before .before .before .before .before .args in
-    let l = c .before .before .before .before .before .before .before .before .before .before .before .loop in
-    let hk : l .k ≡ suc (l .k - 1) = omega (arith, c .before .before .before .before .before .before .before .before .before .before .loop-test .taken) in
-    let ht = c .before .before .put-entry .ensures in (
-      omega (arith, l .inv .0),
-      ap length ht ∙ length-sets (l .table) (entry-width * (a .entry + (l .k - 1))) (numbers (c .before .before .before .bare-entry .result) []) ∙ l .inv .1,
-      λ old d h. level-more old (a .entry) (a .up) (a .name) (a .stop) (a .shape .now) d (l .k) (l .table) (l .held) (l .inv .2 old d h) (l .k - 1) hk (omega (arith, l .inv .0, c .before .before .before .before .before .before .before .before .before .before .loop-test .taken)) _ refl (c .before .before .before .before .before .before .before .before .held-product .result) (c .before .before .before .before .before .before .before .before .held-product .ensures) (saturated-times _ _) (c .before .before .before .before .before .before .parent .result) (c .before .before .before .before .name-of .result) (c .before .before .before .before .before .before .parent .ensures) (c .before .before .before .before .name-of .ensures) (c .before .before .before .bare-entry .result) (c .before .before .before .bare-entry .ensures) _ ht,
-    )
+    let a = c .before .before .before .before .before .before .before .before .before .before .before .args in
+    let l = c .before .before .before .before .before .before .before .before .loop in
+    let hk : l .k ≡ suc (l .k - 1) = omega (arith, c .before .before .before .before .before .before .before .loop-test .taken) in
+    above-more (a .shape .now) (a .entry) (a .up) (a .name) (a .stop) (a .size) (a .table .now) (l .k) (l .k - 1) (l .table) (l .held) (l .inv) hk _ (c .before .before .before .before .before .held-product .result) refl (c .before .before .before .before .before .held-product .ensures) _ (c .before .before .put-level .ensures)
 
 same-length : tie.Need-same-length Inv-loop μ-loop
-same-length c = c .before .loop .inv .1
+same-length c = c .before .loop .inv .long
 
 returns : tie.Need-returns Inv-loop μ-loop
 returns c =
     let a = c .before .before .before .before .args in
     let l = c .before .loop in
-    let z : l .k ≡ 0 = omega (arith, c .loop-test .left) in
-    λ old d h. subst (λ (k : ℕ). Levelled old (a .entry) (a .up) (a .name) (a .stop) (a .shape .now) d k (l .table) (l .held)) z (l .inv .2 old d h)
+    above-all (a .shape .now) (a .entry) (a .up) (a .name) (a .stop) (a .size) (a .table .now) (l .k) (l .table) (l .held) (l .inv) (omega (arith, c .loop-test .left))
 
 pub put-levels-spec : {M : Type 1} → statement M
 put-levels-spec =
@@ -113,15 +67,9 @@ put-levels-spec =
     mul-held-product
     shared-slice-read-held-product
     held-product-requires
-    add-put-entry
-    parent-requires
-    mul-bare-entry
-    shared-slice-read-bare-entry
-    add-bare-entry
-    sub-bare-entry
-    name-of-requires
-    bare-entry-requires
-    put-entry-requires
+    mul-put-level
+    shared-slice-read-put-level
+    put-level-requires
     loop-less
     loop-again
     same-length

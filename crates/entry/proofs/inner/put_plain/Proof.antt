@@ -1,10 +1,7 @@
 -- The entry is made, and then written; it holds the size. Assumes nothing.
-use Prim.Native.Nat.{_*_}
 use mathlib.Core.Path.{ap, _∙_}
-use mathlib.Core.List.{[]}
-use lib.Seq.{sets}
 use Rattle.dtype.specs.declared.Entry.{Entry}
-use Rattle.dtype.specs.Flat.{numbers}
+use Rattle.entry.specs.Written.{put}
 use borrow.Author.Needs.{needs}
 use Rattle.entry.proofs.inner.put_plain.Statement.{statement}
 use Rattle.entry.proofs.inner.put_plain.Tie as tie
@@ -21,7 +18,7 @@ same-length c = search needs
 returns : tie.Need-returns
 returns c = (
   ap (λ (e : Entry). e .bytes) (c .before .before .before .before .plain-entry .ensures),
-  c .before .before .put-entry .ensures ∙ ap (λ (e : Entry). sets (c .before .before .before .before .before .before .args .table .now) (9 * c .before .before .before .before .before .before .args .at) (numbers e [])) (c .before .before .before .before .plain-entry .ensures),
+  c .before .before .put-entry .ensures ∙ ap (put (c .before .before .before .before .before .before .args .table .now) (c .before .before .before .before .before .before .args .at)) (c .before .before .before .before .plain-entry .ensures),
 )
 
 pub put-plain-spec : {M : Type 1} → statement M

@@ -1,16 +1,13 @@
 -- The entry is made, and then written. Assumes nothing.
-use Prim.Native.Nat.{_*_}
+use Prim.Native.Nat.{ℕ}
 use mathlib.Core.Path.{ap, _∙_}
-use mathlib.Core.List.{[]}
-use lib.Seq.{sets}
-use Rattle.dtype.specs.declared.Entry.{Entry}
-use Rattle.dtype.specs.Flat.{numbers}
+use Rattle.entry.specs.Written.{put, bare}
 use borrow.Author.Needs.{needs}
 use Rattle.entry.proofs.inner.put_record.Statement.{statement}
 use Rattle.entry.proofs.inner.put_record.Tie as tie
 
-sub-bare-entry : tie.Need-sub-bare-entry
-sub-bare-entry c = search needs
+from-to-requires : tie.Need-from-to-requires
+from-to-requires c κs = search needs
 
 bare-entry-requires : tie.Need-bare-entry-requires
 bare-entry-requires c κs = search needs
@@ -22,8 +19,10 @@ same-length : tie.Need-same-length
 same-length c = search needs
 
 returns : tie.Need-returns
-returns c = c .before .before .put-entry .ensures ∙ ap (λ (e : Entry). sets (c .before .before .before .before .before .before .args .table .now) (9 * c .before .before .before .before .before .before .args .at) (numbers e [])) (c .before .before .before .bare-entry .ensures)
+returns c =
+    let a = c .before .before .before .before .before .before .before .args in
+    c .before .before .put-entry .ensures ∙ ap (put (a .table .now) (a .at)) (c .before .before .before .bare-entry .ensures)
+    ∙ ap (λ (x : ℕ). put (a .table .now) (a .at) (bare 2 (a .up) (a .count) x (a .size) (a .name))) (c .before .before .before .before .from-to .ensures)
 
 pub put-record-spec : {M : Type 1} → statement M
-put-record-spec =
-    tie.close (tie.spec sub-bare-entry bare-entry-requires put-entry-requires same-length returns)
+put-record-spec = tie.close (tie.spec from-to-requires bare-entry-requires put-entry-requires same-length returns)

@@ -1,7 +1,4 @@
 -- By the verdict, and then the member. Assumes nothing.
-use native.Mathlib.Omega.{arith}
-use mathlib.Core.Path.{ap}
-use Rattle.products.specs.Answer.{rankOf}
 use Rattle.products.proofs.Outlines.{joined-good}
 use borrow.Author.Needs.{needs}
 use Rattle.products.proofs.inner.joined.Statement.{statement}
@@ -26,7 +23,7 @@ enum-known-member : tie.Need-enum-known-member
 enum-known-member c = search needs
 
 extended-requires : tie.Need-extended-requires
-extended-requires c κs = omega (arith, ap rankOf (c .before .before .before .before .verdict .given .1))
+extended-requires c κs = search needs
 
 returns : tie.Need-returns
 returns c = search needs

@@ -1,25 +1,67 @@
--- The invariant: the string is the bytes passed, and then its pieces from `at` on; the bytes passed, n of them, are stored. Assumes nothing.
+-- The invariant: the string is the bytes passed, and then its pieces from `at` on; the bytes passed, n of them, are stored. A turn stores a run of bytes
+-- that stand for themselves, and the byte of the escape behind it. Assumes nothing.
+use Prim.Native.Nat.{ℕ, _-_, _≤_}
 use mathlib.Core.Path.{_≡_, refl, sym, ap, _∙_}
-use native.Mathlib.Omega.{arith}
-use Prim.Native.Nat.{ℕ, _-_}
 use mathlib.Core.Bool.{Bool, false}
-use mathlib.Core.List.{List, []}
+use mathlib.Core.List.{List, [], _∷_, _++_}
+use native.Mathlib.Omega.{arith}
 use lib.ListN.{length, length-append}
 use lib.Seq.{sets, length-sets}
+use Rattle.tokens.specs.Text.{part}
 use borrow.Author.Needs.{needs}
 use Rattle.tokens.proofs.Spelling.{byte-ahead, Along, along-start, along-stop, along-byte}
+use Rattle.tokens.proofs.Plain.{plain-from, plain-within, plain-count, along-plain, spelled-outside}
 use Rattle.tokens.proofs.Matching.{stored-more}
 use Rattle.tokens.proofs.strings.decode.Statement.{statement}
 use Rattle.tokens.proofs.strings.decode.Tie as tie
 
 abbrev Inv-loop : tie.InvT-loop
-Inv-loop text from quote out₀ at₀ n₀ out at n = (us : List ℕ) × (e : Bool) × Along quote text from at us e × (n ≡ length us) × (out ≡ sets out₀ 0 us)
+Inv-loop text from quote out₀ at₀ n₀ out at n = (us : List ℕ) × (e : Bool) × Along quote text from at us e × (at ≤ length text) × (n ≡ length us) × (out ≡ sets out₀ 0 us)
 
 abbrev μ-loop : tie.MeasureT-loop
 μ-loop text from quote out₀ at₀ n₀ out at n = length text - at
 
+returns : tie.Need-returns Inv-loop μ-loop
+returns c =
+    let a = c .before .before .before .args in
+    let e = spelled-outside (a .quote) (a .text .now) (a .from) (omega (arith, c .if1 .taken)) in
+    (sym (ap length e), sym (ap (sets (a .out .now) 0) e))
+
 loop-holds : tie.Need-loop-holds Inv-loop μ-loop
-loop-holds c = ([], false, along-start (c .before .before .args .quote) (c .before .before .args .text .now) (c .before .before .args .from), refl, refl)
+loop-holds c = ([], false, along-start (c .before .before .before .args .quote) (c .before .before .before .args .text .now) (c .before .before .before .args .from), omega arith, refl, refl)
+
+plain-to-requires : tie.Need-plain-to-requires Inv-loop μ-loop
+plain-to-requires c κs = search needs
+
+sub-put-run : tie.Need-sub-put-run Inv-loop μ-loop
+sub-put-run c = omega (arith, plain-from (c .before .before .before .before .before .before .args .quote) (c .before .before .before .before .before .before .args .text .now) (c .before .before .loop .at) (c .before .plain-to .result) (c .before .plain-to .ensures))
+
+part-put-run-start : tie.Need-part-put-run-start Inv-loop μ-loop
+part-put-run-start c = omega (arith, c .before .before .loop .inv .3, plain-from (c .before .before .before .before .before .before .args .quote) (c .before .before .before .before .before .before .args .text .now) (c .before .before .loop .at) (c .before .plain-to .result) (c .before .plain-to .ensures))
+
+part-put-run-end : tie.Need-part-put-run-end Inv-loop μ-loop
+part-put-run-end c =
+    let q = c .before .before .before .before .before .before .args .quote in
+    let s = c .before .before .before .before .before .before .args .text .now in
+    let h = c .before .plain-to .ensures in
+    omega (arith, plain-from q s (c .before .before .loop .at) (c .before .plain-to .result) h, plain-within q s (c .before .before .loop .at) (c .before .plain-to .result) h (c .before .before .loop .inv .3))
+
+put-run-requires : tie.Need-put-run-requires Inv-loop μ-loop
+put-run-requires c κs = search needs
+
+sub-n : tie.Need-sub-n Inv-loop μ-loop
+sub-n c = omega (arith, plain-from (c .before .before .before .before .before .before .before .before .before .before .args .quote) (c .before .before .before .before .before .before .before .before .before .before .args .text .now) (c .before .before .before .before .before .before .loop .at) (c .before .before .before .before .before .plain-to .result) (c .before .before .before .before .before .plain-to .ensures))
+
+add-n : tie.Need-add-n Inv-loop μ-loop
+add-n c =
+    let q = c .before .before .before .before .before .before .before .before .before .before .args .quote in
+    let s = c .before .before .before .before .before .before .before .before .before .before .args .text .now in
+    let from = c .before .before .before .before .before .before .before .before .before .before .args .from in
+    let l = c .before .before .before .before .before .before .loop in
+    let to = c .before .before .before .before .before .plain-to .result in
+    let w = along-plain q s from (l .at) to (l .inv .0) (l .inv .1) (c .before .before .before .before .before .plain-to .ensures) (l .inv .2) in
+    let n = plain-count q s (l .at) to (c .before .before .before .before .before .plain-to .ensures) (l .inv .0) (l .n) (l .inv .4) in
+    omega (arith, n, w .far)
 
 piece-at-requires : tie.Need-piece-at-requires Inv-loop μ-loop
 piece-at-requires c κs = search needs
@@ -29,52 +71,62 @@ enum-known-p c = search needs
 
 same-length : tie.Need-same-length Inv-loop μ-loop
 same-length c =
-    let old = c .before .before .before .before .before .args .out .now in
-    let w = c .before .before .loop .inv in
-    ap length (w .4) ∙ length-sets old 0 (w .0)
+    let l = c .before .before .before .before .before .before .before .before .loop in
+    ap length (c .before .before .before .before .put-run .ensures) ∙ length-sets (l .out) (l .n) (part (c .before .before .before .before .before .before .before .before .before .before .before .before .args .text .now) (l .at) (c .before .before .before .before .before .before .before .plain-to .result)) ∙ ap length (l .inv .5) ∙ length-sets (c .before .before .before .before .before .before .before .before .before .before .before .before .args .out .now) 0 (l .inv .0)
 
-returns : tie.Need-returns Inv-loop μ-loop
-returns c =
-    let s = c .before .before .before .before .before .args .text .now in
-    let q = c .before .before .before .before .before .args .quote in
-    let from = c .before .before .before .before .before .args .from in
-    let old = c .before .before .before .before .before .args .out .now in
-    let at = c .before .before .loop .at in
-    let w = c .before .before .loop .inv in
-    let e = along-stop q s from at (w .0) (w .1) _ (w .2) (sym (c .before .piece-at .ensures)) (c .match .keys2) in
-    (w .3 ∙ sym (ap length e), w .4 ∙ sym (ap (sets old 0) e))
+returns-2 : tie.Need-returns-2 Inv-loop μ-loop
+returns-2 c =
+    let q = c .before .before .before .before .before .before .before .before .before .before .before .before .args .quote in
+    let s = c .before .before .before .before .before .before .before .before .before .before .before .before .args .text .now in
+    let from = c .before .before .before .before .before .before .before .before .before .before .before .before .args .from in
+    let l = c .before .before .before .before .before .before .before .before .loop in
+    let to = c .before .before .before .before .before .before .before .plain-to .result in
+    let w = along-plain q s from (l .at) to (l .inv .0) (l .inv .1) (c .before .before .before .before .before .before .before .plain-to .ensures) (l .inv .2) in
+    let n = plain-count q s (l .at) to (c .before .before .before .before .before .before .before .plain-to .ensures) (l .inv .0) (l .n) (l .inv .4) in
+    let old = c .before .before .before .before .before .before .before .before .before .before .before .before .args .out .now in
+    let us = l .inv .0 ++ part s (l .at) to in
+    let e = along-stop q s from to us (l .inv .1) _ w (sym (c .before .piece-at .ensures)) (c .match .keys2) in
+    (n ∙ sym (ap length e), c .before .before .before .before .put-run .ensures ∙ stored-more old (l .inv .0) (part s (l .at) to) _ _ (l .inv .4) (l .inv .5) ∙ sym (ap (sets old 0) e))
 
 put-requires : tie.Need-put-requires Inv-loop μ-loop
 put-requires c κs = search needs
 
-add-n : tie.Need-add-n Inv-loop μ-loop
-add-n c =
-    let s = c .before .before .before .before .before .before .before .before .before .before .before .args .text .now in
-    let q = c .before .before .before .before .before .before .before .before .before .before .before .args .quote in
-    let at = c .before .before .before .before .before .before .before .before .loop .at in
-    let w = c .before .before .before .before .before .before .before .before .loop .inv in
-    let ahead = byte-ahead q s at _ _ (sym (c .before .before .before .before .before .before .before .piece-at .ensures) ∙ c .before .before .before .before .before .p .given .1) in
-    omega (arith, w .3, w .2 .far)
+add-n-2 : tie.Need-add-n-2 Inv-loop μ-loop
+add-n-2 c =
+    let q = c .before .before .before .before .before .before .before .before .before .before .before .before .before .before .before .before .before .before .args .quote in
+    let s = c .before .before .before .before .before .before .before .before .before .before .before .before .before .before .before .before .before .before .args .text .now in
+    let from = c .before .before .before .before .before .before .before .before .before .before .before .before .before .before .before .before .before .before .args .from in
+    let l = c .before .before .before .before .before .before .before .before .before .before .before .before .before .before .loop in
+    let to = c .before .before .before .before .before .before .before .before .before .before .before .before .before .plain-to .result in
+    let w = along-plain q s from (l .at) to (l .inv .0) (l .inv .1) (c .before .before .before .before .before .before .before .before .before .before .before .before .before .plain-to .ensures) (l .inv .2) in
+    let n = plain-count q s (l .at) to (c .before .before .before .before .before .before .before .before .before .before .before .before .before .plain-to .ensures) (l .inv .0) (l .n) (l .inv .4) in
+    let ahead = byte-ahead q s to _ _ (sym (c .before .before .before .before .before .before .before .piece-at .ensures) ∙ c .before .before .before .before .before .p .given .1) in
+    omega (arith, n, w .far)
 
 loop-less : tie.Need-loop-less Inv-loop μ-loop
 loop-less c =
-    let s = c .before .before .before .before .before .before .before .before .before .before .before .args .text .now in
-    let q = c .before .before .before .before .before .before .before .before .before .before .before .args .quote in
-    let at = c .before .before .before .before .before .before .before .before .loop .at in
-    let w = c .before .before .before .before .before .before .before .before .loop .inv in
-    let ahead = byte-ahead q s at _ _ (sym (c .before .before .before .before .before .before .before .piece-at .ensures) ∙ c .before .before .before .before .before .p .given .1) in
-    omega arith
+    let q = c .before .before .before .before .before .before .before .before .before .before .before .before .before .before .before .before .before .before .args .quote in
+    let s = c .before .before .before .before .before .before .before .before .before .before .before .before .before .before .before .before .before .before .args .text .now in
+    let ahead = byte-ahead q s (c .before .before .before .before .before .before .before .before .before .before .before .before .before .plain-to .result) _ _ (sym (c .before .before .before .before .before .before .before .piece-at .ensures) ∙ c .before .before .before .before .before .p .given .1) in
+    omega (arith, plain-from q s (c .before .before .before .before .before .before .before .before .before .before .before .before .before .before .loop .at) (c .before .before .before .before .before .before .before .before .before .before .before .before .before .plain-to .result) (c .before .before .before .before .before .before .before .before .before .before .before .before .before .plain-to .ensures))
 
 loop-again : tie.Need-loop-again Inv-loop μ-loop
 loop-again c =
-    let s = c .before .before .before .before .before .before .before .before .before .before .before .args .text .now in
-    let q = c .before .before .before .before .before .before .before .before .before .before .before .args .quote in
-    let from = c .before .before .before .before .before .before .before .before .before .before .before .args .from in
-    let old = c .before .before .before .before .before .before .before .before .before .before .before .args .out .now in
-    let at = c .before .before .before .before .before .before .before .before .loop .at in
-    let w = c .before .before .before .before .before .before .before .before .loop .inv in
-    let more = along-byte q s from at (w .0) (w .1) _ _ (w .2) (sym (c .before .before .before .before .before .before .before .piece-at .ensures) ∙ c .before .before .before .before .before .p .given .1) in
-    (_, _, more, simp length-append (omega (arith, w .3)), c .before .before .put .ensures ∙ stored-more old (w .0) _ _ _ (w .3) (w .4))
+    let q = c .before .before .before .before .before .before .before .before .before .before .before .before .before .before .before .before .before .before .args .quote in
+    let s = c .before .before .before .before .before .before .before .before .before .before .before .before .before .before .before .before .before .before .args .text .now in
+    let from = c .before .before .before .before .before .before .before .before .before .before .before .before .before .before .before .before .before .before .args .from in
+    let l = c .before .before .before .before .before .before .before .before .before .before .before .before .before .before .loop in
+    let to = c .before .before .before .before .before .before .before .before .before .before .before .before .before .plain-to .result in
+    let w = along-plain q s from (l .at) to (l .inv .0) (l .inv .1) (c .before .before .before .before .before .before .before .before .before .before .before .before .before .plain-to .ensures) (l .inv .2) in
+    let n = plain-count q s (l .at) to (c .before .before .before .before .before .before .before .before .before .before .before .before .before .plain-to .ensures) (l .inv .0) (l .n) (l .inv .4) in
+    let old = c .before .before .before .before .before .before .before .before .before .before .before .before .before .before .before .before .before .before .args .out .now in
+    let us = l .inv .0 ++ part s (l .at) to in
+    let h = sym (c .before .before .before .before .before .before .before .piece-at .ensures) ∙ c .before .before .before .before .before .p .given .1 in
+    let b = c .before .before .before .before .before .p .given .0 .0 in
+    let ahead = byte-ahead q s to _ _ h in
+    let more = along-byte q s from to us (l .inv .1) _ _ w h in
+    let stored = c .before .before .before .before .before .before .before .before .before .before .put-run .ensures ∙ stored-more old (l .inv .0) (part s (l .at) to) _ _ (l .inv .4) (l .inv .5) in
+    (_, _, more, omega arith, omega (arith, n, length-append us (b ∷ [])), c .before .before .put .ensures ∙ stored-more old us (b ∷ []) _ _ n stored)
 
 pub decode-spec : {M : Type 1} → statement M
 decode-spec =
@@ -82,12 +134,20 @@ decode-spec =
     (tie.spec
     Inv-loop
     μ-loop
+    returns
     loop-holds
+    plain-to-requires
+    sub-put-run
+    part-put-run-start
+    part-put-run-end
+    put-run-requires
+    sub-n
+    add-n
     piece-at-requires
     enum-known-p
     same-length
-    returns
+    returns-2
     put-requires
-    add-n
+    add-n-2
     loop-less
     loop-again)

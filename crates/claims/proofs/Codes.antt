@@ -1,0 +1,240 @@
+-- The C interface (specs/Codes.antt): the numbers are those of Numbers.antt, and what a refusal leaves is what the functions below leave. Assumes nothing.
+use Prim.Native.Nat.{ℕ, _*_}
+use native.Mathlib.Omega.{arith}
+use mathlib.Core.Path.{_≡_, refl, sym, ap, _∙_}
+use mathlib.Core.List.{List, [], _∷_}
+use lib.ListN.{length, drop, getD}
+use borrow.Author.Tests.{leb-true}
+use Rattle.counts.specs.Outcome.{Outcome, gives, refused, then, each}
+use Rattle.type_str.specs.TypeString.{typeString}
+use Rattle.type_str.specs.Text.{typePrinted, typePlaced}
+use Rattle.dtype.specs.declared.Order.{Order}
+use Rattle.dtype.specs.Entries.{entriesOf}
+use Rattle.dtype.specs.Names.{nameBytes}
+use Rattle.dtype.specs.Record.{Record}
+use Rattle.dtype.specs.Shape.{strides}
+use Rattle.shape.specs.Count as shape
+use Rattle.record.specs.Version.{Version, versionOf}
+use Rattle.record.specs.Rooms.{Lent, holding}
+use Rattle.record.specs.Header as record-of-file
+use Rattle.judge.specs.Judged.{reading}
+use Rattle.table.specs.Answer.{summary}
+use Rattle.table.specs.Checked.{checkedRecord}
+use Rattle.items.specs.Item.{itemOf}
+use Rattle.places.specs.Place.{placeOf}
+use Rattle.fill.specs.declared.Said.{Said}
+use Rattle.header.specs.Answer as header
+use Rattle.write.specs.Writes.{headerWritten, headerPlaced}
+use Rattle.listing.specs.Answer.{listed, roomBy}
+use Rattle.strings.specs.Rooms.{after}
+use Rattle.codes.specs.Codes.{code, left, Tells, alone}
+use Rattle.codes.specs.Values.{orderFor, typeFor, typeValues, textValues, headerValues, summaryValues, runValues}
+use Rattle.npy.specs.Calls.{Puts}
+use Rattle.claims.specs.Beyond.{Same-rest}
+use Rattle.claims.specs.Codes.{Tells-alone, Coded, Zero-answers, Rest-in-C}
+use Rattle.claims.proofs.Numbers.{
+  Numbered,
+  then-numbered,
+  each-numbered,
+  type-numbered,
+  header-numbered,
+  held-header-numbered,
+  text-numbered,
+  for-numbered,
+  version-for-numbered,
+  type-for-numbered,
+  record-checked-numbered,
+  header-written-numbered,
+  listed-numbered,
+  type-printed-numbered,
+  count-numbered,
+  strides-numbered,
+  item-numbered,
+  place-numbered,
+  read-bytes-numbered,
+  read-points-numbered,
+  write-bytes-numbered,
+  write-points-numbered,
+  element-bytes-numbered,
+  element-points-numbered,
+}
+use Rattle.claims.proofs.Refusals.{by-outcome, typed-left, header-left, listed-left, strides-left}
+use Rattle.claims.proofs.Beyond.{holding-rest, owed, typed-rest, listed-rest, header-placed-rest, strides-rest}
+
+-- ---- the code
+pub tells-alone : {A : Type 0} (values : A → List ℕ) (o : Outcome A) (said : List ℕ) → Tells-alone values o said
+tells-alone values o said r said′ n t e = (t .answered ∙ ap code e, t .after ∙ ap (λ x. left values x said) e)
+
+module _ {A M : Type 0} (values : A → List ℕ) {before after : M} {said said′ : List ℕ} {r : ℕ} where
+  pub coded : (o : Outcome A) → Numbered o → Tells values o said r said′ → ((n : ℕ) → o ≡ refused n → said′ ≡ said → after ≡ before) → Coded o before r after
+  coded (gives a) h t k = record { zero = λ z. (a, refl); other = λ z. absurd (z (t .answered)) }
+  coded (refused n) h t k =
+      record {
+        zero = λ z. absurd (let one = leb-true 1 n (h .so .0) in let is = t .answered in omega arith);
+        other = λ z.
+            record {
+              is = ap refused (sym (t .answered));
+              from-one = rw (t .answered) (leb-true 1 n (h .so .0));
+              to-thirty = rw (t .answered) (leb-true n 30 (h .so .1));
+              unchanged = k n refl (t .after);
+            };
+      }
+
+pair-eq : {M : Type 0} {l k : M} {x y : List ℕ} → l ≡ k → x ≡ y → _≡_ {A = M × List ℕ} (l, x) (k, y)
+pair-eq hl hx = cc
+
+told-coded : {A : Type 0} (values : A → List ℕ) (o : Outcome A) (said : List ℕ) (r : ℕ) (said′ : List ℕ) → Numbered o → Tells values o said r said′ → Coded o said r said′
+told-coded values o said r said′ h t = coded values o h t (λ n e s. s)
+
+-- a room and what is said beside it
+beside : {A M : Type 0} (values : A → List ℕ) (o : Outcome A) (l l′ : M) (said said′ : List ℕ) (r : ℕ) → Numbered o → Tells values o said r said′
+    → ((n : ℕ) → o ≡ refused n → l′ ≡ l) → Coded {M = M × List ℕ} o (l, said) r (l′, said′)
+beside values o l l′ said said′ r h t k = coded values o h t (λ n e s. pair-eq (k n e) s)
+
+-- what is given comes first
+module _ {A B : Type 0} (next : A → Outcome B) (put : A → List ℕ) (room : List ℕ) where
+  given-left : (given : Outcome A) → ((a : A) (n : ℕ) → next a ≡ refused n → put a ≡ room) → (n : ℕ) → then given next ≡ refused n → left put given room ≡ room
+  given-left (gives a) h n e = h a n e
+  given-left (refused k) h n e = refl
+
+puts-coded : (put : Outcome (List ℕ)) (room count : List ℕ) (r : ℕ) (room′ count′ : List ℕ) → Numbered put → Puts put room count r room′ count′
+    → Coded {M = List ℕ × List ℕ} (each length put) (room, count) r (room′, count′)
+puts-coded put room count r room′ count′ h c =
+    beside alone (each length put) room room′ count count′ r (each-numbered length put h) (c .told)
+    (λ n e. c .room-after ∙ by-outcome length (after room) room (λ k. refl) put n e)
+
+pub zero-answers : Zero-answers
+zero-answers =
+    record {
+      npy-read = λ file l said r x c.
+          beside headerValues _ l (x .0) said (x .1) r (each-numbered header.told _ (header-numbered file l)) (c .told)
+          (λ n e. c .rooms ∙ by-outcome header.told (λ o. record-of-file.filled o l) l (λ k. refl) (record-of-file.headerInto reading file l) n e);
+      npy-read-held = λ longer file l said r x c.
+          beside headerValues _ l (x .0) said (x .1) r (each-numbered header.told _ (held-header-numbered longer file l)) (c .told)
+          (λ n e. c .rooms ∙ by-outcome header.told (λ o. record-of-file.filled o l) l (λ k. refl) (header.heldInto longer file l) n e);
+      npy-read-text = λ text l said r x c.
+          beside textValues _ l (x .0) said (x .1) r (each-numbered header.saidOf _ (text-numbered text l)) (c .told)
+          (λ n e. c .rooms ∙ by-outcome header.saidOf (λ o. header.filled o l) l (λ k. refl) (header.textInto text l) n e);
+      npy-check = λ t ns s order said r x c.
+          told-coded summaryValues _ said r x
+          (then-numbered (orderFor order) (λ o. each summary (checkedRecord t ns s o)) (for-numbered order) (λ o. each-numbered summary _ (record-checked-numbered t ns s o))) c;
+      npy-write-header = λ t ns s order room count r x c.
+          beside alone _ room (x .0) count (x .1) r
+          (then-numbered (orderFor order) (λ o. headerWritten t ns s o room) (for-numbered order) (λ o. header-written-numbered t ns s o room)) (c .told)
+          (λ n e. c .room-after ∙ given-left _ (λ o. headerPlaced t ns s o room) room (orderFor order) (λ o k f. header-left t ns s o room k f) n e);
+      npy-list = λ version start t ns s order room count r x c.
+          beside alone _ room (x .0) count (x .1) r
+          (then-numbered (versionOf version 0) (λ v. then (orderFor order) (λ o. listed v start t ns s o room)) (version-for-numbered version)
+          (λ v. then-numbered (orderFor order) (λ o. listed v start t ns s o room) (for-numbered order) (λ o. listed-numbered v start t ns s o room))) (c .told)
+          (λ n e. c .room-after
+          ∙ given-left _ (λ v. left (λ o. roomBy (checkedRecord t ns s o) v start room) (orderFor order) room) room (versionOf version 0)
+          (λ v k f. given-left _ (λ o. roomBy (checkedRecord t ns s o) v start room) room (orderFor order) (λ o j g. listed-left v start room j (checkedRecord t ns s o) g) k f) n e);
+      npy-count = λ s order count r x c.
+          told-coded alone _ count r x (then-numbered (orderFor order) (λ o. shape.itemCount o s) (for-numbered order) (λ o. count-numbered o s)) c;
+      npy-strides = λ s order room count r x c.
+          beside alone _ room (x .0) count (x .1) r
+          (then-numbered (orderFor order) (λ o. shape.stridesCount o s (length room)) (for-numbered order) (λ o. strides-numbered o s (length room))) (c .told)
+          (λ n e. c .room-after
+          ∙ given-left _ (λ o. shape.left (shape.stridesCount o s (length room)) (strides o s) room) room (orderFor order)
+          (λ o k f. strides-left (strides o s) room k (shape.stridesCount o s (length room)) f) n e);
+      npy-item-number = λ s order index item r x c.
+          told-coded alone _ item r x (then-numbered (orderFor order) (λ o. itemOf o s index) (for-numbered order) (λ o. item-numbered o s index)) c;
+      npy-place = λ file start t ns s order i p run r x c.
+          told-coded runValues _ run r x
+          (then-numbered (orderFor order) (λ o. placeOf file start t ns s o i p) (for-numbered order) (λ o. place-numbered file start t ns s o i p)) c;
+      npy-element-bytes = λ file start t ns s order i p room count r x c.
+          puts-coded _ room count r (x .0) (x .1) (then-numbered (orderFor order) _ (for-numbered order) (λ o. element-bytes-numbered file start t ns s o i p room)) c;
+      npy-element-points = λ file start t ns s order i p room count r x c.
+          puts-coded _ room count r (x .0) (x .1) (then-numbered (orderFor order) _ (for-numbered order) (λ o. element-points-numbered file start t ns s o i p room)) c;
+      npy-read-bytes = λ order letter size units run room count r x c.
+          puts-coded _ room count r (x .0) (x .1)
+          (then-numbered (typeFor order letter size units) _ (type-for-numbered order letter size units) (λ t. read-bytes-numbered t run room)) c;
+      npy-read-points = λ order letter size units run room count r x c.
+          puts-coded _ room count r (x .0) (x .1)
+          (then-numbered (typeFor order letter size units) _ (type-for-numbered order letter size units) (λ t. read-points-numbered t run room)) c;
+      npy-write-bytes = λ order letter size units value room count r x c.
+          puts-coded _ room count r (x .0) (x .1)
+          (then-numbered (typeFor order letter size units) _ (type-for-numbered order letter size units) (λ t. write-bytes-numbered t value room)) c;
+      npy-write-points = λ order letter size units value room count r x c.
+          puts-coded _ room count r (x .0) (x .1)
+          (then-numbered (typeFor order letter size units) _ (type-for-numbered order letter size units) (λ t. write-points-numbered t value room)) c;
+      npy-type-read = λ text said r x c. told-coded typeValues (typeString text) said r x (type-numbered text) c;
+      npy-type-print = λ order letter size units room count r x c.
+          beside alone _ room (x .0) count (x .1) r
+          (then-numbered (typeFor order letter size units) (λ t. typePrinted t room) (type-for-numbered order letter size units) (λ t. type-printed-numbered t room)) (c .told)
+          (λ n e. c .room-after ∙ given-left _ (λ t. typePlaced t room) room (typeFor order letter size units) (λ t k f. typed-left t room k f) n e);
+    }
+
+-- ---- what was not needed
+rest-for : (r : Record) (said : Said) (l l′ : Lent) → said .entries ≡ entriesOf (r .dtype) → said .names ≡ nameBytes (r .dtype) → said .rank ≡ length (r .shape)
+    → l′ ≡ holding r l → Same-rest said l l′
+rest-for r said l l′ e n k q =
+    record {
+      table-rest = rw (e, q) (holding-rest r l .table-rest);
+      names-rest = rw (n, q) (holding-rest r l .names-rest);
+      shape-rest = rw (k, q) (holding-rest r l .shape-rest);
+    }
+
+same-left : (said : Said) (l l′ : Lent) → l′ ≡ l → Same-rest said l l′
+same-left said l l′ q = record { table-rest = rw q refl; names-rest = rw q refl; shape-rest = rw q refl }
+
+header-rest-told : (t : header.Told) (said : List ℕ) (l l′ : Lent) (o : Outcome record-of-file.Header)
+    → headerValues t ≡ left headerValues (each header.told o) said → l′ ≡ record-of-file.filled o l → Same-rest (t .said) l l′
+header-rest-told t said l l′ (gives h) e q =
+    rest-for (h .says) (t .said) l l′ (ap (λ x. getD x 3 0) e) (ap (λ x. getD x 4 0) e) (ap (λ x. getD x 2 0) e) q
+header-rest-told t said l l′ (refused n) e q = same-left (t .said) l l′ q
+
+text-rest-told : (t : Said) (said : List ℕ) (l l′ : Lent) (o : Outcome Record)
+    → textValues t ≡ left textValues (each header.saidOf o) said → l′ ≡ header.filled o l → Same-rest t l l′
+text-rest-told t said l l′ (gives r) e q = rest-for r t l l′ (ap (λ x. getD x 2 0) e) (ap (λ x. getD x 3 0) e) (ap (λ x. getD x 1 0) e) q
+text-rest-told t said l l′ (refused n) e q = same-left t l l′ q
+
+-- the count is how many were written, or nothing was
+spares : (o : Outcome ℕ) (room room′ count : List ℕ) (n : ℕ) → ((m : ℕ) → o ≡ gives m → drop m room′ ≡ drop m room) → ((k : ℕ) → o ≡ refused k → room′ ≡ room)
+    → n ∷ [] ≡ left alone o count → drop n room′ ≡ drop n room
+spares (gives m) room room′ count n h k e = h n (ap gives (sym (ap (λ x. getD x 0 0) e)))
+spares (refused j) room room′ count n h k e = ap (drop n) (k j refl)
+
+module _ {A : Type 0} (next : A → Outcome ℕ) (put : A → List ℕ) (room : List ℕ) where
+  given-rest : (given : Outcome A) → ((a : A) (n : ℕ) → next a ≡ gives n → drop n (put a) ≡ drop n room) → (n : ℕ) → then given next ≡ gives n
+      → drop n (left put given room) ≡ drop n room
+  given-rest (gives a) h n e = h a n e
+  given-rest (refused k) h n e = refl
+
+strides-behind : (o : Order) (s out : List ℕ) (c : Outcome ℕ) → drop (length s) (shape.left c (strides o s) out) ≡ drop (length s) out
+strides-behind o s out (gives n) = strides-rest o s out n (gives n) refl
+strides-behind o s out (refused n) = refl
+
+strides-given : (s room : List ℕ) (given : Outcome Order)
+    → drop (length s) (left (λ o. shape.left (shape.stridesCount o s (length room)) (strides o s) room) given room) ≡ drop (length s) room
+strides-given s room (gives o) = strides-behind o s room (shape.stridesCount o s (length room))
+strides-given s room (refused n) = refl
+
+pub rest-in-c : Rest-in-C
+rest-in-c =
+    record {
+      npy-read = λ file l l′ said r t c. header-rest-told t said l l′ (record-of-file.headerInto reading file l) (c .told .after) (c .rooms);
+      npy-read-held = λ longer file l l′ said r t c. header-rest-told t said l l′ (header.heldInto longer file l) (c .told .after) (c .rooms);
+      npy-read-text = λ text l l′ said r t c. text-rest-told t said l l′ (header.textInto text l) (c .told .after) (c .rooms);
+      npy-write-header = λ t ns s order room count r room′ n c.
+          spares _ room room′ count n
+          (λ m e. ap (drop m) (c .room-after) ∙ given-rest _ (λ o. headerPlaced t ns s o room) room (orderFor order) (λ o k f. header-placed-rest t ns s o room k f) m e)
+          (λ k e. c .room-after ∙ given-left _ (λ o. headerPlaced t ns s o room) room (orderFor order) (λ o j f. header-left t ns s o room j f) k e) (c .told .after);
+      npy-list = λ version start t ns s order room count r room′ n c.
+          spares _ room room′ count n
+          (λ m e. ap (drop m) (c .room-after)
+          ∙ given-rest _ (λ v. left (λ o. roomBy (checkedRecord t ns s o) v start room) (orderFor order) room) room (versionOf version 0)
+          (λ v k f. given-rest _ (λ o. roomBy (checkedRecord t ns s o) v start room) room (orderFor order) (λ o j g. listed-rest v start room j (checkedRecord t ns s o) g) k f) m e)
+          (λ m e. c .room-after
+          ∙ given-left _ (λ v. left (λ o. roomBy (checkedRecord t ns s o) v start room) (orderFor order) room) room (versionOf version 0)
+          (λ v k f. given-left _ (λ o. roomBy (checkedRecord t ns s o) v start room) room (orderFor order) (λ o j g. listed-left v start room j (checkedRecord t ns s o) g) k f) m e)
+          (c .told .after);
+      npy-type-print = λ order letter size units room count r room′ n c.
+          spares _ room room′ count n
+          (λ m e. ap (drop m) (c .room-after) ∙ given-rest _ (λ t. typePlaced t room) room (typeFor order letter size units) (λ t k f. typed-rest t room k f) m e)
+          (λ k e. c .room-after ∙ given-left _ (λ t. typePlaced t room) room (typeFor order letter size units) (λ t j f. typed-left t room j f) k e) (c .told .after);
+      puts = λ put room count r room′ n c.
+          spares (each length put) room room′ count n (λ m e. owed put room (each length put) room′ m (record { answered = refl; room-after = c .room-after }) e)
+          (λ k e. c .room-after ∙ by-outcome length (after room) room (λ j. refl) put k e) (c .told .after);
+      npy-strides = λ s order room count r room′ count′ c. ap (drop (length s)) (c .room-after) ∙ strides-given s room (orderFor order);
+    }

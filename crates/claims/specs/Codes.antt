@@ -1,0 +1,110 @@
+-- The C interface. include/npy.h: "It returns 0 and has written its values, or n, one of document 01's refusal numbers, 1 to 30, and has left all that it was lent
+-- as it was", and "room beyond what was needed is left as it was"; document 01, "The refusal numbers": "Each returns its number only; every lent buffer stays
+-- unchanged." The code 0 is an answer and never a refusal. Of each function of crate npy, by its own contract, and of whatever crate codes tells. Definitions only.
+-- Assumes nothing.
+use Prim.Native.Nat.{ℕ, _≤_}
+use mathlib.Core.Path.{_≡_}
+use mathlib.Core.Bool.{Bool}
+use mathlib.Core.List.{List, [], _∷_}
+use lib.ListN.{length, drop}
+use Rattle.counts.specs.Outcome.{Outcome, gives, refused, then, each}
+use Rattle.type_str.specs.TypeString.{typeString}
+use Rattle.type_str.specs.Text.{typePrinted}
+use Rattle.shape.specs.Count.{itemCount, stridesCount}
+use Rattle.record.specs.Version.{versionOf}
+use Rattle.record.specs.Rooms.{Lent}
+use Rattle.record.specs.Header.{headerInto}
+use Rattle.judge.specs.Judged.{reading}
+use Rattle.table.specs.Answer.{summary}
+use Rattle.table.specs.Checked.{checkedRecord}
+use Rattle.items.specs.Item.{itemOf}
+use Rattle.places.specs.Place.{placeOf}
+use Rattle.fill.specs.declared.Said.{Said}
+use Rattle.header.specs.Answer as header
+use Rattle.write.specs.Writes.{headerWritten}
+use Rattle.listing.specs.Answer.{listed}
+use Rattle.strings.specs.Rooms.{readBytes, readPoints, writeBytes, writePoints}
+use Rattle.element.specs.Element.{elementBytes, elementPoints}
+use Rattle.codes.specs.Codes.{Tells, alone}
+use Rattle.codes.specs.Values.{orderFor, typeFor, typeValues, textValues, headerValues, summaryValues, runValues}
+use Rattle.npy.specs.Calls.{Reads, ReadsHeld, ReadsText, Writes, Lists, Strides, Prints, Puts}
+use Rattle.claims.specs.Beyond.{Same-rest}
+
+-- a refusal: its number, one of the thirty, and all that was lent as it was
+pub record Refuses {A M : Type 0} (o : Outcome A) (before : M) (r : ℕ) (after : M) : Type 0 where
+  pub is : o ≡ refused r
+  pub from-one : 1 ≤ r
+  pub to-thirty : r ≤ 30
+  pub unchanged : after ≡ before
+
+-- of every answer that crate codes tells: a refusal is its number alone
+abbrev pub Tells-alone : {A : Type 0} → (values : A → List ℕ) (o : Outcome A) (said : List ℕ) → Type 0
+Tells-alone values o said = (r : ℕ) (said′ : List ℕ) (n : ℕ) → Tells values o said r said′ → o ≡ refused n → (r ≡ n) × (said′ ≡ said)
+
+-- what a function owes is an answer exactly where it returns 0
+pub record Coded {A M : Type 0} (o : Outcome A) (before : M) (r : ℕ) (after : M) : Type 0 where
+  pub zero : r ≡ 0 → (a : A) × (o ≡ gives a)
+  pub other : (r ≡ 0 → ⊥) → Refuses o before r after
+
+-- by the contract of a result and of all that was lent: of the values alone, and of a room and how many were written to it
+abbrev pub CodedBy : {A M : Type 0} → (o : Outcome A) → (contract : ℕ → M → Type 0) → (before : M) → Type 0
+CodedBy {A} {M} o contract before = (r : ℕ) (after : M) → contract r after → Coded o before r after
+
+abbrev pub CodedTells : {A : Type 0} → (values : A → List ℕ) (o : Outcome A) (said : List ℕ) → Type 0
+CodedTells values o said = CodedBy o (Tells values o said) said
+
+abbrev pub CodedPuts : (put : Outcome (List ℕ)) (room count : List ℕ) → Type 0
+CodedPuts put room count = CodedBy {M = List ℕ × List ℕ} (each length put) (λ r after. Puts put room count r (after .0) (after .1)) (room, count)
+
+pub record Zero-answers : Type 0 where
+  pub npy-read : (file : List ℕ) (l : Lent) (said : List ℕ)
+      → CodedBy {M = Lent × List ℕ} (each header.told (headerInto reading file l)) (λ r after. Reads file l said r (after .0) (after .1)) (l, said)
+  pub npy-read-held : (longer : Bool) (file : List ℕ) (l : Lent) (said : List ℕ)
+      → CodedBy {M = Lent × List ℕ} (each header.told (header.heldInto longer file l)) (λ r after. ReadsHeld longer file l said r (after .0) (after .1)) (l, said)
+  pub npy-read-text : (text : List ℕ) (l : Lent) (said : List ℕ)
+      → CodedBy {M = Lent × List ℕ} (each header.saidOf (header.textInto text l)) (λ r after. ReadsText text l said r (after .0) (after .1)) (l, said)
+  pub npy-check : (t ns s : List ℕ) (order : ℕ) (said : List ℕ)
+      → CodedTells summaryValues (then (orderFor order) (λ o. each summary (checkedRecord t ns s o))) said
+  pub npy-write-header : (t ns s : List ℕ) (order : ℕ) (room count : List ℕ)
+      → CodedBy {M = List ℕ × List ℕ} (then (orderFor order) (λ o. headerWritten t ns s o room)) (λ r after. Writes t ns s order room count r (after .0) (after .1)) (room, count)
+  pub npy-list : (version start : ℕ) (t ns s : List ℕ) (order : ℕ) (room count : List ℕ)
+      → CodedBy {M = List ℕ × List ℕ} (then (versionOf version 0) (λ v. then (orderFor order) (λ o. listed v start t ns s o room)))
+      (λ r after. Lists version start t ns s order room count r (after .0) (after .1)) (room, count)
+  pub npy-count : (s : List ℕ) (order : ℕ) (count : List ℕ) → CodedTells alone (then (orderFor order) (λ o. itemCount o s)) count
+  pub npy-strides : (s : List ℕ) (order : ℕ) (room count : List ℕ)
+      → CodedBy {M = List ℕ × List ℕ} (then (orderFor order) (λ o. stridesCount o s (length room))) (λ r after. Strides s order room count r (after .0) (after .1)) (room, count)
+  pub npy-item-number : (s : List ℕ) (order : ℕ) (index item : List ℕ) → CodedTells alone (then (orderFor order) (λ o. itemOf o s index)) item
+  pub npy-place : (file start : ℕ) (t ns s : List ℕ) (order : ℕ) (x p run : List ℕ)
+      → CodedTells runValues (then (orderFor order) (λ o. placeOf file start t ns s o x p)) run
+  pub npy-element-bytes : (file : List ℕ) (start : ℕ) (t ns s : List ℕ) (order : ℕ) (x p room count : List ℕ)
+      → CodedPuts (then (orderFor order) (λ o. elementBytes file start t ns s o x p room)) room count
+  pub npy-element-points : (file : List ℕ) (start : ℕ) (t ns s : List ℕ) (order : ℕ) (x p room count : List ℕ)
+      → CodedPuts (then (orderFor order) (λ o. elementPoints file start t ns s o x p room)) room count
+  pub npy-read-bytes : (order letter size units : ℕ) (run room count : List ℕ) → CodedPuts (then (typeFor order letter size units) (λ t. readBytes t run room)) room count
+  pub npy-read-points : (order letter size units : ℕ) (run room count : List ℕ) → CodedPuts (then (typeFor order letter size units) (λ t. readPoints t run room)) room count
+  pub npy-write-bytes : (order letter size units : ℕ) (value room count : List ℕ)
+      → CodedPuts (then (typeFor order letter size units) (λ t. writeBytes t value room)) room count
+  pub npy-write-points : (order letter size units : ℕ) (value room count : List ℕ)
+      → CodedPuts (then (typeFor order letter size units) (λ t. writePoints t value room)) room count
+  pub npy-type-read : (text said : List ℕ) → CodedTells typeValues (typeString text) said
+  pub npy-type-print : (order letter size units : ℕ) (room count : List ℕ)
+      → CodedBy {M = List ℕ × List ℕ} (then (typeFor order letter size units) (λ t. typePrinted t room)) (λ r after. Prints order letter size units room count r (after .0) (after .1))
+      (room, count)
+
+-- "room beyond what was needed is left as it was": the room behind so many as the count says, whatever it says
+abbrev pub SparesBy : (contract : ℕ → List ℕ → List ℕ → Type 0) → (room : List ℕ) → Type 0
+SparesBy contract room = (r : ℕ) (room′ : List ℕ) (n : ℕ) → contract r room′ (n ∷ []) → drop n room′ ≡ drop n room
+
+pub record Rest-in-C : Type 0 where
+  pub npy-read : (file : List ℕ) (l l′ : Lent) (said : List ℕ) (r : ℕ) (t : header.Told) → Reads file l said r l′ (headerValues t) → Same-rest (t .said) l l′
+  pub npy-read-held : (longer : Bool) (file : List ℕ) (l l′ : Lent) (said : List ℕ) (r : ℕ) (t : header.Told)
+      → ReadsHeld longer file l said r l′ (headerValues t) → Same-rest (t .said) l l′
+  pub npy-read-text : (text : List ℕ) (l l′ : Lent) (said : List ℕ) (r : ℕ) (t : Said) → ReadsText text l said r l′ (textValues t) → Same-rest t l l′
+  pub npy-write-header : (t ns s : List ℕ) (order : ℕ) (room count : List ℕ) → SparesBy (Writes t ns s order room count) room
+  pub npy-list : (version start : ℕ) (t ns s : List ℕ) (order : ℕ) (room count : List ℕ) → SparesBy (Lists version start t ns s order room count) room
+  pub npy-type-print : (order letter size units : ℕ) (room count : List ℕ) → SparesBy (Prints order letter size units room count) room
+  -- the six functions that read or write an element
+  pub puts : (put : Outcome (List ℕ)) (room count : List ℕ) → SparesBy (Puts put room count) room
+  -- the answer is the item count, and what is needed a number for each dimension
+  pub npy-strides : (s : List ℕ) (order : ℕ) (room count : List ℕ) (r : ℕ) (room′ count′ : List ℕ) → Strides s order room count r room′ count′
+      → drop (length s) room′ ≡ drop (length s) room

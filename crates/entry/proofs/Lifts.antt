@@ -1,0 +1,224 @@
+-- Entries that move on to make room for levels. A dtype's table from another entry on is that table with its parents moved; the first entry gets the last
+-- level as its parent. Then the loop that moves them, the last number first, so that none is lost. Assumes nothing.
+use Prim.Native.Nat.{ℕ, zero, suc, _+_, _-_, _*_, _/_, _%_, _^_, _<_, _≤_}
+use native.Mathlib.Omega.{arith}
+use mathlib.Core.Path.{_≡_, refl, sym, ap, _∙_}
+use mathlib.Core.List.{List, [], _∷_, _++_, append-assoc}
+use mathlib.Core.Bool.{Bool, true, false, cond}
+use lib.Dec.{ltb, eqb}
+use lib.ListN.{length, getD, set, take, drop, length-set, length-drop}
+use lib.Seq.{sets, sets-eq, length-sets, length-take-le, take-at, drop-at, getD-take, getD-drop, drop-cons, drop-length}
+use borrow.Author.Tests.{lt-ltb, le-ltb, eq-eqb, ne-eqb}
+use Rattle.dtype.specs.Dtype.{Dtype, Fields, plain, array, record-of, end-of-fields, field-then, sizeOf}
+use Rattle.dtype.specs.Entries.{entriesOf, entriesIn}
+use Rattle.dtype.specs.Flat.{entry-width, saturated, entryOf, numbers, flat, flats}
+use Rattle.dtype.proofs.Flat.{flat-length}
+use Rattle.record.specs.Descr.{arrays}
+use Rattle.entry.specs.Written.{movedNumber, movedFrom, lifted, sizeOver, levelled, above}
+use Rattle.entry.proofs.Stores.{set-sets, getD-sets, sets-over}
+use Rattle.entry.proofs.Levels.{arrays-entries, levels-flat}
+
+-- ---- one number
+module _ (i n by up : ℕ) where
+  pub moved-first : i ≡ 0 → up ≡ movedNumber i n by up
+  unfolding movedNumber
+  moved-first h = ap (λ (t : Bool). cond t up (cond (eqb i 8) 0 (cond (eqb (i % entry-width) 0) (saturated (n + by)) n))) (sym (eq-eqb i 0 h))
+
+  later : (i ≡ 0 → ⊥) → cond (eqb i 8) 0 (cond (eqb (i % entry-width) 0) (saturated (n + by)) n) ≡ movedNumber i n by up
+  unfolding movedNumber
+  later z = ap (λ (t : Bool). cond t up (cond (eqb i 8) 0 (cond (eqb (i % entry-width) 0) (saturated (n + by)) n))) (sym (ne-eqb i 0 z))
+
+  pub moved-name : (i ≡ 0 → ⊥) → i ≡ 8 → 0 ≡ movedNumber i n by up
+  moved-name z h = ap (λ (t : Bool). cond t 0 (cond (eqb (i % entry-width) 0) (saturated (n + by)) n)) (sym (eq-eqb i 8 h)) ∙ later z
+
+  behind : (i ≡ 0 → ⊥) → (i ≡ 8 → ⊥) → cond (eqb (i % entry-width) 0) (saturated (n + by)) n ≡ movedNumber i n by up
+  behind z y = ap (λ (t : Bool). cond t 0 (cond (eqb (i % entry-width) 0) (saturated (n + by)) n)) (sym (ne-eqb i 8 y)) ∙ later z
+
+  pub moved-parent : (i ≡ 0 → ⊥) → (i ≡ 8 → ⊥) → i % entry-width ≡ 0 → saturated (n + by) ≡ movedNumber i n by up
+  moved-parent z y h = ap (λ (t : Bool). cond t (saturated (n + by)) n) (sym (eq-eqb (i % entry-width) 0 h)) ∙ behind z y
+
+  pub moved-other : (i ≡ 0 → ⊥) → (i ≡ 8 → ⊥) → (i % entry-width ≡ 0 → ⊥) → n ≡ movedNumber i n by up
+  moved-other z y h = ap (λ (t : Bool). cond t (saturated (n + by)) n) (sym (ne-eqb (i % entry-width) 0 h)) ∙ behind z y
+
+-- ---- one entry
+nine-eq : {a b c d e f g h j a′ b′ c′ d′ e′ f′ g′ h′ j′ : ℕ} {x x′ : List ℕ} → a ≡ a′ → b ≡ b′ → c ≡ c′ → d ≡ d′ → e ≡ e′ → f ≡ f′ → g ≡ g′ → h ≡ h′ → j ≡ j′ → x ≡ x′
+    → a ∷ b ∷ c ∷ d ∷ e ∷ f ∷ g ∷ h ∷ j ∷ x ≡ a′ ∷ b′ ∷ c′ ∷ d′ ∷ e′ ∷ f′ ∷ g′ ∷ h′ ∷ j′ ∷ x′
+nine-eq ea eb ec ed ee ef eg eh ej ex = cc
+
+-- a number of an entry behind the first
+keeps : (i k n by up : ℕ) → 8 < i → i % 9 ≡ 0 → 0 < k → k < 9 → movedNumber (i + k) n by up ≡ n
+keeps i k n by up l z lo hi =
+    sym (moved-other (i + k) n by up (λ (e : i + k ≡ 0). absurd (omega arith)) (λ (e : i + k ≡ 8). absurd (omega arith)) (λ (e : (i + k) % 9 ≡ 0). absurd (omega arith)))
+
+module _ (by up : ℕ) where
+  entry-moved : (d : Dtype) (p p′ m i i′ : ℕ) (x x′ : List ℕ) → p′ ≡ p + by → p′ < 2 ^ 64 → 8 < i → i % 9 ≡ 0 → i′ ≡ i + 9 → movedFrom i′ by up x ≡ x′
+      → movedFrom i by up (numbers (entryOf d p m) x) ≡ numbers (entryOf d p′ m) x′
+  entry-moved d p p′ m i i′ x x′ hp small l z hi hx =
+      let e = entryOf d p m in
+      let at : (k k′ n : ℕ) → k′ ≡ i + k → 0 < k → k < 9 → movedNumber k′ n by up ≡ n = λ k k′ n h lo top. ap (λ (y : ℕ). movedNumber y n by up) h ∙ keeps i k n by up l z lo top in
+      let rest : suc (suc (suc (suc (suc (suc (suc (suc (suc i)))))))) ≡ i′ = omega arith in
+      let first : saturated (p + by) ≡ p′ = omega arith in
+      nine-eq
+      (sym (moved-parent i p by up (λ (q : i ≡ 0). absurd (omega arith)) (λ (q : i ≡ 8). absurd (omega arith)) z) ∙ first)
+      (at 1 (suc i) (e .kind) (omega arith) (omega arith) (omega arith))
+      (at 2 (suc (suc i)) (e .order) (omega arith) (omega arith) (omega arith))
+      (at 3 (suc (suc (suc i))) (e .letter) (omega arith) (omega arith) (omega arith))
+      (at 4 (suc (suc (suc (suc i)))) (e .number) (omega arith) (omega arith) (omega arith))
+      (at 5 (suc (suc (suc (suc (suc i))))) (e .units) (omega arith) (omega arith) (omega arith))
+      (at 6 (suc (suc (suc (suc (suc (suc i)))))) (e .extent) (omega arith) (omega arith) (omega arith))
+      (at 7 (suc (suc (suc (suc (suc (suc (suc i))))))) (e .bytes) (omega arith) (omega arith) (omega arith))
+      (at 8 (suc (suc (suc (suc (suc (suc (suc (suc i)))))))) (e .name) (omega arith) (omega arith) (omega arith))
+      (ap (λ (y : ℕ). movedFrom y by up x) rest ∙ hx)
+
+  -- ---- a dtype behind the first entry
+  mutual
+    flat-moved : (d : Dtype) (at at′ p p′ m i i′ : ℕ) (x : List ℕ) → at′ ≡ at + by → p′ ≡ p + by → at′ + entriesOf d < 2 ^ 64 → p′ < 2 ^ 64 → 8 < i → i % 9 ≡ 0 → i′ ≡ i + 9 * entriesOf d
+        → movedFrom i by up (flat d at p m x) ≡ flat d at′ p′ m (movedFrom i′ by up x)
+    flat-moved (plain t) at at′ p p′ m i i′ x ha hp big small l z hi = entry-moved (plain t) p p′ m i i′ x _ hp small l z (omega arith) refl
+    flat-moved (array n d) at at′ p p′ m i i′ x ha hp big small l z hi =
+        entry-moved (array n d) p p′ m i (i + 9) (flat d (suc at) at 0 x) _ hp small l z refl
+        (flat-moved d (suc at) (suc at′) at at′ 0 (i + 9) i′ x (omega arith) ha (omega arith) (omega arith) (omega arith) (omega arith) (omega arith))
+    flat-moved (record-of fs) at at′ p p′ m i i′ x ha hp big small l z hi =
+        entry-moved (record-of fs) p p′ m i (i + 9) (flats fs (suc at) at x) _ hp small l z refl
+        (flats-moved fs (suc at) (suc at′) at at′ (i + 9) i′ x (omega arith) ha (omega arith) (omega arith) (omega arith) (omega arith) (omega arith))
+
+    flats-moved : (fs : Fields) (at at′ p p′ i i′ : ℕ) (x : List ℕ) → at′ ≡ at + by → p′ ≡ p + by → at′ + entriesIn fs < 2 ^ 64 → p′ < 2 ^ 64 → 8 < i → i % 9 ≡ 0 → i′ ≡ i + 9 * entriesIn fs
+        → movedFrom i by up (flats fs at p x) ≡ flats fs at′ p′ (movedFrom i′ by up x)
+    flats-moved end-of-fields at at′ p p′ i i′ x ha hp big small l z hi = let e : i ≡ i′ = omega arith in ap (λ (y : ℕ). movedFrom y by up x) e
+    flats-moved (field-then name d fs) at at′ p p′ i i′ x ha hp big small l z hi =
+        flat-moved d at at′ p p′ (length name) i (i + 9 * entriesOf d) (flats fs (at + entriesOf d) p x) ha hp (omega arith) small l z refl
+        ∙ ap (flat d at′ p′ (length name))
+        (flats-moved fs (at + entriesOf d) (at′ + entriesOf d) p p′ (i + 9 * entriesOf d) i′ x (omega arith) hp (omega arith) small (omega arith) (omega arith) (omega arith))
+
+  -- ---- a whole dtype
+  root-moved : (d : Dtype) (p m : ℕ) (x : List ℕ) → movedFrom 0 by up (numbers (entryOf d p m) x) ≡ numbers (entryOf d up 0) (movedFrom 9 by up x)
+  unfolding movedNumber
+  root-moved d p m x = refl
+
+  pub dtype-moved : (d : Dtype) (at at′ p m : ℕ) → at′ ≡ at + by → at′ + entriesOf d < 2 ^ 64 → movedFrom 0 by up (flat d at p m []) ≡ flat d at′ up 0 []
+  dtype-moved (plain t) at at′ p m ha big = root-moved (plain t) p m []
+  dtype-moved (array n d) at at′ p m ha big =
+      root-moved (array n d) p m (flat d (suc at) at 0 [])
+      ∙ ap (numbers (entryOf (array n d) up 0)) (flat-moved d (suc at) (suc at′) at at′ 0 9 (9 + 9 * entriesOf d) [] (omega arith) ha (omega arith) (omega arith) (omega arith) (omega arith) refl)
+  dtype-moved (record-of fs) at at′ p m ha big =
+      root-moved (record-of fs) p m (flats fs (suc at) at [])
+      ∙ ap (numbers (entryOf (record-of fs) up 0)) (flats-moved fs (suc at) (suc at′) at at′ 9 (9 + 9 * entriesIn fs) [] (omega arith) ha (omega arith) (omega arith) (omega arith) (omega arith) refl)
+
+-- ---- the loop
+moved-length : (l : List ℕ) (i by up : ℕ) → length (movedFrom i by up l) ≡ length l
+moved-length [] i by up = refl
+moved-length (n ∷ l) i by up = ap suc (moved-length l (suc i) by up)
+
+moved-get : (l : List ℕ) (i by up j : ℕ) → j < length l → getD (movedFrom i by up l) j 0 ≡ movedNumber (i + j) (getD l j 0) by up
+moved-get [] i by up j lt = absurd (omega arith)
+moved-get (n ∷ l) i by up zero lt = let z : i ≡ i + 0 = omega arith in ap (λ (x : ℕ). movedNumber x n by up) z
+moved-get (n ∷ l) i by up (suc j) lt =
+    let z : suc i + j ≡ i + suc j = omega arith in
+    moved-get l (suc i) by up j (omega arith) ∙ ap (λ (x : ℕ). movedNumber x (getD l j 0) by up) z
+
+module _ (table0 : List ℕ) (entry count by : ℕ) where
+  abbrev old : List ℕ
+  old = take (entry-width * count) (drop (entry-width * entry) table0)
+
+  abbrev due : List ℕ
+  due = movedFrom 0 by (entry + by - 1) old
+
+  pub lifted-none : length table0 / entry-width < entry + by + count → table0 ≡ lifted table0 entry count by
+  lifted-none l = ap (λ (t : Bool). cond t table0 (sets table0 (entry-width * (entry + by)) due)) (sym (lt-ltb (length table0 / entry-width) (entry + by + count) l))
+
+  pub lifted-room : entry + by + count ≤ length table0 / entry-width → lifted table0 entry count by ≡ sets table0 (entry-width * (entry + by)) due
+  lifted-room l = ap (λ (t : Bool). cond t table0 (sets table0 (entry-width * (entry + by)) due)) (le-ltb (length table0 / entry-width) (entry + by + count) l)
+
+  pub lifted-length : length (lifted table0 entry count by) ≡ length table0
+  lifted-length = go (ltb (length table0 / entry-width) (entry + by + count))
+    where
+      go : (t : Bool) → length (cond t table0 (sets table0 (entry-width * (entry + by)) due)) ≡ length table0
+      go true = refl
+      go false = length-sets table0 (entry-width * (entry + by)) due
+
+  pub record Lifting (i : ℕ) (table : List ℕ) : Type 0 where
+    pub low : i ≤ entry-width * count
+    pub long : length table ≡ length table0
+    pub holds : table ≡ sets table0 (entry-width * (entry + by) + i) (drop i due)
+
+  module _ (room : entry + by + count ≤ length table0 / entry-width) where
+    old-length : length old ≡ entry-width * count
+    old-length = length-take-le (entry-width * count) (drop (entry-width * entry) table0) (let n = length-drop (entry-width * entry) table0 in omega (arith, n))
+
+    due-length : length due ≡ entry-width * count
+    due-length = moved-length old 0 by (entry + by - 1) ∙ old-length
+
+    pub lifting-start : Lifting (entry-width * count) table0
+    lifting-start =
+        let none : drop (entry-width * count) due ≡ [] = ap (λ (n : ℕ). drop n due) (sym due-length) ∙ drop-length due in
+        record { low = omega arith; long = refl; holds = ap (sets table0 (entry-width * (entry + by) + entry-width * count)) (sym none) }
+
+    pub lifting-more : (i j : ℕ) (table : List ℕ) → Lifting i table → i ≡ suc j → (n : ℕ) → n ≡ movedNumber j (getD table (entry-width * entry + j) 0) by (entry + by - 1)
+        → (table′ : List ℕ) → table′ ≡ set table (entry-width * (entry + by) + j) n → Lifting j table′
+    lifting-more i j table w hi n hn table′ ht =
+        let to = entry-width * (entry + by) in
+        let more : to + i ≡ suc (to + j) = omega arith in
+        let stands : table ≡ sets table0 (suc (to + j)) (drop (suc j) due) = w .holds ∙ ap (λ (x : ℕ). sets table0 x (drop i due)) more ∙ ap (λ (x : ℕ). sets table0 (suc (to + j)) (drop x due)) hi in
+        let same : getD table (entry-width * entry + j) 0 ≡ getD old j 0 =
+        ap (λ (l : List ℕ). getD l (entry-width * entry + j) 0) stands
+        ∙ getD-sets table0 (suc (to + j)) (entry-width * entry + j) (drop (suc j) due) (omega arith)
+        ∙ sym (getD-take (entry-width * count) (drop (entry-width * entry) table0) j 0 (omega (arith, w .low)) ∙ getD-drop (entry-width * entry) table0 j 0) in
+        let z : 0 + j ≡ j = omega arith in
+        let is : n ≡ getD due j 0 =
+        hn ∙ ap (λ (x : ℕ). movedNumber j x by (entry + by - 1)) same ∙ ap (λ (x : ℕ). movedNumber x (getD old j 0) by (entry + by - 1)) (sym z)
+        ∙ sym (moved-get old 0 by (entry + by - 1) j (omega (arith, w .low, old-length))) in
+        record {
+          low = omega (arith, w .low);
+          long = ap length ht ∙ length-set table (to + j) n ∙ w .long;
+          holds = ht ∙ ap (λ (l : List ℕ). set l (to + j) n) stands ∙ set-sets table0 (to + j) n (suc (to + j)) (drop (suc j) due) (omega arith)
+              ∙ ap (λ (x : ℕ). sets table0 (to + j) (x ∷ drop (suc j) due)) is ∙ ap (sets table0 (to + j)) (sym (drop-cons due j 0 (omega (arith, w .low, due-length))));
+        }
+
+    pub lifting-all : (i : ℕ) (table : List ℕ) → Lifting i table → i ≡ 0 → table ≡ lifted table0 entry count by
+    lifting-all i table w hi =
+        let z : entry-width * (entry + by) + 0 ≡ entry-width * (entry + by) = omega arith in
+        w .holds ∙ ap (λ (x : ℕ). sets table0 (entry-width * (entry + by) + x) (drop x due)) hi ∙ ap (λ (x : ℕ). sets table0 x due) z ∙ sym (lifted-room room)
+
+-- ---- the levels above a type that was lifted
+pub over-none : (ns : List ℕ) (entry up m last size : ℕ) (table : List ℕ) → length ns ≡ 0 → (size ≡ sizeOver ns size) × (table ≡ above ns entry up m last size table)
+over-none [] entry up m last size table h = (refl, refl)
+over-none (n ∷ ns) entry up m last size table h = absurd (omega arith)
+
+pub over-some : (ns : List ℕ) (entry up m last size : ℕ) (table : List ℕ) → (length ns ≡ 0 → ⊥) → (count last′ : ℕ) (table1 table2 : List ℕ) → count ≡ last - entry → last′ ≡ saturated (last + length ns)
+    → table1 ≡ lifted table entry count (length ns) → table2 ≡ levelled ns entry up m last′ size table1 → table2 ≡ above ns entry up m last size table
+over-some [] entry up m last size table h count last′ table1 table2 hc hl h1 h2 = absurd (h refl)
+over-some (n ∷ ns) entry up m last size table h count last′ table1 table2 hc hl h1 h2 =
+    h2 ∙ ap (levelled (n ∷ ns) entry up m last′ size) (h1 ∙ ap (λ (x : ℕ). lifted table entry x (suc (length ns))) hc)
+    ∙ ap (λ (x : ℕ). levelled (n ∷ ns) entry up m x size (lifted table entry (last - entry) (suc (length ns)))) hl
+
+-- what a run stored
+part-of : (l : List ℕ) (k n : ℕ) (xs : List ℕ) → k + length xs ≤ length l → n ≡ length xs → take n (drop k (sets l k xs)) ≡ xs
+part-of l k n xs le hn =
+    ap (λ (y : List ℕ). take n (drop k y)) (sets-eq xs l k le ∙ append-assoc (take k l) xs (drop (k + length xs) l))
+    ∙ ap (take n) (drop-at (take k l) (xs ++ drop (k + length xs) l) k (length-take-le k l (omega arith)))
+    ∙ take-at xs (drop (k + length xs) l) n (sym hn)
+
+pub above-flat : (ns : List ℕ) (d : Dtype) (entry up m last size : ℕ) (old : List ℕ) → size ≡ saturated (sizeOf d) → last ≡ entry + entriesOf d → entry-width * (last + length ns) ≤ length old → length old < 2 ^ 64
+    → above ns entry up m last size (sets old (entry-width * entry) (flat d entry up m [])) ≡ sets old (entry-width * entry) (flat (arrays ns d) entry up m [])
+above-flat [] d entry up m last size old hs hl room big = refl
+above-flat (n ∷ ns) d entry up m last size old hs hl room big =
+    let by = suc (length ns) in
+    let rows = flat d entry up m [] in
+    let whole = flat (arrays (n ∷ ns) d) entry up m [] in
+    let now = sets old (entry-width * entry) rows in
+    let few = flat-length d entry up m [] in
+    let all = flat-length (arrays (n ∷ ns) d) entry up m [] in
+    let count = arrays-entries (n ∷ ns) d in
+    let long = length-sets old (entry-width * entry) rows in
+    let part : take (entry-width * (last - entry)) (drop (entry-width * entry) now) ≡ rows = part-of old (entry-width * entry) (entry-width * (last - entry)) rows (omega (arith, few)) (omega (arith, few)) in
+    let one : entry + by - 1 ≡ entry + length ns = omega arith in
+    let last-is : saturated (last + by) ≡ last + by = omega arith in
+    let up-there : lifted now entry (last - entry) by ≡ sets now (entry-width * (entry + by)) (flat d (entry + by) (entry + length ns) 0 []) =
+    lifted-room now entry (last - entry) by (omega (arith, long))
+    ∙ ap (λ (y : List ℕ). sets now (entry-width * (entry + by)) (movedFrom 0 by (entry + by - 1) y)) part
+    ∙ ap (λ (y : ℕ). sets now (entry-width * (entry + by)) (movedFrom 0 by y rows)) one
+    ∙ ap (sets now (entry-width * (entry + by))) (dtype-moved by (entry + length ns) d entry (entry + by) up m refl (omega arith)) in
+    ap (λ (y : ℕ). levelled (n ∷ ns) entry up m y size (lifted now entry (last - entry) by)) last-is
+    ∙ ap (levelled (n ∷ ns) entry up m (last + by) size) up-there
+    ∙ levels-flat (n ∷ ns) d entry up m (last + by) size now hs (omega (arith, count)) (omega (arith, long))
+    ∙ sets-over old (entry-width * entry) rows whole (omega (arith, few, all, count))

@@ -1,0 +1,70 @@
+-- From the judged text to the text read with lent rooms; and no second outcome satisfies the statement of `read_text`. Assumes nothing.
+use Prim.Native.Nat.{ℕ}
+use native.Mathlib.Omega.{arith}
+use mathlib.Core.Path.{_≡_, refl, sym, ap, subst, _∙_}
+use mathlib.Core.List.{List}
+use Rattle.counts.specs.Outcome.{Outcome, gives, refused, then, each}
+use Rattle.counts.specs.OneOutcome.{OneOutcome}
+use Rattle.refusal.specs.declared.Refusal.{Refusal}
+use Rattle.refusal.specs.Numbers.{numberOf}
+use Rattle.refusal.proofs.Names.{number-apart}
+use Rattle.dtype.specs.Record.{Record}
+use Rattle.record.specs.Rooms.{Lent, roomsOf}
+use Rattle.record.specs.Header as header
+use Rattle.tokens.specs.Text.{skip}
+use Rattle.judge.specs.declared.Plan.{Plan}
+use Rattle.judge.specs.declared.Judged.{Judged}
+use Rattle.judge.specs.Judged.{reading, PlanOf, JudgedIs}
+use Rattle.fill.specs.declared.Said.{Said}
+use Rattle.fill.specs.declared.TextRead.{TextRead}
+use Rattle.fill.specs.Text.{saidOf, textAnswer, roomed, textInto, filled, Houses, ReadsText}
+
+module _ (text : List ℕ) (j : Judged) (h : JudgedIs text (skip text 0) j (header.recordIn reading text)) where
+  plan-of : (plan : Plan) (o : Outcome Record) → JudgedIs text (skip text 0) (Judged.Fits plan) o → (r : Record) × PlanOf text (skip text 0) plan r × (o ≡ gives r)
+  plan-of plan (gives r) k = (r, k, refl)
+  plan-of plan (refused n) k = absurd k
+
+  fits : (plan : Plan) → j ≡ Judged.Fits plan → (r : Record) × PlanOf text (skip text 0) plan r × (header.recordIn reading text ≡ gives r)
+  fits plan e = plan-of plan (header.recordIn reading text) (subst (λ (x : Judged). JudgedIs text (skip text 0) x (header.recordIn reading text)) e h)
+
+  pub text-plan : (plan : Plan) → j ≡ Judged.Fits plan → (r : Record) × PlanOf text (skip text 0) plan r
+  text-plan plan e = let x = fits plan e in (x .0, x .1)
+
+  pub text-housed : (plan : Plan) (l : Lent) (x : TextRead) (l′ : Lent) → j ≡ Judged.Fits plan → ((r : Record) → PlanOf text (skip text 0) plan r → Houses r l x l′) → ReadsText text l x l′
+  text-housed plan l x l′ e k =
+      let y = fits plan e in
+      let a = k (y .0) (y .1) in
+      let same : textInto text l ≡ roomed (roomsOf l) (y .0) = ap (λ (o : Outcome Record). then o (roomed (roomsOf l))) (y .2) in
+      record { answered = a .answered ∙ ap (each saidOf) (sym same); after = a .after ∙ ap (λ (o : Outcome Record). filled o l) (sym same) }
+
+  none-of : (f : Refusal) (o : Outcome Record) → JudgedIs text (skip text 0) (Judged.Refused f) o → o ≡ refused (numberOf f)
+  none-of f (gives r) k = absurd k
+  none-of f (refused n) k = ap refused (sym k)
+
+  pub text-refused : (f : Refusal) (l : Lent) → j ≡ Judged.Refused f → ReadsText text l (TextRead.Refused f) l
+  text-refused f l e =
+      let z = none-of f (header.recordIn reading text) (subst (λ (x : Judged). JudgedIs text (skip text 0) x (header.recordIn reading text)) e h) in
+      let same : textInto text l ≡ refused (numberOf f) = ap (λ (o : Outcome Record). then o (roomed (roomsOf l))) z in
+      record { answered = sym (ap (each saidOf) same); after = sym (ap (λ (o : Outcome Record). filled o l) same) }
+
+-- ---- an outcome is the answer and what the three rooms then hold
+gives-apart : (a b : Said) → gives a ≡ gives b → a ≡ b
+gives-apart a b e = cc
+
+refused-apart : (m n : ℕ) → _≡_ {A = Outcome Said} (refused m) (refused n) → m ≡ n
+refused-apart m n e = cc
+
+never : {X : Type 0} (a : Said) (n : ℕ) → gives a ≡ refused n → X
+never a n e = absurd (let z : _≡_ {A = ℕ} 0 1 = cc in omega arith)
+
+text-apart : (x y : TextRead) → textAnswer x ≡ textAnswer y → x ≡ y
+text-apart (TextRead.Read s) (TextRead.Read u) e = ap TextRead.Read (gives-apart s u e)
+text-apart (TextRead.Read s) (TextRead.Refused g) e = never s (numberOf g) e
+text-apart (TextRead.Refused f) (TextRead.Read u) e = never u (numberOf f) (sym e)
+text-apart (TextRead.Refused f) (TextRead.Refused g) e = ap TextRead.Refused (number-apart f g (refused-apart (numberOf f) (numberOf g) e))
+
+pair-eq : {x y : TextRead} {l m : Lent} → x ≡ y → l ≡ m → _≡_ {A = TextRead × Lent} (x, l) (y, m)
+pair-eq hx hl = cc
+
+pub read-text-one : (text : List ℕ) (l : Lent) → OneOutcome {A = TextRead × Lent} (λ o. ReadsText text l (o .0) (o .1))
+read-text-one text l x y p q = pair-eq (text-apart (x .0) (y .0) (p .answered ∙ sym (q .answered))) (p .after ∙ sym (q .after))

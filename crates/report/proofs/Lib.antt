@@ -1,0 +1,4 @@
+pub mod Accepted
+pub mod Rooms
+pub mod Whole
+pub mod Outcomes
