@@ -28,7 +28,8 @@ use Rattle.header.specs.declared.Header.{Header}
 use Rattle.header.specs.Answer.{lent, saidOf, Told, told}
 use Rattle.claims.specs.Accepted.{Some-file, Printable, Accepts-exactly}
 use Rattle.report.proofs.Accepted.{valid-sound}
-use Rattle.report.proofs.Rooms.{read-found, stands-by, roomy-fits}
+use Rattle.report.proofs.Rooms.{read-found, stands-by}
+use Rattle.claims.proofs.Roomy.{roomy-fits}
 use Rattle.claims.proofs.Places.{found-accepted}
 
 -- ---- what was read is accepted

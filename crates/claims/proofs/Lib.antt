@@ -1,3 +1,4 @@
+pub mod Roomy
 pub mod Places
 pub mod RoundTrips
 pub mod Refusals

@@ -41,7 +41,8 @@ use Rattle.write.proofs.Outcomes.{write-header-one}
 use Rattle.report.specs.Rooms.{tableIn, namesIn, shapeIn}
 use Rattle.claims.specs.RoundTrips.{Gives, Comes-back, Written-read, Read-written}
 use Rattle.report.proofs.Accepted.{valid-sound}
-use Rattle.report.proofs.Rooms.{stands-by, read-found, roomy-fits, fits-roomy}
+use Rattle.report.proofs.Rooms.{stands-by, read-found}
+use Rattle.claims.proofs.Roomy.{roomy-fits, fits-roomy}
 use Rattle.claims.proofs.Places.{found-accepted}
 
 -- ---- what was written is the header of the record that was accepted

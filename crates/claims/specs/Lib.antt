@@ -1,3 +1,4 @@
+pub mod Roomy
 pub mod RoundTrips
 pub mod Places
 pub mod Refusals

@@ -25,7 +25,6 @@ use type_str::TypePrint;
 use type_str::TypeRead;
 use write::Written;
 ghost use mathlib.Core.Path.{_≡_};
-ghost use Rattle.record.specs.Version as version;
 ghost use Rattle.type_str.specs.Answer as typed;
 ghost use Rattle.shape.specs.Answer as shaped;
 ghost use Rattle.places.specs.Answer as place;
@@ -38,6 +37,7 @@ ghost use Rattle.listing.specs.Answer as listing;
 ghost use Rattle.slice.specs.Answer as slice;
 ghost use Rattle.placed.specs.Answer as element;
 ghost use Rattle.prefix.specs.Answer.{versionIs};
+ghost use Rattle.record.specs.Version as version;
 ghost use Rattle.codes.specs.Codes.{Tells, alone};
 ghost use Rattle.codes.specs.Values.{orderNumber, orderFor, typeFor, typeValues, textValues, headerValues, summaryValues, runValues};
 ghost use Rattle.codes.specs.Given.{orderAnswer, versionAnswer};
@@ -81,16 +81,6 @@ pub fn version_for(n: u64) -> VersionGiven
         2 => VersionGiven::Is(Version::TwoZero),
         3 => VersionGiven::Is(Version::ThreeZero),
         _ => VersionGiven::No,
-    }
-}
-
-fn major(v: Version) -> u64
-    ensures { λ r. ⌜ r ≡ version.major (versionIs v) ⌝ }
-{
-    match v {
-        Version::OneZero => 1,
-        Version::TwoZero => 2,
-        Version::ThreeZero => 3,
     }
 }
 
@@ -274,7 +264,7 @@ fn put_header(h: Header, said: &mut [u64; 6])
     let order = s.order;
     let start = h.start;
     *said = [
-        major(version),
+        version.major() as u64,
         order_number(order),
         s.rank as u64,
         s.entries as u64,

@@ -25,7 +25,6 @@ ghost use Rattle.dtype.specs.Dtype.{Dtype};
 ghost use Rattle.dtype.specs.Agrees.{entryAt};
 ghost use Rattle.dtype.specs.Shape as shapes;
 ghost use Rattle.dtype.specs.Flat.{entry-width};
-ghost use Rattle.record.specs.Version.{major};
 ghost use Rattle.prefix.specs.Answer.{versionIs};
 ghost use Rattle.table.specs.EntryType.{typeOf};
 ghost use Rattle.table.specs.Valid.{made};
@@ -125,21 +124,11 @@ fn put_all(
     put_entries(out, p7, table, names)
 }
 
-fn major_of(version: Version) -> u64
-    ensures { λ r. ⌜ r ≡ major (versionIs version) ⌝ }
-{
-    match version {
-        Version::OneZero => 1,
-        Version::TwoZero => 2,
-        Version::ThreeZero => 3,
-    }
-}
-
 fn put_version(out: &mut [u8], at: usize, version: Version) -> usize
     ensures { λ r. ⌜ Emits (versionLine (versionIs version)) (now (out .entry)) at (now (out .exit)) r ⌝ }
 {
     let p = put_bytes(out, at, b"version ");
-    let q = put_count(out, p, major_of(version));
+    let q = put_count(out, p, version.major() as u64);
     put_bytes(out, q, b".0\n")
 }
 

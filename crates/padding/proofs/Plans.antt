@@ -9,35 +9,31 @@ use Rattle.counts.specs.Outcome.{gives, refused, unless}
 use Rattle.record.specs.Version.{Version, one-zero, two-zero, three-zero, lengthWidth, textStart}
 use Rattle.record.specs.Prefix.{most-text}
 use Rattle.record.specs.Padding.{padding-unit, spacesBehind, paddedLength, versionFor}
-use Rattle.padding.specs.declared.Version.{Version as Chosen}
-use Rattle.padding.specs.declared.Version.the-variants.{One, Two, Three}
+use Rattle.prefix.specs.declared.Version.{Version as Chosen}
+use Rattle.prefix.specs.declared.Version.the-variants.{OneZero, TwoZero, ThreeZero}
+use Rattle.prefix.specs.Answer.{versionIs}
 use Rattle.padding.specs.declared.Plan.{Plan}
-use Rattle.padding.specs.Plan.{versionOf, chosen, planWith, planned}
+use Rattle.padding.specs.Plan.{chosen, planWith, planned}
 
 pub spaces-few : (n : ℕ) → spacesBehind n < padding-unit
 unfolding spacesBehind
 spaces-few n = omega arith
 
-pub width-few : (v : Version) → lengthWidth v ≤ 4
-width-few one-zero = omega arith
-width-few two-zero = omega arith
-width-few three-zero = omega arith
-
-pub chosen-back : (v : Version) → versionOf (chosen v) ≡ v
+pub chosen-back : (v : Version) → versionIs (chosen v) ≡ v
 chosen-back one-zero = refl
 chosen-back two-zero = refl
 chosen-back three-zero = refl
 
-pub version-three : (n : ℕ) (ascii : Bool) → ascii ≡ false → Three ≡ chosen (versionFor ascii n)
+pub version-three : (n : ℕ) (ascii : Bool) → ascii ≡ false → ThreeZero ≡ chosen (versionFor ascii n)
 unfolding versionFor
 version-three n ascii e = rw e
 
-pub version-one : (n k : ℕ) (ascii : Bool) → ascii ≡ true → k ≡ spacesBehind (10 + n) → n + (k + 1) ≤ 65535 → One ≡ chosen (versionFor ascii n)
+pub version-one : (n k : ℕ) (ascii : Bool) → ascii ≡ true → k ≡ spacesBehind (10 + n) → n + (k + 1) ≤ 65535 → OneZero ≡ chosen (versionFor ascii n)
 unfolding versionFor
 version-one n k ascii e z l =
     let y : leb (paddedLength one-zero n) 65535 ≡ true = le-leb (paddedLength one-zero n) 65535 (omega arith) in rw (e, y)
 
-pub version-two : (n k : ℕ) (ascii : Bool) → ascii ≡ true → k ≡ spacesBehind (10 + n) → 65535 < n + (k + 1) → Two ≡ chosen (versionFor ascii n)
+pub version-two : (n k : ℕ) (ascii : Bool) → ascii ≡ true → k ≡ spacesBehind (10 + n) → 65535 < n + (k + 1) → TwoZero ≡ chosen (versionFor ascii n)
 unfolding versionFor
 version-two n k ascii e z l =
     let y : leb (paddedLength one-zero n) 65535 ≡ false = lt-leb (paddedLength one-zero n) 65535 (omega arith) in rw (e, y)
@@ -55,9 +51,9 @@ plan-eq : (v v′ : Chosen) (k k′ t t′ w w′ : ℕ) → v ≡ v′ → k �
 plan-eq v v′ k k′ t t′ w w′ a b c d = cc
 
 -- ---- what is chosen, from the version on
-module _ (ascii : Bool) (n : ℕ) (v : Chosen) (w k : ℕ) (a : v ≡ chosen (versionFor ascii n)) (b : w ≡ lengthWidth (versionOf v)) (c : k ≡ spacesBehind (8 + w + n)) where
+module _ (ascii : Bool) (n : ℕ) (v : Chosen) (w k : ℕ) (a : v ≡ chosen (versionFor ascii n)) (b : w ≡ lengthWidth (versionIs v)) (c : k ≡ spacesBehind (8 + w + n)) where
   width-is : w ≡ lengthWidth (versionFor ascii n)
-  width-is = b ∙ ap (λ (u : Chosen). lengthWidth (versionOf u)) a ∙ ap lengthWidth (chosen-back (versionFor ascii n))
+  width-is = b ∙ ap (λ (u : Chosen). lengthWidth (versionIs u)) a ∙ ap lengthWidth (chosen-back (versionFor ascii n))
 
   spaces-are : k ≡ spacesBehind (textStart (versionFor ascii n) + n)
   spaces-are = c ∙ ap (λ (m : ℕ). spacesBehind (8 + m + n)) width-is

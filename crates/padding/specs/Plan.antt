@@ -8,21 +8,16 @@ use Rattle.counts.specs.Outcome.{Outcome, gives, refused, unless}
 use Rattle.record.specs.Version.{Version, one-zero, two-zero, three-zero, textStart}
 use Rattle.record.specs.Prefix.{most-text}
 use Rattle.record.specs.Padding.{spacesBehind, paddedLength, versionFor}
-use Rattle.padding.specs.declared.Version.{Version as Chosen}
-use Rattle.padding.specs.declared.Version.the-variants.{One, Two, Three}
+use Rattle.prefix.specs.declared.Version.{Version as Chosen}
+use Rattle.prefix.specs.declared.Version.the-variants.{OneZero, TwoZero, ThreeZero}
 use Rattle.padding.specs.declared.Plan.{Plan}
 use Rattle.padding.specs.declared.Planned.{Planned}
 
--- a version as the code names it, and back
-abbrev pub versionOf : Chosen → Version
-versionOf One = one-zero
-versionOf Two = two-zero
-versionOf Three = three-zero
-
+-- a version as the code names it; back is `versionIs` of crate prefix
 abbrev pub chosen : Version → Chosen
-chosen one-zero = One
-chosen two-zero = Two
-chosen three-zero = Three
+chosen one-zero = OneZero
+chosen two-zero = TwoZero
+chosen three-zero = ThreeZero
 
 -- how a text of n bytes is written as a version
 abbrev pub planWith : Version → ℕ → Plan

@@ -1,24 +1,18 @@
 // How a header's text is padded, and which version it is written as (document 01, "Header bytes out"). No public function here has a `requires`. What each answer
 // stands for is in specs/Plan.antt.
+use prefix::MOST_TEXT;
+use prefix::Version;
 ghost use mathlib.Core.Path.{_≡_};
 ghost use Prim.Native.Nat.{_≤_};
-ghost use Rattle.record.specs.Version.{major as majorOf, lengthWidth};
 ghost use Rattle.record.specs.Prefix.{most-text};
 ghost use Rattle.record.specs.Padding.{spacesBehind, versionFor};
-ghost use Rattle.padding.specs.Plan.{versionOf, chosen, planned, answer};
+ghost use Rattle.padding.specs.Plan.{chosen, planned, answer};
 
 // What prefix and text are a multiple of.
 const PADDING_UNIT: usize = 16;
 
 // The longest text.
-const MOST_TEXT: usize = 131072;
-
-// (1,0), (2,0), (3,0)
-pub enum Version {
-    One,
-    Two,
-    Three,
-}
+const LONGEST: usize = MOST_TEXT as usize;
 
 // A header's version, the spaces behind its text, the length of the padded text, and that of the whole header.
 pub struct Plan {
@@ -34,29 +28,6 @@ pub enum Planned {
     Long,
 }
 
-impl Version {
-    pub fn major(self) -> u8
-        ensures { λ r. ⌜ r ≡ majorOf (versionOf self) ⌝ }
-    {
-        match self {
-            Version::One => 1,
-            Version::Two => 2,
-            Version::Three => 3,
-        }
-    }
-
-    // How many bytes the text's length takes.
-    pub fn length_width(self) -> usize
-        ensures { λ r. ⌜ r ≡ lengthWidth (versionOf self) ⌝ }
-    {
-        match self {
-            Version::One => 2,
-            Version::Two => 4,
-            Version::Three => 4,
-        }
-    }
-}
-
 // The fewest spaces behind n bytes of prefix and text, so that with one LF they are a multiple.
 fn spaces_behind(n: usize) -> usize
     ensures { λ r. ⌜ r ≡ spacesBehind n ⌝ }
@@ -70,12 +41,12 @@ fn version_for(ascii: bool, n: usize) -> Version
     ensures { λ r. ⌜ r ≡ chosen (versionFor ascii n) ⌝ }
 {
     if !ascii {
-        return Version::Three;
+        return Version::ThreeZero;
     }
     if n + (spaces_behind(10 + n) + 1) <= 65535 {
-        Version::One
+        Version::OneZero
     } else {
-        Version::Two
+        Version::TwoZero
     }
 }
 
@@ -83,14 +54,14 @@ fn version_for(ascii: bool, n: usize) -> Version
 pub fn plan_for(ascii: bool, n: usize) -> Planned
     ensures { λ r. ⌜ answer r ≡ planned ascii n ⌝ }
 {
-    if MOST_TEXT < n {
+    if LONGEST < n {
         return Planned::Long;
     }
     let version = version_for(ascii, n);
     let start = 8 + version.length_width();
     let spaces = spaces_behind(start + n);
     let text = n + (spaces + 1);
-    if MOST_TEXT < text {
+    if LONGEST < text {
         return Planned::Long;
     }
     Planned::Fits(Plan {

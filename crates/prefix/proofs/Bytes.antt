@@ -89,6 +89,11 @@ little-order : (bs : List ℕ) → numbers.inOrder Little bs ≡ little bs
 unfolding numbers.inOrder
 little-order bs = little-same bs
 
+pub width-few : (v : Version) → lengthWidth v ≤ 4
+width-few one-zero = omega arith
+width-few two-zero = omega arith
+width-few three-zero = omega arith
+
 width-of : (v : Version) → textStart v - 8 ≡ lengthWidth v
 width-of one-zero = refl
 width-of two-zero = refl

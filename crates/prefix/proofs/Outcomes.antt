@@ -42,6 +42,12 @@ same-back (PrefixRead.Refused r) = ap PrefixRead.Refused (refusal-back r)
 pub read-one : (file : List ℕ) → OneOutcome {A = PrefixRead} (λ r. answer r ≡ before.prefix file)
 read-one file = by-inverse answer back same-back (before.prefix file)
 
+pub major-one : (v : Version) → OneOutcome {A = ℕ} (λ r. r ≡ version.major (versionIs v))
+major-one v = by-equation (version.major (versionIs v))
+
+pub length-width-one : (v : Version) → OneOutcome {A = ℕ} (λ r. r ≡ version.lengthWidth (versionIs v))
+length-width-one v = by-equation (version.lengthWidth (versionIs v))
+
 pub text-start-one : (v : Version) → OneOutcome {A = ℕ} (λ r. r ≡ version.textStart (versionIs v))
 text-start-one v = by-equation (version.textStart (versionIs v))
 

@@ -7,17 +7,41 @@ ghost use mathlib.Core.Path.{_≡_};
 ghost use Prim.Native.Nat.{_≤_};
 ghost use lib.ListN.{length, take};
 ghost use Rattle.counts.specs.Same.{same};
-ghost use Rattle.record.specs.Version.{textStart, versionOf};
+ghost use Rattle.record.specs.Version.{major, lengthWidth, textStart, versionOf};
 ghost use Rattle.record.specs.Prefix.{magic, lengthRead, prefix};
 ghost use Rattle.prefix.specs.Answer.{versionIs, versionAnswer, answer};
 
 // "text over 131,072 bytes" is refused
 pub const MOST_TEXT: u64 = 131072;
 
+// (1,0), (2,0), (3,0)
 pub enum Version {
     OneZero,
     TwoZero,
     ThreeZero,
+}
+
+impl Version {
+    pub fn major(self) -> u8
+        ensures { λ r. ⌜ r ≡ major (versionIs self) ⌝ }
+    {
+        match self {
+            Version::OneZero => 1,
+            Version::TwoZero => 2,
+            Version::ThreeZero => 3,
+        }
+    }
+
+    // How many bytes the text's length takes.
+    pub fn length_width(self) -> usize
+        ensures { λ r. ⌜ r ≡ lengthWidth (versionIs self) ⌝ }
+    {
+        match self {
+            Version::OneZero => 2,
+            Version::TwoZero => 4,
+            Version::ThreeZero => 4,
+        }
+    }
 }
 
 // The version, and how long the text is said to be.
@@ -57,11 +81,7 @@ pub fn read(file: &[u8]) -> PrefixRead
 pub fn text_start(version: Version) -> usize
     ensures { λ r. ⌜ r ≡ textStart (versionIs version) ⌝ }
 {
-    match version {
-        Version::OneZero => 10,
-        Version::TwoZero => 12,
-        Version::ThreeZero => 12,
-    }
+    8 + version.length_width()
 }
 
 fn is_magic(file: &[u8]) -> bool

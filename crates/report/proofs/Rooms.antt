@@ -1,21 +1,17 @@
 -- What a reading that answers a header left in the rooms: the record of the file, each part at its room's front. Assumes nothing.
-use Prim.Native.Nat.{ℕ, _*_, _/_}
+use Prim.Native.Nat.{ℕ, _*_}
 use native.Mathlib.Omega.{arith}
 use mathlib.Core.Path.{_≡_, refl, ap}
 use mathlib.Core.List.{List, []}
-use mathlib.Core.Bool.{false, _||_}
-use lib.Dec.{ltb}
 use lib.ListN.{length, take, drop}
 use lib.Seq.{take-append-seam}
-use borrow.Author.Tests.{ltb-false, le-ltb}
 use Rattle.counts.specs.Outcome.{Outcome, gives, refused, each}
 use Rattle.dtype.specs.Flat.{entry-width}
 use Rattle.dtype.specs.Entries.{entriesOf}
 use Rattle.dtype.specs.Names.{nameBytes}
 use Rattle.dtype.specs.Record.{Record, table, names}
 use Rattle.dtype.proofs.Flat.{flat-length, names-length}
-use Rattle.dtype.proofs.Seen.{or-left, or-right}
-use Rattle.record.specs.Rooms.{needs, tooSmall, Lent, roomsOf, atFront, holding}
+use Rattle.record.specs.Rooms.{Lent, atFront, holding}
 use Rattle.record.specs.Header as header
 use Rattle.judge.specs.Judged.{reading}
 use Rattle.fill.specs.declared.Said.{Said}
@@ -23,7 +19,7 @@ use Rattle.header.specs.declared.Header.{Header}
 use Rattle.header.specs.declared.HeaderRead.{HeaderRead}
 use Rattle.header.specs.Answer.{saidOf, Told, told, headerIs, Reads}
 use Rattle.table.specs.Checked.{checkedRecord}
-use Rattle.report.specs.Rooms.{tableIn, namesIn, shapeIn, Stands, Roomy}
+use Rattle.report.specs.Rooms.{tableIn, namesIn, shapeIn, Stands}
 
 -- a record's parts stand in the rooms that hold it
 pub table-whole : (r : Record) → entry-width * entriesOf (r .dtype) ≡ length (table (r .dtype))
@@ -78,25 +74,3 @@ read-found file l h l′ x = go (header.headerInto reading file l) refl (x .answ
           stands = stands-by (k .says) l l′ (h .said) (ap (λ (t : Told). t .said) same) b;
         }
     go (refused n) e a b = absurd (let z : _≡_ {A = ℕ} 0 1 = cc in omega arith)
-
--- ---- 23
-pub roomy-fits : (r : Record) (l : Lent) → Roomy (table (r .dtype)) (names (r .dtype)) (r .shape) l → tooSmall (roomsOf l) (needs r) ≡ false
-roomy-fits r l h =
-    let t = le-ltb (length (l .table) / entry-width) (entriesOf (r .dtype)) (omega (arith, h .table-fits, table-whole r)) in
-    let n = le-ltb (length (l .names)) (nameBytes (r .dtype)) (omega (arith, h .names-fit, names-whole r)) in
-    let s = le-ltb (length (l .shape)) (length (r .shape)) (h .shape-fits) in
-    rw (t, n, s)
-
-pub fits-roomy : (r : Record) (l : Lent) → tooSmall (roomsOf l) (needs r) ≡ false → Roomy (table (r .dtype)) (names (r .dtype)) (r .shape) l
-fits-roomy r l h =
-    let few = ltb (length (l .table) / entry-width) (entriesOf (r .dtype)) in
-    let short = ltb (length (l .names)) (nameBytes (r .dtype)) in
-    let flat = ltb (length (l .shape)) (length (r .shape)) in
-    let both = or-left (few || short) flat h in
-    let entries = ltb-false (length (l .table) / entry-width) (entriesOf (r .dtype)) (or-left few short both) in
-    let bytes = ltb-false (length (l .names)) (nameBytes (r .dtype)) (or-right few short both) in
-    record {
-      table-fits = omega (arith, entries, table-whole r);
-      names-fit = omega (arith, bytes, names-whole r);
-      shape-fits = ltb-false (length (l .shape)) (length (r .shape)) (or-right (few || short) flat h);
-    }

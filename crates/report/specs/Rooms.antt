@@ -1,6 +1,6 @@
 -- What a caller has of a record once a header was read: the answer, and the fronts of the three lent rooms, as long as the answer says. Document 01, "The record":
 -- "records are equal exactly when tables, names, shapes and orders are." Definitions only. Assumes nothing.
-use Prim.Native.Nat.{ℕ, _*_, _≤_}
+use Prim.Native.Nat.{ℕ, _*_}
 use mathlib.Core.Path.{_≡_}
 use mathlib.Core.List.{List}
 use lib.ListN.{length, take}
@@ -31,12 +31,6 @@ pub record Stands (t ns s : List ℕ) (o : Order) (said : Said) (l : Lent) : Typ
   pub entries-are : entry-width * said .entries ≡ length t
   pub name-bytes-are : said .names ≡ length ns
   pub rank-is : said .rank ≡ length s
-
--- the rooms are long enough for them
-pub record Roomy (t ns s : List ℕ) (l : Lent) : Type 0 where
-  pub table-fits : length t ≤ length (l .table)
-  pub names-fit : length ns ≤ length (l .names)
-  pub shape-fits : length s ≤ length (l .shape)
 
 -- the fronts are a record's own parts, and the check accepts them
 pub record Holds (r : Record) (said : Said) (l : Lent) : Type 0 where

@@ -36,7 +36,8 @@ use Rattle.print.proofs.Nesting.{shape-within}
 use Rattle.padding.specs.declared.Plan.{Plan}
 use Rattle.write.specs.declared.Written.{Written}
 use Rattle.write.specs.Answer.{answer}
-use Rattle.padding.specs.Plan.{versionOf, planned}
+use Rattle.padding.specs.Plan.{planned}
+use Rattle.prefix.specs.Answer.{versionIs}
 use Rattle.padding.proofs.Plans.{chosen-back, told-long, told-fits}
 use Rattle.write.specs.Writes.{headerWritten, headerPlaced, Writes, WritesRecord}
 use Rattle.write.proofs.Ascii.{text-ascii}
@@ -80,7 +81,7 @@ module _ (r : Record) (room : List ℕ) (limits : limited r ≡ gives r) where
 
 -- ---- the plan is the record's
 record Fits (x : Record) (p : Plan) : Type 0 where
-  version-is : versionOf (p .version) ≡ version x
+  version-is : versionIs (p .version) ≡ version x
   spaces-is : p .spaces ≡ spacesBehind (textStart (version x) + length (bareText x))
   text-is : p .text ≡ textLength x
   whole-is : p .whole ≡ headerLength x
@@ -90,19 +91,19 @@ unfolding version textLength headerLength
 fits-by x p a n e z pl =
     let y = rw (e, z) at (told-fits a n p pl .0) in
     record {
-      version-is = ap (λ (q : Plan). versionOf (q .version)) y ∙ chosen-back (versionFor (isAscii (bareText x)) (length (bareText x)));
+      version-is = ap (λ (q : Plan). versionIs (q .version)) y ∙ chosen-back (versionFor (isAscii (bareText x)) (length (bareText x)));
       spaces-is = ap (λ (q : Plan). q .spaces) y;
       text-is = ap (λ (q : Plan). q .text) y;
       whole-is = ap (λ (q : Plan). q .whole) y;
     }
 
 -- the bytes that are written are the record's own
-bytes-are : (x : Record) (p : Plan) → Fits x p → fileBy (versionOf (p .version)) (p .text) (print (headerLayout x) (spaces (p .spaces) (10 ∷ []))) ≡ fileOf x
+bytes-are : (x : Record) (p : Plan) → Fits x p → fileBy (versionIs (p .version)) (p .text) (print (headerLayout x) (spaces (p .spaces) (10 ∷ []))) ≡ fileOf x
 unfolding fileOf text
 bytes-are x p f = rw (f .version-is, f .text-is, f .spaces-is)
 
 placed-whole : (x : Record) (p : Plan) → Fits x p → (room : List ℕ) → headerLength x ≤ length room → (out : List ℕ) (q : ℕ)
-    → Emits (λ z. fileBy (versionOf (p .version)) (p .text) (print (headerLayout x) (spaces (p .spaces) (10 ∷ z)))) room 0 out q
+    → Emits (λ z. fileBy (versionIs (p .version)) (p .text) (print (headerLayout x) (spaces (p .spaces) (10 ∷ z)))) room 0 out q
     → out ≡ fileOf x ++ drop (headerLength x) room
 placed-whole x p f room l out q h =
     let e = bytes-are x p f in
@@ -170,7 +171,7 @@ module _ (t ns s : List ℕ) (o : Order) (d : Dtype) (v : Valid t ns s o d) wher
           record-28 l = writing-28 (made d s o) room limits-are near-is short (omega (arith, plan-fits .whole-is))
 
           pub record-written : p .whole ≤ length room → (out : List ℕ) (q : ℕ)
-              → ((d : Dtype) → Stands t ns 0 0 d → Emits (λ z. fileBy (versionOf (p .version)) (p .text) (print (headerLayout (made d s o)) (spaces (p .spaces) (10 ∷ z)))) room 0 out q)
+              → ((d : Dtype) → Stands t ns 0 0 d → Emits (λ z. fileBy (versionIs (p .version)) (p .text) (print (headerLayout (made d s o)) (spaces (p .spaces) (10 ∷ z)))) room 0 out q)
               → WritesRecord (made d s o) room (Written.Count (p .whole)) out
           record-written l out q h =
               let room-fits : headerLength (made d s o) ≤ length room = omega (arith, plan-fits .whole-is) in

@@ -17,8 +17,8 @@ use Rattle.record.specs.Prefix.{magic, littleBytes}
 use Rattle.record.specs.Layout.{shapeLayout, descrLayout, isFortran, headerLayout}
 use Rattle.record.specs.File.{fileBy}
 use Rattle.table.specs.Valid.{made}
-use Rattle.padding.specs.declared.Version.{Version as Chosen}
-use Rattle.padding.specs.Plan.{versionOf}
+use Rattle.prefix.specs.declared.Version.{Version as Chosen}
+use Rattle.prefix.specs.Answer.{versionIs}
 
 -- ---- a piece f of which g is left to write
 pub record Still (f g : List ℕ → List ℕ) (old : List ℕ) (at : ℕ) (out : List ℕ) (p : ℕ) : Type 0 where
@@ -102,9 +102,9 @@ module _ (d : Dtype) (s : List ℕ) (o : Order) (old : List ℕ) (at : ℕ) (m�
 
 -- ---- the prefix
 pub prefix-emits : (v : Chosen) (n : ℕ) (old : List ℕ) (at : ℕ) (m₁ : List ℕ) (p₁ : ℕ) (m₂ : List ℕ) (p₂ : ℕ) (m₃ : List ℕ) (p₃ : ℕ) (out : List ℕ) (p a w : ℕ)
-    → a ≡ major (versionOf v) → w ≡ lengthWidth (versionOf v) → Emits (λ x. magic ++ x) old at m₁ p₁ → Emits (λ x. a ∷ x) m₁ p₁ m₂ p₂ → Emits (λ x. 0 ∷ x) m₂ p₂ m₃ p₃
-    → Emits (littleBytes w n) m₃ p₃ out p → Emits (fileBy (versionOf v) n) old at out p
+    → a ≡ major (versionIs v) → w ≡ lengthWidth (versionIs v) → Emits (λ x. magic ++ x) old at m₁ p₁ → Emits (λ x. a ∷ x) m₁ p₁ m₂ p₂ → Emits (λ x. 0 ∷ x) m₂ p₂ m₃ p₃
+    → Emits (littleBytes w n) m₃ p₃ out p → Emits (fileBy (versionIs v) n) old at out p
 prefix-emits v n old at m₁ p₁ m₂ p₂ m₃ p₃ out p a w y z b c e f =
-    emits-same (λ x. magic ++ a ∷ 0 ∷ littleBytes w n x) (fileBy (versionOf v) n) old at out p (λ x. rw (y, z))
+    emits-same (λ x. magic ++ a ∷ 0 ∷ littleBytes w n x) (fileBy (versionIs v) n) old at out p (λ x. rw (y, z))
     (emits-then (λ x. magic ++ a ∷ 0 ∷ x) (littleBytes w n) old at m₃ p₃ out p
     (emits-then (λ x. magic ++ a ∷ x) (λ x. 0 ∷ x) old at m₂ p₂ m₃ p₃ (emits-then (λ x. magic ++ x) (λ x. a ∷ x) old at m₁ p₁ m₂ p₂ b c) e) f)

@@ -4,7 +4,7 @@
 use dtype::Order;
 use padding::Plan;
 use padding::Planned;
-use padding::Version;
+use prefix::Version;
 use table::Checked;
 ghost use mathlib.Core.Path.{_≡_};
 ghost use mathlib.Core.List.{_∷_};
@@ -15,7 +15,7 @@ ghost use Rattle.record.specs.Prefix.{littleBytes};
 ghost use Rattle.record.specs.Layout.{isFortran, headerLayout};
 ghost use Rattle.record.specs.Padding.{isAscii};
 ghost use Rattle.record.specs.File.{fileBy};
-ghost use Rattle.padding.specs.Plan.{versionOf};
+ghost use Rattle.prefix.specs.Answer.{versionIs};
 ghost use Rattle.print.specs.Walk.{Stands};
 ghost use Rattle.table.specs.Valid.{made, Valid};
 ghost use Rattle.write.specs.Writes.{Writes, WritesRecord};
@@ -75,7 +75,7 @@ fn put_spaces(out: &mut [u8], at: usize, n: usize) -> usize
 
 // What stands before a text of n bytes.
 fn put_prefix(out: &mut [u8], at: usize, version: Version, n: usize) -> usize
-    ensures { λ r. ⌜ Emits (fileBy (versionOf version) n) (now (out .entry)) at (now (out .exit)) r ⌝ }
+    ensures { λ r. ⌜ Emits (fileBy (versionIs version) n) (now (out .entry)) at (now (out .exit)) r ⌝ }
 {
     let behind_magic = emit::put_bytes(out, at, b"\x93NUMPY");
     let behind_major = emit::put(out, behind_magic, version.major());
@@ -124,7 +124,7 @@ fn put_header(
     out: &mut [u8],
 ) -> usize
     requires { ⌜ ((d : Dtype) × Stands (now table) (now names) 0 0 d) ⌝ }
-    ensures { λ r. ⌜ ((d : Dtype) → Stands (now (table .entry)) (now (names .entry)) 0 0 d → Emits (λ x. fileBy (versionOf (plan .version)) (plan .text) (print (headerLayout (made d (now (shape .entry)) order)) (spaces (plan .spaces) (10 ∷ x)))) (now (out .entry)) 0 (now (out .exit)) r) ⌝ }
+    ensures { λ r. ⌜ ((d : Dtype) → Stands (now (table .entry)) (now (names .entry)) 0 0 d → Emits (λ x. fileBy (versionIs (plan .version)) (plan .text) (print (headerLayout (made d (now (shape .entry)) order)) (spaces (plan .spaces) (10 ∷ x)))) (now (out .entry)) 0 (now (out .exit)) r) ⌝ }
 {
     let version = plan.version;
     let behind_prefix = put_prefix(out, 0, version, plan.text);

@@ -10,8 +10,11 @@ slice-aggregate-put-bytes c = search needs
 put-bytes-requires : tie.Need-put-bytes-requires
 put-bytes-requires c κs = search needs
 
-major-of-requires : tie.Need-major-of-requires
-major-of-requires c κs = search needs
+major-requires : tie.Need-major-requires
+major-requires c κs = search needs
+
+cast-put-count : tie.Need-cast-put-count
+cast-put-count c = search needs
 
 put-count-requires : tie.Need-put-count-requires
 put-count-requires c κs = search needs
@@ -26,7 +29,7 @@ same-length : tie.Need-same-length
 same-length c = search needs
 
 returns : tie.Need-returns
-returns c = three _ _ _ _ _ _ _ _ _ _ _ (c .before .before .before .before .before .before .before .before .before .before .before .before .put-bytes .ensures) (number-known _ _ _ _ _ _ (c .before .before .before .before .before .before .before .before .major-of .ensures) (c .before .before .before .before .before .before .before .put-count .ensures)) (c .before .before .put-bytes2 .ensures)
+returns c = three _ _ _ _ _ _ _ _ _ _ _ (c .before .before .before .before .before .before .before .before .before .before .before .before .put-bytes .ensures) (number-known _ _ _ _ _ _ (c .before .before .before .before .before .before .before .before .major .ensures) (c .before .before .before .before .before .before .before .put-count .ensures)) (c .before .before .put-bytes2 .ensures)
 
 pub put-version-spec : {M : Type 1} → statement M
 put-version-spec =
@@ -34,7 +37,8 @@ put-version-spec =
     (tie.spec
     slice-aggregate-put-bytes
     put-bytes-requires
-    major-of-requires
+    major-requires
+    cast-put-count
     put-count-requires
     slice-aggregate-put-bytes-2
     put-bytes-requires-2

@@ -1,8 +1,9 @@
 -- `padding::plan_for` meets its contract: no text within the limit makes a sum wrap. Assumes nothing.
 use Prim.Native.Nat.{_+_}
 use native.Mathlib.Omega.{arith}
-use Rattle.padding.specs.Plan.{versionOf}
-use Rattle.padding.proofs.Plans.{spaces-few, width-few, planned-4-bare, planned-long, planned-is}
+use Rattle.prefix.specs.Answer.{versionIs}
+use Rattle.prefix.proofs.Bytes.{width-few}
+use Rattle.padding.proofs.Plans.{spaces-few, planned-4-bare, planned-long, planned-is}
 use borrow.Author.Needs.{needs}
 use Rattle.padding.proofs.plan_for.Statement.{statement}
 use Rattle.padding.proofs.plan_for.Tie as tie
@@ -17,10 +18,10 @@ length-width-requires : tie.Need-length-width-requires
 length-width-requires c κs = search needs
 
 add-start : tie.Need-add-start
-add-start c = omega (arith, c .length-width .ensures, width-few (versionOf (c .before .version-for .result)))
+add-start c = omega (arith, c .length-width .ensures, width-few (versionIs (c .before .version-for .result)))
 
 add-spaces-behind : tie.Need-add-spaces-behind
-add-spaces-behind c = omega (arith, c .length-width .ensures, width-few (versionOf (c .before .version-for .result)))
+add-spaces-behind c = omega (arith, c .length-width .ensures, width-few (versionIs (c .before .version-for .result)))
 
 spaces-behind-requires : tie.Need-spaces-behind-requires
 spaces-behind-requires c κs = search needs
@@ -35,7 +36,7 @@ returns-2 : tie.Need-returns-2
 returns-2 c = planned-long _ _ (c .before .before .before .version-for .result) _ _ (c .before .before .before .version-for .ensures) (c .before .before .length-width .ensures) (c .before .spaces-behind .ensures) (c .if2 .taken)
 
 add-t8 : tie.Need-add-t8
-add-t8 c = omega (arith, c .before .before .length-width .ensures, width-few (versionOf (c .before .before .before .version-for .result)))
+add-t8 c = omega (arith, c .before .before .length-width .ensures, width-few (versionIs (c .before .before .before .version-for .result)))
 
 returns-3 : tie.Need-returns-3
 returns-3 c = planned-is _ _ (c .before .before .before .version-for .result) _ _ (c .before .before .before .version-for .ensures) (c .before .before .length-width .ensures) (c .before .spaces-behind .ensures) (c .if2 .left)
