@@ -1,36 +1,56 @@
--- No second outcome satisfies a statement of this crate's public functions, where a dtype stands as they ask. An outcome of `put_descr` is its answer, and what
--- the room then holds; a place is a usize. Assumes nothing.
+-- No second outcome satisfies the statement of `put_text`: an outcome is its answer, and what the room then holds. A place is a usize. Assumes nothing.
 use Prim.Native.Nat.{ℕ, _^_, _<_}
-use mathlib.Core.Path.{_≡_, sym, ap, _∙_}
-use mathlib.Core.Bool.{Bool}
+use mathlib.Core.Path.{_≡_, refl, ap}
+use mathlib.Core.Bool.{cond}
 use mathlib.Core.List.{List}
+use lib.Dec.{eqb}
+use Rattle.counts.specs.Outcome.{Outcome, gives, refused}
 use Rattle.counts.specs.OneOutcome.{OneOutcome}
-use Rattle.counts.proofs.OneOutcome.{by-equation}
+use Rattle.counts.proofs.OneOutcome.{by-equation, by-inverse, beside}
 use Rattle.emit.proofs.Outcomes.{emits-one}
-use Rattle.grammar.specs.Print.{print, valueOf}
-use Rattle.dtype.specs.Dtype.{Dtype}
-use Rattle.dtype.specs.Entries.{entriesOf}
-use Rattle.dtype.specs.Names.{nameBytes}
-use Rattle.record.specs.Layout.{descrLayout}
-use Rattle.record.specs.Within.{within}
-use Rattle.print.specs.declared.Spot.{Spot}
-use Rattle.print.specs.Walk.{Listed, Stands, Walked}
+use Rattle.grammar.specs.Print.{print}
+use Rattle.dtype.specs.declared.Order.{Order}
+use Rattle.dtype.specs.Record.{Record}
+use Rattle.record.specs.Layout.{headerLayout}
+use Rattle.print.specs.declared.Printed.{Printed}
+use Rattle.print.specs.Prints.{printable, answer, Prints}
 
-spot-eq : (x y : Spot) (out out′ : List ℕ) → x .entry ≡ y .entry → x .byte ≡ y .byte → _≡_ {A = List ℕ × ℕ} (out, x .at) (out′, y .at) → _≡_ {A = Spot × List ℕ} (x, out) (y, out′)
-spot-eq x y out out′ e b p = parts (x .entry) (x .byte) (x .at) out (y .entry) (y .byte) (y .at) out′ e b (ap (λ (r : List ℕ × ℕ). r .1) p) (ap (λ (r : List ℕ × ℕ). r .0) p)
+back : Outcome ℕ → Printed
+back (gives p) = Printed.Behind p
+back (refused n) =
+    cond (eqb n 27) Printed.NoReading
+    (cond (eqb n 13) Printed.Dimensions
+    (cond (eqb n 20) Printed.Entries (cond (eqb n 21) Printed.Size (cond (eqb n 22) Printed.Shape Printed.Deep))))
+
+back-same : (r : Printed) → back (answer r) ≡ r
+unfolding back
+back-same (Printed.Behind p) = refl
+back-same Printed.NoReading = refl
+back-same Printed.Dimensions = refl
+back-same Printed.Entries = refl
+back-same Printed.Size = refl
+back-same Printed.Shape = refl
+back-same Printed.Deep = refl
+
+-- a place in an answer is a usize
+abbrev pub Small : Printed → Type 0
+Small r = (p : ℕ) → r ≡ Printed.Behind p → p < 2 ^ 64
+
+behind-eq : (x y : Printed) (out out′ : List ℕ) (p q : ℕ) → x ≡ Printed.Behind p → y ≡ Printed.Behind q → _≡_ {A = List ℕ × ℕ} (out, p) (out′, q) → _≡_ {A = Printed × List ℕ} (x, out) (y, out′)
+behind-eq x y out out′ p q e f g = parts (ap (λ (r : List ℕ × ℕ). r .1) g) (ap (λ (r : List ℕ × ℕ). r .0) g)
   where
-    parts : (e b a : ℕ) (out : List ℕ) (e′ b′ a′ : ℕ) (out′ : List ℕ) → e ≡ e′ → b ≡ b′ → a ≡ a′ → out ≡ out′
-        → _≡_ {A = Spot × List ℕ} (record { entry = e; byte = b; at = a }, out) (record { entry = e′; byte = b′; at = a′ }, out′)
-    parts e b a out e′ b′ a′ out′ p q r s = cc
+    parts : p ≡ q → out ≡ out′ → _≡_ {A = Printed × List ℕ} (x, out) (y, out′)
+    parts a b = cc
 
-pub put-descr-one : (t ns old : List ℕ) (e b at : ℕ) → (d : Dtype) × Stands t ns e b d
-    → OneOutcome {A = Spot × List ℕ} (λ o. ((d : Dtype) → Stands t ns e b d → Walked (print (descrLayout d)) (entriesOf d) (nameBytes d) old e b at (o .1) (o .0)) × (o .0 .at < 2 ^ 64))
-put-descr-one t ns old e b at (d, s) x y p q =
-    let v = p .0 d s in
-    let w = q .0 d s in
-    spot-eq (x .0) (y .0) (x .1) (y .1) (v .next ∙ sym (w .next)) (v .next-name ∙ sym (w .next-name))
-    (emits-one (print (descrLayout d)) old at (x .1, x .0 .at) (y .1, y .0 .at) (v .emits, p .1) (w .emits, q .1))
-
-pub within-one : (t : List ℕ) (e k : ℕ) → (d : Dtype) × Listed t e d
-    → OneOutcome {A = Bool} (λ r. (d : Dtype) → Listed t e d → r ≡ within (valueOf (descrLayout d)) k)
-within-one t e k (d, l) x y p q = by-equation (within (valueOf (descrLayout d)) k) x y (p d l) (q d l)
+pub put-text-one : (t ns s : List ℕ) (o : Order) (old : List ℕ) (at : ℕ)
+    → OneOutcome {A = Printed × List ℕ} (λ r. Prints (printable t ns s o) old at (r .0) (r .1) × Small (r .0))
+put-text-one t ns s o old at x y (p, small) (q, small′) = go (printable t ns s o) refl
+  where
+    go : (c : Outcome Record) → printable t ns s o ≡ c → x ≡ y
+    go (gives r) e =
+        let v = p .printed r e in
+        let w = q .printed r e in
+        behind-eq (x .0) (y .0) (x .1) (y .1) (v .0) (w .0) (v .1) (w .1)
+        (emits-one (print (headerLayout r)) old at (x .1, v .0) (y .1, w .0) (v .2, small (v .0) (v .1)) (w .2, small′ (w .0) (w .1)))
+    go (refused n) e =
+        beside (by-inverse answer back back-same (refused n)) (by-equation old) x y (p .unprinted n e) (q .unprinted n e)

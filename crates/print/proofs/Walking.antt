@@ -26,7 +26,7 @@ use Rattle.record.specs.Layout.{dimensionRow, levelsOf, fieldLayout, descrLayou
 use Rattle.table.specs.Checked.{untyped}
 use Rattle.table.specs.EntryType.{typeOf}
 use Rattle.table.proofs.Types.{type-of-written}
-use Rattle.print.specs.declared.Spot.{Spot}
+use Rattle.print.specs.declared.inner.Spot.{Spot}
 use Rattle.print.specs.Walk.{subText, Listed, innermostOf, Innermost, Stands, StandsIn, Walked}
 use Rattle.print.proofs.Listing.{listed-entry, listed-room, listed-fields, listed-first, listed-later, innermost-descr, innermost-names, innermost-bytes, innermost-typed, innermost-entries, under-record}
 

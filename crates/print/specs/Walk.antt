@@ -15,7 +15,7 @@ use Rattle.dtype.specs.Names.{namesOf, namesIn}
 use Rattle.dtype.specs.Flat.{entry-width, flat, flats}
 use Rattle.record.specs.Layout.{shapeLayout}
 use Rattle.table.specs.Checked.{untyped}
-use Rattle.print.specs.declared.Spot.{Spot}
+use Rattle.print.specs.declared.inner.Spot.{Spot}
 
 -- a field's sub-shape behind its type, in front of r: nothing where it has none
 abbrev pub subText : (levels : List ℕ) → List ℕ → List ℕ

@@ -1,9 +1,10 @@
-// The walk over a table: `put_descr` and `put_fields` call each other in a cycle, and so do `within` and `fields_within`, once for each record; array levels
-// are passed in a loop, `innermost`. Entries and names are met in their order. What stands between the names and types of the text is written by small
-// functions, `open_field`, `close_field` and `put_type`.
-use super::Spot;
+// The text of a record whose table and names the check of crate table has accepted. The walk over a table: `put_descr` and `put_fields` call each other in a
+// cycle, and so do `within` and `fields_within`, once for each record; array levels are passed in a loop, `innermost`. Entries and names are met in their
+// order. What stands between the names and types of the text is written by small functions, `open_field`, `close_field` and `put_type`.
+use super::Printed;
 use dtype::ARRAY;
 use dtype::Entry;
+use dtype::Order;
 use dtype::PLAIN;
 use table::EntryType;
 ghost use mathlib.Core.Path.{_≡_};
@@ -12,16 +13,25 @@ ghost use mathlib.Core.List.{[], _∷_};
 ghost use lib.Dec.{eqb};
 ghost use Rattle.counts.specs.Outcome.{gives};
 ghost use Rattle.emit.specs.Emits.{Emits};
-ghost use Rattle.grammar.specs.Print.{quote, print, printRow, valueOf, valuesOf};
+ghost use Rattle.grammar.specs.Print.{quote, print, printRow, wordText, valueOf, valuesOf};
 ghost use Rattle.type_str.specs.Text.{typeText};
 ghost use Rattle.type_str.specs.declared.TypeStr.{TypeStr};
 ghost use Rattle.dtype.specs.Dtype.{Dtype, Fields};
 ghost use Rattle.dtype.specs.Entries.{entriesOf, entriesIn, fieldCount};
 ghost use Rattle.dtype.specs.Names.{nameBytes, nameBytesIn};
-ghost use Rattle.record.specs.Layout.{dimensionRow, levelsOf, descrLayout, fieldRow};
+ghost use Rattle.record.specs.Layout.{dimensionRow, levelsOf, descrLayout, fieldRow, isFortran, headerLayout};
 ghost use Rattle.record.specs.Within.{within as isWithin, allWithin};
 ghost use Rattle.table.specs.EntryType.{typeOf};
+ghost use Rattle.table.specs.Valid.{made, Valid};
 ghost use Rattle.print.specs.Walk.{subText, Listed, ListedIn, Innermost, Stands, StandsIn, Walked};
+ghost use Rattle.print.specs.Prints.{shallow, Prints};
+
+// The entry and the name byte that come behind a dtype's own, and the place behind its text.
+struct Spot {
+    entry: usize,
+    byte: usize,
+    at: usize,
+}
 
 // A type string in its quotes. An entry that has no type writes nothing.
 fn put_type(out: &mut [u8], at: usize, entry: Entry) -> usize
@@ -95,7 +105,7 @@ fn innermost(table: &[u64], e: usize) -> usize
 }
 
 // The text of the dtype at entry e, its names from byte b on. Array levels are their field's to write.
-pub fn put_descr(table: &[u64], names: &[u8], e: usize, b: usize, out: &mut [u8], at: usize) -> Spot
+fn put_descr(table: &[u64], names: &[u8], e: usize, b: usize, out: &mut [u8], at: usize) -> Spot
     requires { ⌜ ((d : Dtype) × Stands (now table) (now names) e b d) ⌝ }
     ensures { λ r. ⌜ ((d : Dtype) → Stands (now (table .entry)) (now (names .entry)) e b d → Walked (print (descrLayout d)) (entriesOf d) (nameBytes d) (now (out .entry)) e b at (now (out .exit)) r) ⌝ }
 {
@@ -154,7 +164,7 @@ fn put_fields(
 }
 
 // Whether at most k brackets are open at once in the text of the dtype at entry e.
-pub fn within(table: &[u64], e: usize, k: u64) -> bool
+fn within(table: &[u64], e: usize, k: u64) -> bool
     requires { ⌜ ((d : Dtype) × Listed (now table) e d) ⌝ }
     ensures { λ r. ⌜ ((d : Dtype) → Listed (now (table .entry)) e d → r ≡ isWithin (valueOf (descrLayout d)) k) ⌝ }
 {
@@ -195,4 +205,54 @@ fn brackets(kind: u64) -> u64
     ensures { λ r. ⌜ r ≡ cond (eqb kind 1) 2 1 ⌝ }
 {
     if kind == ARRAY { 2 } else { 1 }
+}
+
+// `True` for Fortran order.
+fn put_order(out: &mut [u8], at: usize, order: Order) -> usize
+    ensures { λ r. ⌜ Emits (wordText (isFortran order)) (now (out .entry)) at (now (out .exit)) r ⌝ }
+{
+    match order {
+        Order::C => emit::put_bytes(out, at, b"False"),
+        Order::Fortran => emit::put_bytes(out, at, b"True"),
+    }
+}
+
+// The dict's text, of a dtype that stands in the table and the names.
+fn put_dict(
+    table: &[u64],
+    names: &[u8],
+    shape: &[u64],
+    order: Order,
+    out: &mut [u8],
+    at: usize,
+) -> usize
+    requires { ⌜ ((d : Dtype) × Stands (now table) (now names) 0 0 d) ⌝ }
+    ensures { λ r. ⌜ ((d : Dtype) → Stands (now (table .entry)) (now (names .entry)) 0 0 d → Emits (print (headerLayout (made d (now (shape .entry)) order))) (now (out .entry)) at (now (out .exit)) r) ⌝ }
+{
+    let behind_key = emit::put_bytes(out, at, b"{'descr': ");
+    let descr = put_descr(table, names, 0, 0, out, behind_key);
+    let behind_descr = emit::put_bytes(out, descr.at, b", 'fortran_order': ");
+    let behind_order = put_order(out, behind_descr, order);
+    let before_shape = emit::put_bytes(out, behind_order, b", 'shape': ");
+    let behind_shape = quote::put_shape(out, before_shape, shape);
+    emit::put_bytes(out, behind_shape, b", }")
+}
+
+// The text of a record that the check has accepted, or 7.
+pub fn put_text(
+    table: &[u64],
+    names: &[u8],
+    shape: &[u64],
+    order: Order,
+    out: &mut [u8],
+    at: usize,
+) -> Printed
+    requires { ⌜ ((d : Dtype) × Valid (now table) (now names) (now shape) order d) ⌝ }
+    ensures { λ r. ⌜ ((d : Dtype) → Valid (now (table .entry)) (now (names .entry)) (now (shape .entry)) order d → Prints (shallow (made d (now (shape .entry)) order)) (now (out .entry)) at r (now (out .exit))) ⌝ }
+{
+    if !within(table, 0, 31) {
+        return Printed::Deep;
+    }
+    let behind = put_dict(table, names, shape, order, out, at);
+    Printed::Behind(behind)
 }

@@ -1,10 +1,40 @@
-// The text of a dtype, written from its flat table and its names (document 01, "Header bytes out"), and how many brackets it would open. The functions are
-// in `inner`: they ask for a table and names that the check of crate table has accepted.
-pub mod inner;
+// The dict's text of a caller's record, printed from its flat table, its names, its shape and its order (document 01, "Header bytes out"): the record's own
+// refusals 27, 13, 20, 21, 22 first, then 7, and a refusal stores nothing. What each answer stands for is in specs/Prints.antt. No public function here has a
+// `requires`: the walks over a table that was checked are in `inner`.
+mod inner;
 
-// The entry and the name byte that come behind a dtype's own, and the place behind its text.
-pub struct Spot {
-    pub entry: usize,
-    pub byte: usize,
-    pub at: usize,
+use dtype::Order;
+use table::Checked;
+ghost use Rattle.print.specs.Prints.{printable, Prints};
+
+// The place behind the text; or 27, 13, 20, 21, 22, 7.
+pub enum Printed {
+    Behind(usize),
+    NoReading,
+    Dimensions,
+    Entries,
+    Size,
+    Shape,
+    Deep,
+}
+
+// The text behind what was written so far, as far as there is room.
+pub fn put_text(
+    table: &[u64],
+    names: &[u8],
+    shape: &[u64],
+    order: Order,
+    out: &mut [u8],
+    at: usize,
+) -> Printed
+    ensures { λ r. ⌜ Prints (printable (now (table .entry)) (now (names .entry)) (now (shape .entry)) order) (now (out .entry)) at r (now (out .exit)) ⌝ }
+{
+    match table::check(table, names, shape, order) {
+        Checked::Accepted(found) => inner::put_text(table, names, shape, order, out, at),
+        Checked::NoReading => Printed::NoReading,
+        Checked::Dimensions => Printed::Dimensions,
+        Checked::Entries => Printed::Entries,
+        Checked::Size => Printed::Size,
+        Checked::Shape => Printed::Shape,
+    }
 }

@@ -8,7 +8,7 @@ put-prefix-requires : tie.Need-put-prefix-requires
 put-prefix-requires c κs = search needs
 
 put-text-requires : tie.Need-put-text-requires
-put-text-requires c κs = c .before .before .before .before .before .before .before .before .before .pre
+put-text-requires c κs = search needs
 
 put-spaces-requires : tie.Need-put-spaces-requires
 put-spaces-requires c κs = search needs
@@ -20,7 +20,7 @@ same-length : tie.Need-same-length
 same-length c = search needs
 
 returns : tie.Need-returns
-returns c = λ d s. emits-then _ _ _ _ _ _ _ _ (emits-then _ _ _ _ _ _ _ _ (emits-then _ _ _ _ _ _ _ _ (c .before .before .before .before .before .before .before .before .before .before .before .before .before .before .put-prefix .ensures) (c .before .before .before .before .before .before .before .before .before .before .put-text .ensures d s)) (c .before .before .before .before .before .before .put-spaces .ensures)) (c .before .before .put .ensures)
+returns c = λ x e. emits-then _ _ _ _ _ _ _ _ (emits-then _ _ _ _ _ _ _ _ (emits-then _ _ _ _ _ _ _ _ (c .before .before .before .before .before .before .before .before .before .before .before .before .before .before .put-prefix .ensures) (c .before .before .before .before .before .before .before .before .before .before .put-text .ensures x e)) (c .before .before .before .before .before .before .put-spaces .ensures)) (c .before .before .put .ensures)
 
 pub put-header-spec : {M : Type 1} → statement M
 put-header-spec =

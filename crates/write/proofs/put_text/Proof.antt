@@ -1,62 +1,28 @@
--- `write::put_text` meets its contract, piece by piece. Assumes nothing.
-use Rattle.write.proofs.Texts.{dict-emits}
+-- `write::put_text` meets its contract: where there is a record to print, the answer is a place. Assumes nothing.
+use Rattle.print.proofs.Prints.{text-at, text-never}
 use borrow.Author.Needs.{needs}
 use Rattle.write.proofs.put_text.Statement.{statement}
 use Rattle.write.proofs.put_text.Tie as tie
 
-slice-aggregate-put-bytes : tie.Need-slice-aggregate-put-bytes
-slice-aggregate-put-bytes c = search needs
+put-text-requires : tie.Need-put-text-requires
+put-text-requires c κs = search needs
 
-put-bytes-requires : tie.Need-put-bytes-requires
-put-bytes-requires c κs = search needs
-
-put-descr-requires : tie.Need-put-descr-requires
-put-descr-requires c κs = c .before .before .before .before .before .before .before .before .before .before .pre
-
-slice-aggregate-put-bytes-2 : tie.Need-slice-aggregate-put-bytes-2
-slice-aggregate-put-bytes-2 c = search needs
-
-put-bytes-requires-2 : tie.Need-put-bytes-requires-2
-put-bytes-requires-2 c κs = search needs
-
-put-order-requires : tie.Need-put-order-requires
-put-order-requires c κs = search needs
-
-slice-aggregate-put-bytes-3 : tie.Need-slice-aggregate-put-bytes-3
-slice-aggregate-put-bytes-3 c = search needs
-
-put-bytes-requires-3 : tie.Need-put-bytes-requires-3
-put-bytes-requires-3 c κs = search needs
-
-put-shape-requires : tie.Need-put-shape-requires
-put-shape-requires c κs = search needs
-
-slice-aggregate-put-bytes-4 : tie.Need-slice-aggregate-put-bytes-4
-slice-aggregate-put-bytes-4 c = search needs
-
-put-bytes-requires-4 : tie.Need-put-bytes-requires-4
-put-bytes-requires-4 c κs = search needs
+enum-known-behind : tie.Need-enum-known-behind
+enum-known-behind c = search needs
 
 same-length : tie.Need-same-length
 same-length c = search needs
 
 returns : tie.Need-returns
-returns c = λ d s. dict-emits d (c .before .before .before .before .before .before .before .before .before .before .before .before .before .before .before .before .before .before .before .before .before .before .before .before .before .before .before .before .before .before .before .before .before .before .before .before .args .shape .now) (c .before .before .before .before .before .before .before .before .before .before .before .before .before .before .before .before .before .before .before .before .before .before .before .before .before .before .before .before .before .before .before .before .before .before .before .before .args .order) _ _ _ _ _ _ _ _ _ _ _ _ _ _ _ _ (c .before .before .before .before .before .before .before .before .before .before .before .before .before .before .before .before .before .before .before .before .before .before .before .before .before .before .before .before .before .put-bytes .ensures) (c .before .before .before .before .before .before .before .before .before .before .before .before .before .before .before .before .before .before .before .before .before .before .before .before .before .put-descr .ensures d s .emits) (c .before .before .before .before .before .before .before .before .before .before .before .before .before .before .before .before .before .before .before .before .put-bytes2 .ensures) (c .before .before .before .before .before .before .before .before .before .before .before .before .before .before .before .before .put-order .ensures) (c .before .before .before .before .before .before .before .before .before .before .before .put-bytes3 .ensures) (c .before .before .before .before .before .before .before .put-shape .ensures) (c .before .before .put-bytes4 .ensures)
+returns c = λ x e. text-never _ _ _ x e _ (c .match .keys2) _ (c .before .before .before .put-text .ensures)
+
+same-length-2 : tie.Need-same-length-2
+same-length-2 c = search needs
+
+returns-2 : tie.Need-returns-2
+returns-2 c = λ x e. text-at _ _ _ x e _ _ (c .before .behind .given .1) _ (c .before .before .before .before .before .put-text .ensures)
 
 pub put-text-spec : {M : Type 1} → statement M
 put-text-spec =
     tie.close
-    (tie.spec
-    slice-aggregate-put-bytes
-    put-bytes-requires
-    put-descr-requires
-    slice-aggregate-put-bytes-2
-    put-bytes-requires-2
-    put-order-requires
-    slice-aggregate-put-bytes-3
-    put-bytes-requires-3
-    put-shape-requires
-    slice-aggregate-put-bytes-4
-    put-bytes-requires-4
-    same-length
-    returns)
+    (tie.spec put-text-requires enum-known-behind same-length returns same-length-2 returns-2)

@@ -1,7 +1,7 @@
--- `write::put_order` meets its contract, by the order. Assumes nothing.
+-- `print::inner::put_order` meets its contract, by the order. Assumes nothing.
 use borrow.Author.Needs.{needs}
-use Rattle.write.proofs.put_order.Statement.{statement}
-use Rattle.write.proofs.put_order.Tie as tie
+use Rattle.print.proofs.inner.put_order.Statement.{statement}
+use Rattle.print.proofs.inner.put_order.Tie as tie
 
 enum-told : tie.Need-enum-told
 enum-told c = search needs
