@@ -28,7 +28,9 @@ use Rattle.write.specs.Writes.{headerWritten, headerPlaced}
 use Rattle.listing.specs.Answer.{listed, roomBy}
 use Rattle.strings.specs.Rooms.{after}
 use Rattle.codes.specs.Codes.{code, left, Tells, alone}
-use Rattle.codes.specs.Values.{orderFor, typeFor, typeValues, textValues, headerValues, summaryValues, runValues}
+use Rattle.codes.specs.Numbers.{orderFor, typeFor, typeValues}
+use Rattle.told_read.specs.Values.{textValues, headerValues}
+use Rattle.told_place.specs.Values.{summaryValues, runValues}
 use Rattle.npy.specs.Calls.{Puts}
 use Rattle.claims.specs.Beyond.{Same-rest}
 use Rattle.claims.specs.Codes.{Tells-alone, Coded, Zero-answers, Rest-in-C}

@@ -47,8 +47,9 @@ use Rattle.record.specs.Layout.{headerLayout}
 use Rattle.record.specs.Within.{within}
 use Rattle.record.specs.File.{textLength, headerLength}
 use Rattle.record.specs.Writing.{writing}
-use Rattle.table.specs.EntryType.{unitsFor, in-record, typed, typeOf}
-use Rattle.table.specs.Checked.{unread, readDtype, checkedRecord}
+use Rattle.entries.specs.EntryType.{unitsFor, in-record, typed, typeOf}
+use Rattle.whole.specs.Reading.{unread, readDtype}
+use Rattle.table.specs.Checked.{checkedRecord}
 use Rattle.items.specs.Item.{itemOf}
 use Rattle.places.specs.Place.{runFrom, placed, placeOf}
 use Rattle.numbers.specs.Numbers.{inOrder}
@@ -63,7 +64,7 @@ use Rattle.header.specs.Answer.{textHeld, behind, heldInto, textInto}
 use Rattle.write.specs.Writes.{headerWritten}
 use Rattle.lines.specs.Listing.{listing}
 use Rattle.listing.specs.Answer.{listed}
-use Rattle.codes.specs.Values.{orderFor, typeFor}
+use Rattle.codes.specs.Numbers.{orderFor, typeFor}
 
 abbrev pub Number : ℕ → Type 0
 Number n = (leb 1 n ≡ true) × (leb n 30 ≡ true)

@@ -9,8 +9,7 @@ use lib.ListN.{length, drop}
 use Rattle.counts.specs.Outcome.{Outcome, gives, then}
 use Rattle.utf8.specs.Answer.{encoded, Encodes}
 use Rattle.type_str.specs.declared.TypeStr.{TypeStr}
-use Rattle.type_str.specs.Answer.{printAnswer}
-use Rattle.type_str.specs.Text.{Prints}
+use Rattle.type_print.specs.Printed.{printAnswer, Prints}
 use Rattle.dtype.specs.declared.Order.{Order}
 use Rattle.dtype.specs.Flat.{entry-width}
 use Rattle.shape.specs.declared.StridesWritten.{StridesWritten}
@@ -67,7 +66,7 @@ pub record Rest-unchanged : Type 0 where
       → Spares element.bytesAnswer (λ r. Owes (then (answer place) (λ u. readBytes (u .kind) (bytesOf file u) room)) room (element.bytesAnswer r)) room
   pub points-at : (file : List ℕ) (place : Placed) (room : List ℕ)
       → Spares element.pointsAnswer (λ r. Owes (then (answer place) (λ u. readPoints (u .kind) (bytesOf file u) room)) room (element.pointsAnswer r)) room
-  -- `TypeStr::print`, `utf8::encode`
+  -- `type_print::print`, `utf8::encode`
   pub print : (t : TypeStr) (room : List ℕ) → Spares printAnswer (Prints t room) room
   pub encode : (value : ℕ) (room : List ℕ) → Spares encoded (Encodes value room) room
   -- `shape::strides`, whose answer is the item count: it needs a number for each dimension

@@ -1,7 +1,7 @@
 -- The C interface. include/npy.h: "It returns 0 and has written its values, or n, one of document 01's refusal numbers, 1 to 30, and has left all that it was lent
 -- as it was", and "room beyond what was needed is left as it was"; document 01, "The refusal numbers": "Each returns its number only; every lent buffer stays
--- unchanged." The code 0 is an answer and never a refusal. Of each function of crate npy, by its own contract, and of whatever crate codes tells. Definitions only.
--- Assumes nothing.
+-- unchanged." The code 0 is an answer and never a refusal. Of each function of crate npy, by its own contract, and of whatever is told as crate codes
+-- says. Definitions only. Assumes nothing.
 use Prim.Native.Nat.{ℕ, _≤_}
 use mathlib.Core.Path.{_≡_}
 use mathlib.Core.Bool.{Bool}
@@ -26,7 +26,9 @@ use Rattle.listing.specs.Answer.{listed}
 use Rattle.strings.specs.Rooms.{readBytes, readPoints, writeBytes, writePoints}
 use Rattle.element.specs.Element.{elementBytes, elementPoints}
 use Rattle.codes.specs.Codes.{Tells, alone}
-use Rattle.codes.specs.Values.{orderFor, typeFor, typeValues, textValues, headerValues, summaryValues, runValues}
+use Rattle.codes.specs.Numbers.{orderFor, typeFor, typeValues}
+use Rattle.told_read.specs.Values.{textValues, headerValues}
+use Rattle.told_place.specs.Values.{summaryValues, runValues}
 use Rattle.npy.specs.Calls.{Reads, ReadsHeld, ReadsText, Writes, Lists, Strides, Prints, Puts}
 use Rattle.claims.specs.Beyond.{Same-rest}
 
@@ -37,7 +39,7 @@ pub record Refuses {A M : Type 0} (o : Outcome A) (before : M) (r : ℕ) (after 
   pub to-thirty : r ≤ 30
   pub unchanged : after ≡ before
 
--- of every answer that crate codes tells: a refusal is its number alone
+-- of every answer that is told as crate codes says: a refusal is its number alone
 abbrev pub Tells-alone : {A : Type 0} → (values : A → List ℕ) (o : Outcome A) (said : List ℕ) → Type 0
 Tells-alone values o said = (r : ℕ) (said′ : List ℕ) (n : ℕ) → Tells values o said r said′ → o ≡ refused n → (r ≡ n) × (said′ ≡ said)
 

@@ -1,3 +1,3 @@
-mod Told
+pub mod Told
 mod Given
 pub mod Outcomes

@@ -11,13 +11,13 @@ use Rattle.record.specs.Version as version
 use Rattle.prefix.specs.declared.Version.{Version}
 use Rattle.prefix.specs.Answer.{versionIs}
 use Rattle.prefix.proofs.Outcomes.{version-apart}
-use Rattle.table.specs.Answer.{typeAnswer}
-use Rattle.table.specs.declared.EntryType.{EntryType}
-use Rattle.table.proofs.Outcomes.{type-of-one}
+use Rattle.entries.specs.Answer.{typeAnswer}
+use Rattle.entries.specs.declared.EntryType.{EntryType}
+use Rattle.entries.proofs.Outcomes.{type-of-one}
 use Rattle.codes.specs.declared.OrderGiven.{OrderGiven}
 use Rattle.codes.specs.declared.VersionGiven.{VersionGiven}
 use Rattle.codes.specs.Codes.{Tells}
-use Rattle.codes.specs.Values.{orderFor, typeFor}
+use Rattle.codes.specs.Numbers.{orderFor, typeFor}
 use Rattle.codes.specs.Given.{orderAnswer, versionAnswer}
 
 pair-eq : {m n : ℕ} {x y : List ℕ} → m ≡ n → x ≡ y → _≡_ {A = ℕ × List ℕ} (m, x) (n, y)

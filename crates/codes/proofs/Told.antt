@@ -1,17 +1,14 @@
 -- An answer told in C: once a pattern has said which answer it is, what it stands for tells the code and the values. Assumes nothing.
 use Prim.Native.Nat.{ℕ}
-use mathlib.Core.Path.{_≡_, refl, sym, ap, _∙_}
+use mathlib.Core.Path.{_≡_, sym, ap, _∙_}
 use mathlib.Core.List.{List, [], _∷_}
 use Rattle.counts.specs.Outcome.{Outcome, gives, refused}
 use Rattle.type_str.specs.declared.TypeStr.{TypeStr}
 use Rattle.dtype.specs.declared.Entry.{Entry}
 use Rattle.dtype.specs.Dtype.{plain}
 use Rattle.dtype.specs.Flat.{entryOf}
-use Rattle.table.specs.declared.ItemSize.{ItemSize}
-use Rattle.table.specs.declared.Summary.{Summary}
-use Rattle.area.specs.declared.Run.{Run}
 use Rattle.codes.specs.Codes.{code, left, Tells}
-use Rattle.codes.specs.Values.{typeValues, sizeValues, summaryValues, runValues}
+use Rattle.codes.specs.Numbers.{typeValues}
 
 module _ {A : Type 0} (values : A → List ℕ) where
   value-told : {o : Outcome A} {a : A} {room room′ : List ℕ} → o ≡ gives a → room′ ≡ values a → Tells values o room 0 room′
@@ -27,16 +24,6 @@ module _ {A : Type 0} (values : A → List ℕ) where
   pub refuses-told : {X : Type 0} (answer : X → Outcome A) {x y : X} {n r : ℕ} {room : List ℕ} → x ≡ y → answer y ≡ refused n → r ≡ n → Tells values (answer x) room r room
   refuses-told answer found is number = number-told (ap answer found ∙ is) number
 
--- ---- the values, number by number
-pub first-is : {a b : ℕ} {x : List ℕ} → a ≡ b → _≡_ {A = List ℕ} (a ∷ x) (b ∷ x)
-first-is {x = x} e = ap (λ n. n ∷ x) e
-
 -- a type's four numbers are those of its entry
 pub type-numbers : (t : TypeStr) (e : Entry) → e ≡ entryOf (plain t) 0 0 → _≡_ {A = List ℕ} (e .order ∷ e .letter ∷ e .number ∷ e .units ∷ []) (typeValues t)
 type-numbers t e is = ap (λ (x : Entry). x .order ∷ x .letter ∷ x .number ∷ x .units ∷ []) is
-
-pub run-numbers : (u : Run) (e : Entry) → e ≡ entryOf (plain (u .kind)) 0 0 → _≡_ {A = List ℕ} (u .first .0 ∷ u .len .0 ∷ e .order ∷ e .letter ∷ e .number ∷ e .units ∷ []) (runValues u)
-run-numbers u e is = ap (λ x. u .first .0 ∷ u .len .0 ∷ x) (type-numbers (u .kind) e is)
-
-pub size-numbers : (s : Summary) {size : ItemSize} → s .size ≡ size → _≡_ {A = List ℕ} (s .rank ∷ s .entries ∷ sizeValues size (s .count .0 ∷ [])) (summaryValues s)
-size-numbers s is = ap (λ x. s .rank ∷ s .entries ∷ sizeValues x (s .count .0 ∷ [])) (sym is)

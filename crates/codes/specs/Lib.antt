@@ -1,3 +1,3 @@
 pub mod Codes
-pub mod Values
+pub mod Numbers
 pub mod Given

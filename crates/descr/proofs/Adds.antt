@@ -28,7 +28,7 @@ use Rattle.sums.specs.Totals.{capped, largest, saturated, nothing, oneEntry, na
 use Rattle.sums.specs.Verdict.{both}
 use Rattle.sums.proofs.Sums.{totals-eq, or-true, or-false, over-never, over-not, over-more, over-number, saturated-number, cap-front}
 use Rattle.sums.proofs.Limits.{own-over}
-use Rattle.descr.specs.Judges.{itemsBy}
+use Rattle.descr.specs.Judges.{nameBy, itemsBy}
 
 false-true : {A : Type 0} → false ≡ true → A
 false-true h = absurd (let z : _≡_ {A = ℕ} 0 1 = cc in omega arith)
@@ -189,9 +189,6 @@ arrays-totals ns d h =
     (ap (λ (x : ℕ). capped largest x) (arrays-outline ns d) ∙ held-levels ns (sizeOf d))
 
 -- ---- a field's items: its name, its inner descr, perhaps its sub-shape
-abbrev pub nameBy : Value → Outcome Totals
-nameBy v = each (λ w. nameTotals (length w)) (stringOr 14 v)
-
 abbrev pub descrBy : Value → Outcome Totals
 descrBy v = each totalsOf (descrOf v)
 

@@ -1,4 +1,5 @@
 pub mod Adds
+pub mod Reach
 pub mod Along
 pub mod Nodes
 pub mod Items

@@ -3,39 +3,50 @@
 use Prim.Native.Nat.{ℕ, _+_, _-_, _<_}
 use native.Mathlib.Omega.{arith}
 use mathlib.Core.Path.{_≡_, refl, sym, ap, subst, _∙_}
+use mathlib.Core.Logic.{_⊎_, inl, inr, ⊎-elim}
 use mathlib.Core.List.{List}
 use mathlib.Core.Bool.{Bool, true, false, cond}
 use lib.ListN.{length}
+use lib.Dec.{eqb}
+use borrow.Author.Tests.{eqb-true}
 use Rattle.counts.specs.Outcome.{Outcome, gives, refused, each}
 use Rattle.type_str.specs.declared.TypeStr.{TypeStr}
 use Rattle.type_str.specs.TypeString.{typeString}
 use Rattle.dtype.specs.Dtype.{plain}
+use Rattle.decimal.specs.Decimal.{isDigit}
+use Rattle.grammar.specs.Bytes.{isOpen, isQuote}
 use Rattle.grammar.specs.Value as value
 use Rattle.dims.specs.Walk.{closingOf}
+use Rattle.dims.proofs.Numbers.{token-value}
 use Rattle.tokens.specs.Node.{Node, string, integer, True, False, None, list, tuple, dict}
-use Rattle.tokens.specs.Got.{Got, got, pos}
-use Rattle.literal.specs.Answer.{place}
+use Rattle.tokens.specs.Got.{Got, got, deep, pos}
 use Rattle.tokens.specs.Text.{byteAt, kindOf}
 use Rattle.tokens.specs.Strings.{spelled}
+use Rattle.tokens.proofs.Positions.{open-in}
 use Rattle.literal.specs.Literal.{value as valueOf}
 use Rattle.literal.specs.Brackets.{gapAt}
 use Rattle.literal.specs.Rows.{Row, kindOfNode}
 use Rattle.literal.specs.Forget.{forget}
+use Rattle.tokens.specs.declared.Parsed.the-variants.{Deep}
 use Rattle.tokens.specs.declared.bytes.Kind.{Kind}
 use Rattle.tokens.specs.declared.bytes.Kind.the-variants.{Square, Round, Curly, Quote, Minus, Digit, TrueWord, FalseWord, NoneWord, Other}
+use Rattle.literal.proofs.Steps.{value-deep, value-list, value-tuple}
 use Rattle.literal.proofs.View.{view, value-kind}
+use Rattle.sums.specs.declared.Totals.{Totals}
 use Rattle.sums.specs.Totals.{totalsOf, oneEntry, nameTotals}
-use Rattle.sums.specs.Verdict.{both}
+use Rattle.sums.specs.Verdict.{verdict, both}
 use Rattle.field.specs.Begins.{isString}
 use Rattle.field.proofs.Begins.{string-kind}
-use Rattle.descr.specs.Judges.{typedAt, namedAt, itemsBy}
-use Rattle.descr.proofs.Adds.{fieldsBy, fieldBy, descrBy, nameBy, record-step}
+use Rattle.descr.specs.declared.Judged.{Judged}
+use Rattle.descr.specs.Judges.{Judges, JudgesFrom, JudgesInside, inside, typedAt, nameBy, itemsBy}
+use Rattle.descr.proofs.Adds.{fieldsBy, fieldBy, descrBy, record-step}
+use Rattle.descr.proofs.Reach.{list-from}
 use Rattle.descr.proofs.Along.{valuesOf}
 
 true-false : {A : Type 0} → true ≡ false → A
 true-false h = absurd (let z : _≡_ {A = ℕ} 0 1 = cc in omega arith)
 
-pub square-kind : (k : Kind) → closingOf k ≡ 93 → k ≡ Square
+square-kind : (k : Kind) → closingOf k ≡ 93 → k ≡ Square
 square-kind Square h = refl
 square-kind Round h = absurd (omega arith)
 square-kind Curly h = absurd (omega arith)
@@ -53,14 +64,11 @@ each-plain (refused n) = refl
 
 module _ (s : List ℕ) (at : ℕ) where
   module _ (k : ℕ) (n : Node) (e : ℕ) (h : valueOf k s at ≡ got n e) where
-    pub end-is : place (pos (valueOf k s at)) ≡ e
-    end-is = ap (λ (g : Got Node). place (pos g)) h
-
-    pub string-is : isString (kindOf (byteAt s at)) ≡ true → forget n ≡ value.string (spelled (byteAt s at) s (at + 1) .bytes)
+    string-is : isString (kindOf (byteAt s at)) ≡ true → forget n ≡ value.string (spelled (byteAt s at) s (at + 1) .bytes)
     unfolding forget
     string-is t = ap forget (view k s at h (string-kind (kindOf (byteAt s at)) t) .0)
 
-    pub text-says : isString (kindOf (byteAt s at)) ≡ true → descrBy (forget n) ≡ typedAt s at
+    text-says : isString (kindOf (byteAt s at)) ≡ true → descrBy (forget n) ≡ typedAt s at
     text-says t = ap descrBy (string-is t) ∙ each-plain (typeString (spelled (byteAt s at) s (at + 1) .bytes))
 
     descr-by : (m : Node) → isString (kindOfNode m) ≡ false → (closingOf (kindOfNode m) ≡ 93 → ⊥) → descrBy (forget m) ≡ refused 14
@@ -75,7 +83,7 @@ module _ (s : List ℕ) (at : ℕ) where
     descr-by (tuple p ns) a b = refl
     descr-by (dict p ps) a b = refl
 
-    pub descr-other : isString (kindOf (byteAt s at)) ≡ false → (closingOf (kindOf (byteAt s at)) ≡ 93 → ⊥) → descrBy (forget n) ≡ refused 14
+    descr-other : isString (kindOf (byteAt s at)) ≡ false → (closingOf (kindOf (byteAt s at)) ≡ 93 → ⊥) → descrBy (forget n) ≡ refused 14
     descr-other a b =
         let q = value-kind k s at h in
         descr-by n (ap isString (sym q) ∙ a) (λ z. b (ap closingOf q ∙ z))
@@ -92,7 +100,7 @@ module _ (s : List ℕ) (at : ℕ) where
     field-by (tuple p ns) a = absurd (omega arith)
     field-by (dict p ps) a = refl
 
-    pub field-other : closingOf (kindOf (byteAt s at)) ≡ 0 → fieldBy (forget n) ≡ refused 14
+    field-other : closingOf (kindOf (byteAt s at)) ≡ 0 → fieldBy (forget n) ≡ refused 14
     field-other a = field-by n (ap closingOf (sym (value-kind k s at h)) ∙ a)
 
     name-by : (m : Node) → isString (kindOfNode m) ≡ false → nameBy (forget m) ≡ refused 14
@@ -107,15 +115,11 @@ module _ (s : List ℕ) (at : ℕ) where
     name-by (tuple p ns) a = refl
     name-by (dict p ps) a = refl
 
-    pub name-says : nameBy (forget n) ≡ namedAt s at
-    name-says = go (isString (kindOf (byteAt s at))) refl
-      where
-        go : (t : Bool) → isString (kindOf (byteAt s at)) ≡ t → nameBy (forget n) ≡ cond t (gives (nameTotals (length (spelled (byteAt s at) s (at + 1) .bytes)))) (refused 14)
-        go true t = ap nameBy (string-is t)
-        go false t = name-by n (ap isString (sym (value-kind k s at h)) ∙ t)
+    name-other : isString (kindOf (byteAt s at)) ≡ false → nameBy (forget n) ≡ refused 14
+    name-other a = name-by n (ap isString (sym (value-kind k s at h)) ∙ a)
 
     -- a list, and what stands in it
-    pub record-is : closingOf (kindOf (byteAt s at)) ≡ 93
+    record-is : closingOf (kindOf (byteAt s at)) ≡ 93
         → (0 < k) × (ns : List Node) × (descrBy (forget n) ≡ both (gives oneEntry) (fieldsBy (valuesOf ns))) × Row (valueOf (k - 1) s) s 93 ns (gapAt s (at + 1) 93) e
     unfolding forget
     record-is c =
@@ -123,7 +127,7 @@ module _ (s : List ℕ) (at : ℕ) where
         (v .0, v .1, ap (λ (m : Node). descrBy (forget m)) (v .2) ∙ record-step (valuesOf (v .1)), v .3)
 
     -- a list or a tuple, and what stands in it
-    pub field-is : (closingOf (kindOf (byteAt s at)) ≡ 0 → ⊥) → (close : ℕ) → close ≡ closingOf (kindOf (byteAt s at))
+    field-is : (closingOf (kindOf (byteAt s at)) ≡ 0 → ⊥) → (close : ℕ) → close ≡ closingOf (kindOf (byteAt s at))
         → (0 < k) × (ns : List Node) × (fieldBy (forget n) ≡ itemsBy (valuesOf ns)) × Row (valueOf (k - 1) s) s close ns (gapAt s (at + 1) close) e
     unfolding forget
     field-is c close hc = go (kindOf (byteAt s at)) refl c hc
@@ -145,10 +149,105 @@ module _ (s : List ℕ) (at : ℕ) where
         go NoneWord hd c hc = absurd (c refl)
         go Other hd c hc = absurd (c refl)
 
--- ---- a name, as the code finds it
-module _ (s : List ℕ) (at : ℕ) where
-  pub name-string : isString (kindOf (byteAt s at)) ≡ true → gives (nameTotals (length (spelled (byteAt s at) s (at + 1) .bytes))) ≡ namedAt s at
-  name-string h = sym (ap (λ (t : Bool). cond t (gives (nameTotals (length (spelled (byteAt s at) s (at + 1) .bytes)))) (refused 14)) h)
+-- ---- the byte that a list or tuple begins with
+closing-byte : (b : ℕ) → closingOf (kindOf b) ≡ cond (eqb b 91) 93 (cond (eqb b 40) 41 0)
+unfolding kindOf
+closing-byte b = go (eqb b 91) (eqb b 40) (eqb b 123) (eqb b 45) (eqb b 84) (eqb b 70) (eqb b 78) (isQuote b) (isDigit b)
+  where
+    go : (t u v w x y z q d : Bool)
+        → closingOf (cond t Square (cond u Round (cond v Curly (cond w Minus (cond x TrueWord (cond y FalseWord (cond z NoneWord (cond q Quote (cond d Digit Other))))))))) ≡ cond t 93 (cond u 41 0)
+    go true u v w x y z q d = refl
+    go false true v w x y z q d = refl
+    go false false true w x y z q d = refl
+    go false false false true x y z q d = refl
+    go false false false false true y z q d = refl
+    go false false false false false true z q d = refl
+    go false false false false false false true q d = refl
+    go false false false false false false false true d = refl
+    go false false false false false false false false true = refl
+    go false false false false false false false false false = refl
 
-  pub name-not : isString (kindOf (byteAt s at)) ≡ false → refused 14 ≡ namedAt s at
-  name-not h = sym (ap (λ (t : Bool). cond t (gives (nameTotals (length (spelled (byteAt s at) s (at + 1) .bytes)))) (refused 14)) h)
+abbrev Opening : ℕ → ℕ → Type 0
+Opening b close = ((b ≡ 91) × (close ≡ 93)) ⊎ ((b ≡ 40) × (close ≡ 41))
+
+opening-byte : (b close : ℕ) → close ≡ closingOf (kindOf b) → (close ≡ 0 → ⊥) → Opening b close
+opening-byte b close hc some = go (eqb b 91) (eqb b 40) refl refl (hc ∙ closing-byte b)
+  where
+    go : (t u : Bool) → eqb b 91 ≡ t → eqb b 40 ≡ u → close ≡ cond t 93 (cond u 41 0) → Opening b close
+    go true u ht hu h = inl (eqb-true b 91 ht, h)
+    go false true ht hu h = inr (eqb-true b 40 hu, h)
+    go false false ht hu h = absurd (some h)
+
+open-square : (b : ℕ) → b ≡ 91 → isOpen b ≡ true
+unfolding isOpen
+open-square b h = rw h
+
+open-round : (b : ℕ) → b ≡ 40 → isOpen b ≡ true
+unfolding isOpen
+open-round b h = rw h
+
+-- ---- what the walk owes for the value at `at`, by what stands there
+module _ (k : ℕ) (s : List ℕ) (at : ℕ) where
+  -- a string, scanned once
+  module _ (r : Judged) (t : isString (kindOf (byteAt s at)) ≡ true) (he : r .ended ≡ spelled (byteAt s at) s (at + 1) .ended) where
+    string-ends : r .ended ≡ pos (valueOf k s at)
+    string-ends = he ∙ token-value k s at Quote (string-kind (kindOf (byteAt s at)) t) refl
+
+    pub type-judged : verdict (r .verdict) ≡ typedAt s at → Judges k s at descrBy r
+    type-judged hv = record { ends = string-ends; of-value = λ n e h. hv ∙ sym (text-says s at k n e h t) }
+
+    pub name-judged : verdict (r .verdict) ≡ gives (nameTotals (length (spelled (byteAt s at) s (at + 1) .bytes))) → Judges k s at nameBy r
+    name-judged hv = record { ends = string-ends; of-value = λ n e h. hv ∙ sym (ap nameBy (string-is s at k n e h t)) }
+
+  -- a value of another form
+  module _ (r : Judged) (he : r .ended ≡ pos (valueOf k s at)) (hv : verdict (r .verdict) ≡ refused 14) where
+    pub descr-misfit : isString (kindOf (byteAt s at)) ≡ false → (closingOf (kindOf (byteAt s at)) ≡ 93 → ⊥) → Judges k s at descrBy r
+    descr-misfit a b = record { ends = he; of-value = λ n e h. hv ∙ sym (descr-other s at k n e h a b) }
+
+    pub field-misfit : closingOf (kindOf (byteAt s at)) ≡ 0 → Judges k s at fieldBy r
+    field-misfit a = record { ends = he; of-value = λ n e h. hv ∙ sym (field-other s at k n e h a) }
+
+    pub name-misfit : isString (kindOf (byteAt s at)) ≡ false → Judges k s at nameBy r
+    name-misfit a = record { ends = he; of-value = λ n e h. hv ∙ sym (name-other s at k n e h a) }
+
+  -- a list or tuple
+  module _ (close : ℕ) (hc : close ≡ closingOf (kindOf (byteAt s at))) (some : close ≡ 0 → ⊥) where
+    opens : isOpen (byteAt s at) ≡ true
+    opens = ⊎-elim (λ z. open-square (byteAt s at) (z .0)) (λ z. open-round (byteAt s at) (z .0)) (opening-byte (byteAt s at) close hc some)
+
+    pub bracket-in : at < length s
+    bracket-in = open-in s at opens
+
+    -- which may not open
+    pub too-deep : (f : value.Value → Outcome Totals) (r : Judged) → k ≡ 0 → r .ended ≡ Deep at → Judges k s at f r
+    too-deep f r z he =
+        let d : deep at ≡ valueOf k s at = value-deep s at k z opens in
+        record { ends = he ∙ ap (λ (g : Got Node). pos g) d; of-value = λ n e h. absurd (let w : deep at ≡ got n e = d ∙ h in let y : _≡_ {A = ℕ} 0 1 = cc in omega arith) }
+
+    module _ (room : k ≡ 0 → ⊥) where
+      inside-ends : pos (inside (k - 1) s (at + 1) close) ≡ pos (valueOf k s at)
+      inside-ends = ⊎-elim square round (opening-byte (byteAt s at) close hc some)
+        where
+          square : (byteAt s at ≡ 91) × (close ≡ 93) → pos (inside (k - 1) s (at + 1) close) ≡ pos (valueOf k s at)
+          square z = ap (λ (c : ℕ). pos (inside (k - 1) s (at + 1) c)) (z .1) ∙ value-list s at opens k room (z .0)
+
+          round : (byteAt s at ≡ 40) × (close ≡ 41) → pos (inside (k - 1) s (at + 1) close) ≡ pos (valueOf k s at)
+          round z = ap (λ (c : ℕ). pos (inside (k - 1) s (at + 1) c)) (z .1) ∙ value-tuple s at opens k room (λ y. absurd (omega (arith, z .0))) (z .0)
+
+      pub field-judged : (r : Judged) → JudgesInside (k - 1) s (at + 1) close itemsBy r → Judges k s at fieldBy r
+      field-judged r j =
+          record {
+            ends = j .ends ∙ inside-ends;
+            of-value = λ n e h.
+                let i = field-is s at k n e h (λ z. some (hc ∙ z)) close hc in
+                j .of-row (i .1) e (i .3) ∙ sym (i .2);
+          }
+
+      pub record-judged : close ≡ 93 → (j r : Judged) → JudgesFrom (k - 1) s 93 (gapAt s (at + 1) 93) fieldsBy j → r .ended ≡ j .ended → verdict (r .verdict) ≡ both (gives oneEntry) (verdict (j .verdict)) → Judges k s at descrBy r
+      record-judged h93 j r hj he hv =
+          record {
+            ends = he ∙ (hj .ends ∙ (ap (λ (y : Got (List Node)). pos y) (list-from (k - 1) s (at + 1) 93) ∙ (sym (ap (λ (c : ℕ). pos (inside (k - 1) s (at + 1) c)) h93) ∙ inside-ends)));
+            of-value = λ n e h.
+                let i = record-is s at k n e h (sym hc ∙ h93) in
+                hv ∙ (ap (λ (x : Outcome Totals). both (gives oneEntry) x) (hj .of-row (i .1) e (i .3)) ∙ sym (i .2));
+          }

@@ -1,61 +1,82 @@
--- What a walk over a value, or over the items of a bracket, owes, whichever value or items stand there: where they end, and the verdict on them, by the
--- definitions of crate record. Definitions only. Assumes nothing.
+-- What a walk over a value, or over the items of a bracket, owes: how they end, as crate literal reads them, and the verdict on whichever value or items
+-- stand there, by the definitions of crate record. Definitions only. Assumes nothing.
 use Prim.Native.Nat.{ℕ, _+_}
 use mathlib.Core.Path.{_≡_}
 use mathlib.Core.List.{List}
 use mathlib.Core.Bool.{not, cond}
 use lib.ListN.{length}
-use Rattle.counts.specs.Outcome.{Outcome, gives, refused, then, each, unless}
+use lib.Dec.{eqb}
+use Rattle.counts.specs.Outcome.{Outcome, refused, then, each, unless}
 use Rattle.grammar.specs.Value.{Value, Values, end-of-values, value-then}
 use Rattle.type_str.specs.TypeString.{typeString}
 use Rattle.dtype.specs.Dtype.{plain}
+use Rattle.record.specs.Parts.{stringOr}
 use Rattle.record.specs.Descr.{descrOf, twoOrThree, namedOf}
 use Rattle.tokens.specs.Node.{Node, nodes}
-use Rattle.tokens.specs.Got.{Got, got}
-use Rattle.tokens.specs.Text.{byteAt, kindOf}
+use Rattle.tokens.specs.Got.{Got, got, pos}
+use Rattle.tokens.specs.Text.{byteAt}
 use Rattle.tokens.specs.Strings.{spelled}
 use Rattle.literal.specs.Literal.{value}
-use Rattle.literal.specs.Brackets.{gapAt}
+use Rattle.literal.specs.Brackets.{gapAt, thenAt, needAt, items, listBy, tupleBy}
 use Rattle.literal.specs.Rows.{Row}
 use Rattle.literal.specs.Forget.{forget, forgetAll}
+use Rattle.tokens.specs.declared.Parsed.{Parsed}
+use Rattle.tokens.specs.declared.Parsed as parsed
 use Rattle.literal.specs.declared.gaps.Gap.{Gap}
+use Rattle.literal.specs.declared.gaps.Gap.the-variants.{Stray}
 use Rattle.sums.specs.declared.Totals.{Totals}
 use Rattle.record.specs.Dimensions.{subShape}
 use Rattle.products.specs.Outline.{outlineOf}
-use Rattle.dims.specs.Answer.{valueOr, endOr}
-use Rattle.field.specs.Begins.{isString}
+use Rattle.dims.specs.Answer.{valueOr}
 use Rattle.sums.specs.Totals.{totalsOf, fieldTotals, nameTotals, arrayed}
 use Rattle.sums.specs.Verdict.{verdict, both}
 use Rattle.descr.specs.declared.Judged.{Judged}
 
--- of what was read at `at`, as a descr. Where no value stands the answer is as for one of another form, and the end is the position itself
-pub record JudgesAt (at : ℕ) (g : Got Node) (r : Judged) : Type 0 where
-  pub ends : r .end ≡ endOr at g
+-- of what was read, as a descr. Where no value stands the verdict is as for one of another form
+pub record JudgesAt (g : Got Node) (r : Judged) : Type 0 where
+  pub ends : r .ended ≡ pos g
   pub says : verdict (r .verdict) ≡ then (valueOr 14 g) (λ v. each totalsOf (descrOf v))
 
 -- of the value at `at`, where k brackets more may open
 pub record Judges (k : ℕ) (s : List ℕ) (at : ℕ) (f : Value → Outcome Totals) (r : Judged) : Type 0 where
-  pub of-value : (n : Node) (e : ℕ) → value k s at ≡ got n e → (r .end ≡ e) × (verdict (r .verdict) ≡ f (forget n))
+  pub ends : r .ended ≡ pos (value k s at)
+  pub of-value : (n : Node) (e : ℕ) → value k s at ≡ got n e → verdict (r .verdict) ≡ f (forget n)
 
--- of the items from the gap on
-pub record JudgesFrom (k : ℕ) (s : List ℕ) (close : ℕ) (g : Gap) (f : Values → Outcome Totals) (r : Judged) : Type 0 where
-  pub of-row : (ns : List Node) (e : ℕ) → Row (value k s) s close ns g e → (r .end ≡ e) × (verdict (r .verdict) ≡ f (forgetAll (nodes ns)))
+-- of the items from the gap on, which are read as x
+pub record JudgesRow (k : ℕ) (s : List ℕ) (close : ℕ) (g : Gap) (x : Got (List Node)) (f : Values → Outcome Totals) (r : Judged) : Type 0 where
+  pub ends : r .ended ≡ pos x
+  pub of-row : (ns : List Node) (e : ℕ) → Row (value k s) s close ns g e → verdict (r .verdict) ≡ f (forgetAll (nodes ns))
 
--- of those from `from` up to the bracket
-abbrev pub JudgesRow : (k : ℕ) (s : List ℕ) (from close : ℕ) (f : Values → Outcome Totals) (r : Judged) → Type 0
-JudgesRow k s from close f r = JudgesFrom k s close (gapAt s from close) f r
+-- the items from the gap on
+abbrev pub itemsFrom : ℕ → List ℕ → ℕ → Gap → Got (List Node)
+itemsFrom k s close g = items (value k s) s close (length s + 2) g
 
--- items stand from the gap on
-abbrev pub StandsRow : ℕ → List ℕ → ℕ → Gap → Type 0
-StandsRow k s close g = (ns : List Node) × (e : ℕ) × Row (value k s) s close ns g e
+abbrev pub JudgesFrom : (k : ℕ) (s : List ℕ) (close : ℕ) (g : Gap) (f : Values → Outcome Totals) (r : Judged) → Type 0
+JudgesFrom k s close g f r = JudgesRow k s close g (itemsFrom k s close g) f r
+
+-- the items of a list or tuple from `from` up to its bracket
+abbrev pub inside : ℕ → List ℕ → ℕ → ℕ → Got (List Node)
+inside k s from close = cond (eqb close 41) (tupleBy (value k s) s from) (listBy (value k s) s from close)
+
+abbrev pub JudgesInside : (k : ℕ) (s : List ℕ) (from close : ℕ) (f : Values → Outcome Totals) (r : Judged) → Type 0
+JudgesInside k s from close f r = JudgesRow k s close (gapAt s from close) (inside k s from close) f r
+
+-- behind the first item of a list or tuple; of a tuple it needs its comma: "one element needs its comma: `(3)` is no value"
+abbrev pub commaThen : List ℕ → Parsed → Gap
+commaThen s (parsed.Parsed.Value e) = gapAt s e 41
+commaThen s (parsed.Parsed.Fault p) = Stray p
+commaThen s (parsed.Parsed.Deep p) = Stray p
+
+abbrev pub secondAt : List ℕ → ℕ → ℕ → Gap
+secondAt s at close = cond (eqb close 41) (commaThen s (needAt s at 44)) (thenAt s at close)
+
+-- a value as a name
+abbrev pub nameBy : Value → Outcome Totals
+nameBy v = each (λ w. nameTotals (length w)) (stringOr 14 v)
 
 -- the string at `at`, as a type string
 abbrev pub typedAt : List ℕ → ℕ → Outcome Totals
 typedAt s at = each (λ t. totalsOf (plain t)) (typeString (spelled (byteAt s at) s (at + 1) .bytes))
-
--- what stands at `at`, as a name
-abbrev pub namedAt : List ℕ → ℕ → Outcome Totals
-namedAt s at = cond (isString (kindOf (byteAt s at))) (gives (nameTotals (length (spelled (byteAt s at) s (at + 1) .bytes)))) (refused 14)
 
 -- items as a field's: their count first
 abbrev pub itemsBy : Values → Outcome Totals

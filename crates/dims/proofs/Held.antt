@@ -1,8 +1,8 @@
--- Judging the members of a list or tuple. What is kept: the outline of all the members is the verdict on those met, extended by those that are left.
--- Then the value around them: `bracket`, by the kind of its first byte. Assumes nothing.
+-- The members of a list or tuple: the outline of all of them is that of those met, extended by those that are left. Then the value around them: `bracket`,
+-- by the kind of its first byte. Assumes nothing.
 use Prim.Native.Nat.{ℕ, _+_, _-_, _<_, _≤_}
 use native.Mathlib.Omega.{arith}
-use mathlib.Core.Path.{_≡_, refl, sym, ap, subst, _∙_}
+use mathlib.Core.Path.{_≡_, refl, sym, ap}
 use mathlib.Core.List.{List, [], _∷_}
 use mathlib.Core.Bool.{false}
 use lib.ListN.{length}
@@ -12,31 +12,28 @@ use Rattle.counts.specs.Outcome.{Outcome, gives, refused, then, each}
 use Rattle.counts.specs.declared.Number.the-variants.{Is}
 use Rattle.counts.proofs.Fits.{number-is}
 use Rattle.record.specs.Parts.{membersOr}
-use Rattle.record.specs.Dimensions.{dimension, subShape}
+use Rattle.record.specs.Dimensions.{dimension}
 use Rattle.tokens.specs.Node.{Node, nodes}
-use Rattle.tokens.specs.Got.{Got, got, fault, deep, pos}
+use Rattle.tokens.specs.Got.{Got, got, fault, deep, with}
 use Rattle.literal.specs.Forget.{forget, forgetAll}
 use Rattle.tokens.specs.Text.{byteAt, kindOf}
 use Rattle.literal.specs.Brackets.{gapAt}
 use Rattle.literal.specs.Literal.{value}
 use Rattle.literal.specs.Rows.{Row}
-use Rattle.tokens.specs.declared.Parsed.the-variants.{Value}
 use Rattle.tokens.specs.declared.bytes.Kind.{Kind}
 use Rattle.tokens.specs.declared.bytes.Kind.the-variants.{Square, Round, Curly, Quote, Minus, Digit, TrueWord, FalseWord, NoneWord, Other}
 use Rattle.tokens.proofs.bytes.Kind.{the-type}
 use Rattle.tokens.proofs.Positions.{kind-in}
-use Rattle.literal.proofs.Steps.{Stops, thing}
 use Rattle.literal.proofs.View.{view}
 use Rattle.products.specs.declared.Outline.{Outline}
 use Rattle.products.specs.declared.Verdict.{Verdict}
 use Rattle.products.specs.declared.Verdict.the-variants.{Good, Form, Large}
 use Rattle.products.specs.declared.Member as member
 use Rattle.products.specs.declared.Member.{Member}
-use Rattle.products.specs.Outline.{outlineOf, extendedTo, extendedBy}
+use Rattle.products.specs.Outline.{outlineOf, extendedTo, extendedBy, extends}
 use Rattle.products.specs.Answer.{sized, outlined, rankOf}
-use Rattle.products.proofs.Outlines.{extends, outline-whole}
-use Rattle.dims.specs.Answer.{endOr, dimensionsAt, Judges}
-use Rattle.dims.specs.Walk.{closingOf, dimensionsOf}
+use Rattle.products.proofs.Outlines.{outline-whole}
+use Rattle.dims.specs.Walk.{closingOf, dimensionsOf, goesOn}
 
 -- every kind but a list's and a tuple's
 pub other-kind : (k : Kind) → OneOf (2 ∷ 3 ∷ 4 ∷ 5 ∷ 6 ∷ 7 ∷ 8 ∷ 9 ∷ []) (tagOf the-type k) → closingOf k ≡ 0
@@ -51,23 +48,22 @@ other-kind FalseWord o = refl
 other-kind NoneWord o = refl
 other-kind Other o = refl
 
--- ---- the loop
-abbrev pub Met : Verdict → List Node → List Node → Type 0
-Met v ns us = each outlineOf (dimensionsOf ns) ≡ then (outlined v) (λ o. each (extends o) (dimensionsOf us))
-
-abbrev pub none-met : Outline
-none-met = record { rank = 0; empty = false; before = Is 1; behind = Is 1 }
-
-none-outline : outlineOf [] ≡ none-met
+-- ---- members, one after the other
+none-outline : outlineOf [] ≡ record { rank = 0; empty = false; before = Is 1; behind = Is 1 }
 unfolding outlineOf
 none-outline = rw (number-is 1 (omega arith))
 
-pub met-start : (ns : List Node) → Met (Good none-met) ns ns
-met-start ns = go (dimensionsOf ns)
-  where
-    go : (d : Outcome (List ℕ)) → each outlineOf d ≡ each (extends none-met) d
-    go (gives ms) = ap gives (outline-whole ms ∙ ap (λ (o : Outline). extends o ms) none-outline)
-    go (refused n) = refl
+pub nothing-is : Good (record { rank = 0; empty = false; before = Is 1; behind = Is 1 }) ≡ Good (outlineOf [])
+nothing-is = ap Good (sym none-outline)
+
+-- no members are met yet
+pub nothing-rank : (v : Verdict) → v ≡ Good (outlineOf []) → rankOf v ≡ 0
+unfolding outlineOf
+nothing-rank v h = ap rankOf h
+
+pub goes-whole : (d : Outcome (List ℕ)) → each outlineOf d ≡ each (extends (outlineOf [])) d
+goes-whole (gives ms) = ap gives (outline-whole ms)
+goes-whole (refused n) = refl
 
 joins : (a : Outcome Outline) (d : Outcome ℕ) (ds : Outcome (List ℕ))
     → then a (λ o. each (extends o) (then d (λ n. each (λ ns. n ∷ ns) ds))) ≡ then (then a (λ o. each (extendedBy o) d)) (λ o. each (extends o) ds)
@@ -76,16 +72,19 @@ joins (gives o) (gives n) (refused m) = refl
 joins (gives o) (refused m) ds = refl
 joins (refused m) d ds = refl
 
-pub met-more : (v v′ : Verdict) (m : Member) (n : Node) (ns us : List Node) → outlined v′ ≡ then (outlined v) (λ o. each (extendedBy o) (sized m)) → sized m ≡ dimension (forget n)
-    → Met v ns (n ∷ us) → Met v′ ns us
-unfolding forget forgetAll
-met-more v v′ m n ns us hv hm h = h ∙ joins (outlined v) (dimension (forget n)) (dimensionsOf us) ∙ rw (hv, hm)
+-- one member is met, and those behind it are left
+pub goes-one : (v : Outcome Outline) (n : Node) (g : Got (List Node)) → goesOn v (with (λ e. _∷_ n) g) ≡ goesOn (then v (λ o. each (extendedBy o) (dimension (forget n)))) g
+unfolding with forget forgetAll
+goes-one v n (got ns e) = joins v (dimension (forget n)) (dimensionsOf ns)
+goes-one v n (fault p) = refl
+goes-one v n (deep p) = refl
 
-pub met-end : (v : Verdict) (ns : List Node) → Met v ns [] → outlined v ≡ each outlineOf (dimensionsOf ns)
-unfolding forget forgetAll
-met-end (Good o) ns h = sym h
-met-end Form ns h = sym h
-met-end Large ns h = sym h
+-- none is left
+pub goes-none : (v : Verdict) (e : ℕ) → outlined v ≡ goesOn (outlined v) (got [] e)
+unfolding forgetAll
+goes-none (Good o) e = refl
+goes-none Form e = refl
+goes-none Large e = refl
 
 -- a verdict counts one more at most
 pub rank-more : (v v′ : Verdict) (m : Member) → outlined v′ ≡ then (outlined v) (λ o. each (extendedBy o) (sized m)) → rankOf v′ ≤ rankOf v + 1
@@ -135,29 +134,3 @@ module _ (k : ℕ) (s : List ℕ) (at e : ℕ) (n : Node) (h : value k s at ≡ 
   no-bracket j FalseWord hk z = let v = view k s at h hk in held-by j v
   no-bracket j NoneWord hk z = let v = view k s at h hk in held-by j v
   no-bracket j Other hk z = absurd (view k s at h hk)
-
--- ---- what `judge` owes
-pub judged-none : (at : ℕ) (g : Got Node) → Stops (pos g) → Judges at g (record { end = at; verdict = Form })
-judged-none at (got n e) st = absurd st
-judged-none at (fault p) st = record { ends = refl; says = refl }
-judged-none at (deep p) st = record { ends = refl; says = refl }
-
-judged-by : (at e : ℕ) (g : Got Node) (n : Node) (v : Verdict) → g ≡ got n e → outlined v ≡ each outlineOf (subShape (forget n)) → Judges at g (record { end = e; verdict = v })
-judged-by at e g n v h hv = record { ends = sym (ap (endOr at) h); says = hv ∙ sym (ap (λ (x : Got Node). each outlineOf (dimensionsAt x)) h) }
-
-module _ (k : ℕ) (s : List ℕ) (at e : ℕ) (h : Value e ≡ pos (value k s at)) (c : Kind) (hk : c ≡ kindOf (byteAt s at)) where
-  pub judged-other : closingOf c ≡ 0 → Judges at (value k s at) (record { end = e; verdict = Form })
-  judged-other z =
-      let t = thing (value k s at) e h in
-      judged-by at e (value k s at) (t .0) Form (t .1) (rw (no-bracket k s at e (t .0) (t .1) 11 c (sym hk) z))
-
-  module _ (close : ℕ) (hc : close ≡ closingOf c) (some : close ≡ 0 → ⊥) where
-    pub judged-bracket : Bracket k s at (thing (value k s at) e h .0) e close
-    judged-bracket =
-        let t = thing (value k s at) e h in
-        subst (Bracket k s at (t .0) e) (sym hc) (bracket k s at e (t .0) (t .1) c (sym hk) (λ z. some (hc ∙ z)))
-
-    pub judged-members : (v : Verdict) → outlined v ≡ each outlineOf (dimensionsOf (judged-bracket .held)) → Judges at (value k s at) (record { end = e; verdict = v })
-    judged-members v hv =
-        let t = thing (value k s at) e h in
-        judged-by at e (value k s at) (t .0) v (t .1) (rw (judged-bracket .holds 11) hv)

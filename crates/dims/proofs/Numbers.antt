@@ -1,105 +1,123 @@
--- The digits of an integer are all of its text, so that reading them gives its number; then its sign decides, by the value's kind. Assumes nothing.
-use Prim.Native.Nat.{ℕ, zero, suc, _+_, _-_, _<_, _≤_, _^_}
+-- Digits at a position are the integer that stands there, for the kind of its first byte says so; a sign decides what they are as a dimension. Assumes nothing.
+use Prim.Native.Nat.{ℕ, zero, suc, _+_, _^_}
 use native.Mathlib.Omega.{arith}
 use mathlib.Core.Path.{_≡_, refl, sym, ap, subst, _∙_}
 use mathlib.Core.List.{List, [], _∷_}
 use mathlib.Core.Bool.{Bool, true, false, _||_, cond}
-use lib.ListN.{length, drop}
-use lib.Dec.{eqb, lit<}
-use borrow.Author.Tests.{eqb-true, lt-leb, le-leb}
+use lib.Dec.{eqb}
+use borrow.Author.Tests.{eqb-true, ne-eqb, lt-leb, le-leb}
 use denote.Enum.Declared.{tagOf}
-use types.Run.{OneOf, miss}
+use types.Run.{OneOf}
 use Rattle.counts.specs.Outcome.{Outcome, gives, refused}
 use Rattle.counts.specs.Number.{number}
 use Rattle.counts.specs.declared.Number.{Number}
 use Rattle.counts.specs.declared.Number.the-variants.{Is, Over}
 use Rattle.counts.proofs.Fits.{number-is-back, number-over-back}
-use Rattle.decimal.specs.Decimal.{isDigit, digitsOf, decimal}
-use Rattle.grammar.specs.Bytes.{isOpen}
+use Rattle.decimal.specs.Decimal.{isDigit, decimal}
+use Rattle.grammar.specs.Bytes.{isOpen, isQuote}
 use Rattle.grammar.proofs.Texts.{true-false}
 use Rattle.record.specs.Dimensions.{signed, dimension}
 use Rattle.tokens.specs.Node.{Node}
 use Rattle.tokens.specs.Got.{got, pos}
 use Rattle.literal.specs.Forget.{forget}
 use Rattle.tokens.specs.Text.{byteAt, part, kindOf, past}
-use Rattle.tokens.specs.Tokens.{naturalAt}
+use Rattle.tokens.specs.Tokens.{naturalAt, numberBy, numeralAt}
 use Rattle.literal.specs.Literal.{value}
 use Rattle.literal.specs.Rows.{View}
+use Rattle.tokens.specs.declared.tokens.Numeral.{Numeral}
 use Rattle.tokens.specs.declared.Parsed.{Parsed}
 use Rattle.tokens.specs.declared.Parsed.the-variants.{Value, Fault, Deep}
 use Rattle.tokens.specs.declared.bytes.Kind.{Kind}
 use Rattle.tokens.specs.declared.bytes.Kind.the-variants.{Square, Round, Curly, Quote, Minus, Digit, TrueWord, FalseWord, NoneWord, Other}
-use Rattle.tokens.proofs.bytes.Kind.{the-type}
 use Rattle.tokens.proofs.Parsed as parsed
-use Rattle.tokens.proofs.Positions.{byte-in, digit-in, past-more, past-from}
-use Rattle.literal.proofs.Ends.{past-within}
 use Rattle.tokens.proofs.Ends.{tokenEnd, token-ends}
 use Rattle.literal.proofs.Steps.{Stops, stops, value-token}
-use Rattle.literal.proofs.Left.{drop-left, digits-part}
 use Rattle.literal.proofs.View.{view}
 
--- ---- the digits of a number's text
-digits-twice : (s : List ℕ) → digitsOf (digitsOf s) ≡ digitsOf s
-unfolding digitsOf
-digits-twice [] = refl
-digits-twice (b ∷ s) = go (isDigit b) refl (digits-twice s)
+-- ---- digits at a position, and the kind of the byte there
+digit-not : (b k : ℕ) → isDigit b ≡ true → isDigit k ≡ false → eqb b k ≡ false
+digit-not b k h n = ne-eqb b k (λ e. true-false (sym h ∙ ap isDigit e ∙ n))
+
+digit-kind : (b : ℕ) → isDigit b ≡ true → kindOf b ≡ Digit
+unfolding kindOf isQuote isDigit
+digit-kind b h =
+    let no : (k : ℕ) → isDigit k ≡ false → eqb b k ≡ false = λ k n. digit-not b k h n in
+    rw (kindOf, no 91 refl, no 40 refl, no 123 refl, no 45 refl, no 84 refl, no 70 refl, no 78 refl, no 39 refl, no 34 refl, h)
+
+pub minus-kind : (b : ℕ) → b ≡ 45 → kindOf b ≡ Minus
+unfolding kindOf
+minus-kind b h = rw h
+
+abbrev isInteger : Kind → Bool
+isInteger Minus = true
+isInteger Digit = true
+isInteger Square = false
+isInteger Round = false
+isInteger Curly = false
+isInteger Quote = false
+isInteger TrueWord = false
+isInteger FalseWord = false
+isInteger NoneWord = false
+isInteger Other = false
+
+no-integer : (b : ℕ) → (b ≡ 45 → ⊥) → isDigit b ≡ false → isInteger (kindOf b) ≡ false
+unfolding kindOf
+no-integer b hm hd = rw (kindOf, ne-eqb b 45 hm, hd) (go (eqb b 91) (eqb b 40) (eqb b 123) (eqb b 84) (eqb b 70) (eqb b 78) (isQuote b))
   where
-    go : (t : Bool) → isDigit b ≡ t → digitsOf (digitsOf s) ≡ digitsOf s
-        → digitsOf (elim t [ true ↦ b ∷ digitsOf s | false ↦ [] ]) ≡ elim t [ true ↦ b ∷ digitsOf s | false ↦ [] ]
-    go true h ih = rw (digitsOf, h, ih)
-    go false h ih = refl
+    go : (t u v w x y z : Bool) → isInteger (cond t Square (cond u Round (cond v Curly (cond w TrueWord (cond x FalseWord (cond y NoneWord (cond z Quote Other))))))) ≡ false
+    go true u v w x y z = refl
+    go false true v w x y z = refl
+    go false false true w x y z = refl
+    go false false false true x y z = refl
+    go false false false false true y z = refl
+    go false false false false false true z = refl
+    go false false false false false false true = refl
+    go false false false false false false false = refl
 
 module _ (s : List ℕ) (at : ℕ) where
-  one-digit : byteAt s at ≡ 48 → digitsOf (part s at (at + 1)) ≡ part s at (at + 1)
-  unfolding digitsOf isDigit
-  one-digit h =
-      let lt = byte-in s at 48 h (lit< tt) in
-      let z : at + 1 - at ≡ 1 = omega arith in
-      rw (z, drop-left s at lt, h)
-
-  run-digits : isDigit (byteAt s at) ≡ true → digitsOf (part s at (past isDigit s (at + 1))) ≡ part s at (past isDigit s (at + 1))
-  run-digits h =
-      let e = past-more isDigit s at (digit-in s at h) h in
-      let p : digitsOf (drop at s) ≡ part s at (past isDigit s (at + 1)) = digits-part s at ∙ ap (part s at) e in
-      ap digitsOf (sym p) ∙ digits-twice (drop at s) ∙ p
-
-  -- a number's text is not empty, lies in the text, and is digits all of it
+  -- digits end somewhere exactly where one stands
   abbrev Natural : Parsed → Type 0
-  Natural (Value e) = (at < e) × (e ≤ length s) × (digitsOf (part s at e) ≡ part s at e)
-  Natural (Fault p) = Unit {0}
-  Natural (Deep p) = Unit {0}
+  Natural (Value e) = isDigit (byteAt s at) ≡ true
+  Natural (Fault p) = isDigit (byteAt s at) ≡ false
+  Natural (Deep p) = ⊥
+
+  zero-digit : byteAt s at ≡ 48 → isDigit (byteAt s at) ≡ true
+  unfolding isDigit
+  zero-digit h = rw h
 
   natural-is : Natural (naturalAt s at)
   unfolding naturalAt
   natural-is = first (eqb (byteAt s at) 48) refl
     where
       more : (t : Bool) → isDigit (byteAt s at) ≡ t → Natural (elim t [ true ↦ Value (past isDigit s (at + 1)) | false ↦ Fault at ])
-      more true h =
-          let lt = digit-in s at h in
-          (omega (arith, past-from isDigit s (at + 1)), past-within isDigit s (at + 1) (omega arith), run-digits h)
-      more false h = tt
+      more true h = h
+      more false h = h
 
       first : (t : Bool) → eqb (byteAt s at) 48 ≡ t → Natural (elim t [
         | true ↦ Value (at + 1)
         | false ↦ elim (isDigit (byteAt s at)) [ true ↦ Value (past isDigit s (at + 1)) | false ↦ Fault at ]
       ])
-      first true h =
-          let lt = byte-in s at 48 (eqb-true _ _ h) (lit< tt) in
-          (omega arith, omega arith, one-digit (eqb-true _ _ h))
+      first true h = zero-digit (eqb-true _ _ h)
       first false h = more (isDigit (byteAt s at)) refl
 
-  pub natural-ends : (e : ℕ) (r : Parsed) → r ≡ naturalAt s at → r ≡ Value e → (at < e) × (e ≤ length s)
-  natural-ends e r hr he = let n = subst Natural (sym hr ∙ he) natural-is in (n .0, n .1)
+  -- what reading the digits there says
+  module _ (r : Numeral) (hr : r ≡ numeralAt s at) where
+    pub numeral-ends : r .ended ≡ naturalAt s at
+    numeral-ends = ap (λ (x : Numeral). x .ended) hr
 
-  -- what reading the digits of the part gives
-  pub digits-are : (p e : ℕ) (r : Parsed) → r ≡ naturalAt s at → r ≡ Value p → naturalAt s at ≡ Value e → number (decimal (digitsOf (part s at p))) ≡ number (decimal (part s at e))
-  digits-are p e r hr hp he =
-      let z : Value p ≡ Value e = sym hp ∙ hr ∙ he in
-      let w : p ≡ e = cc in
-      rw w (ap (λ (ds : List ℕ). number (decimal ds)) (subst Natural he natural-is .2))
+    pub numeral-number : (e : ℕ) → naturalAt s at ≡ Value e → r .number ≡ number (decimal (part s at e))
+    numeral-number e he = ap (λ (x : Numeral). x .number) hr ∙ ap (numberBy s at) he
 
-  pub no-natural : {X : Type 0} (e : ℕ) (r : Parsed) → r ≡ naturalAt s at → OneOf (1 ∷ 2 ∷ []) (tagOf parsed.the-type r) → naturalAt s at ≡ Value e → X
-  no-natural e r hr o h = absurd (subst Stops (hr ∙ h) (stops r o))
+    pub numeral-stands : (e : ℕ) → r .ended ≡ Value e → kindOf (byteAt s at) ≡ Digit
+    numeral-stands e he = digit-kind (byteAt s at) (subst Natural (sym numeral-ends ∙ he) natural-is)
+
+    pub no-numeral : OneOf (1 ∷ 2 ∷ []) (tagOf parsed.the-type (r .ended)) → isDigit (byteAt s at) ≡ false
+    no-numeral o = go (r .ended) (stops (r .ended) o) (subst Natural (sym numeral-ends) natural-is)
+      where
+        go : (p : Parsed) → Stops p → Natural p → isDigit (byteAt s at) ≡ false
+        go (Value e) h n = absurd h
+        go (Fault e) h n = n
+        go (Deep e) h n = absurd n
 
 -- ---- the value at a byte that opens no bracket ends as the token there
 abbrev pub isBracket : Kind → Bool
@@ -164,7 +182,7 @@ module _ (k : ℕ) (s : List ℕ) (at e : ℕ) (n : Node) (h : value k s at ≡ 
   unfolding forget
   dimension-minus d hk f = let v = view k s at h hk in f e (v .1) ∙ sym (forgotten (v .0))
 
-  other-by : (c : Kind) → OneOf (0 ∷ 1 ∷ 2 ∷ 3 ∷ 6 ∷ 7 ∷ 8 ∷ 9 ∷ []) (tagOf the-type c) → View c k s at n e → refused 11 ≡ dimension (forget n)
+  other-by : (c : Kind) → isInteger c ≡ false → View c k s at n e → refused 11 ≡ dimension (forget n)
   unfolding forget
   other-by Square o v = sym (forgotten (v .2))
   other-by Round o v = sym (forgotten (v .2))
@@ -174,8 +192,8 @@ module _ (k : ℕ) (s : List ℕ) (at e : ℕ) (n : Node) (h : value k s at ≡ 
   other-by FalseWord o v = sym (forgotten v)
   other-by NoneWord o v = sym (forgotten v)
   other-by Other o v = absurd v
-  other-by Minus o v = absurd (miss (0 ∷ 1 ∷ 2 ∷ 3 ∷ 6 ∷ 7 ∷ 8 ∷ 9 ∷ []) 4 tt o)
-  other-by Digit o v = absurd (miss (0 ∷ 1 ∷ 2 ∷ 3 ∷ 6 ∷ 7 ∷ 8 ∷ 9 ∷ []) 5 tt o)
+  other-by Minus o v = true-false o
+  other-by Digit o v = true-false o
 
-  pub dimension-other : (c : Kind) → kindOf (byteAt s at) ≡ c → OneOf (0 ∷ 1 ∷ 2 ∷ 3 ∷ 6 ∷ 7 ∷ 8 ∷ 9 ∷ []) (tagOf the-type c) → refused 11 ≡ dimension (forget n)
-  dimension-other c hk o = other-by c o (view k s at h hk)
+  pub dimension-other : (byteAt s at ≡ 45 → ⊥) → isDigit (byteAt s at) ≡ false → refused 11 ≡ dimension (forget n)
+  dimension-other hm hd = other-by (kindOf (byteAt s at)) (no-integer (byteAt s at) hm hd) (view k s at h refl)

@@ -1,5 +1,6 @@
 -- What judging a shape or sub-shape owes. What a verdict stands for is crate products' Answer.antt. The definitions of the record (crate record) say what a
--- value gives; where no value stands, the answer is as for a value of another kind, and the end is the position itself. Definitions only. Assumes nothing.
+-- value gives; where no value stands, the answer is as for a value of another kind, beside the fault (6 or 7) and its place. Definitions only. Assumes
+-- nothing.
 use Prim.Native.Nat.{ℕ}
 use mathlib.Core.Path.{_≡_}
 use mathlib.Core.List.{List}
@@ -7,7 +8,7 @@ use Rattle.counts.specs.Outcome.{Outcome, gives, refused, then, each}
 use Rattle.grammar.specs.Value.{Value}
 use Rattle.record.specs.Dimensions.{subShape}
 use Rattle.tokens.specs.Node.{Node}
-use Rattle.tokens.specs.Got.{Got, got, fault, deep}
+use Rattle.tokens.specs.Got.{Got, got, fault, deep, pos}
 use Rattle.literal.specs.Forget.{forget}
 use Rattle.products.specs.Outline.{outlineOf}
 use Rattle.products.specs.Answer.{outlined}
@@ -29,7 +30,7 @@ endOr at (deep p) = at
 abbrev pub dimensionsAt : Got Node → Outcome (List ℕ)
 dimensionsAt g = then (valueOr 11 g) subShape
 
--- what judging owes for what stands at the position
-pub record Judges (at : ℕ) (g : Got Node) (r : Judged) : Type 0 where
-  pub ends : r .end ≡ endOr at g
+-- what judging owes for what stands at the position: how its text ends, and the outline of its dimensions
+pub record Judges (g : Got Node) (r : Judged) : Type 0 where
+  pub ends : r .ended ≡ pos g
   pub says : outlined (r .verdict) ≡ each outlineOf (dimensionsAt g)

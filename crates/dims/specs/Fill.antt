@@ -10,13 +10,15 @@ use lib.Dec.{eqb}
 use Rattle.counts.specs.Outcome.{gives, refused}
 use Rattle.record.specs.Dimensions.{dimension}
 use Rattle.tokens.specs.Node.{Node}
-use Rattle.tokens.specs.Got.{Got, got, fault, deep}
+use Rattle.tokens.specs.Got.{Got, got, fault, deep, pos}
 use Rattle.tokens.specs.Text.{byteAt, kindOf}
+use Rattle.literal.specs.Answer.{place}
 use Rattle.literal.specs.Forget.{forget}
 use Rattle.literal.specs.Literal.{value}
 use Rattle.literal.specs.Brackets.{gapAt, thenAt}
 use Rattle.literal.specs.declared.gaps.Gap.{Gap}
 use Rattle.literal.specs.declared.gaps.Gap.the-variants.{Shut, Item, Stray}
+use Rattle.dims.specs.declared.inner.Filled.{Filled}
 use Rattle.dims.specs.Answer.{dimensionsAt}
 use Rattle.dims.specs.Walk.{closingOf}
 
@@ -31,9 +33,23 @@ frontFrom rd s close (suc m) (Item p) = elim (rd p) [
   | deep a ↦ []
 ]
 
--- those of the members from a position up to the bracket
+-- the gap behind the last of them
+unfoldable pub stopFrom : (ℕ → Got Node) → List ℕ → ℕ → ℕ → Gap → Gap
+stopFrom rd s close zero g = g
+stopFrom rd s close (suc m) (Shut e) = Shut e
+stopFrom rd s close (suc m) (Stray p) = Stray p
+stopFrom rd s close (suc m) (Item p) = elim (rd p) [
+  | got v q ↦ elim (dimension (forget v)) [ gives n ↦ stopFrom rd s close m (thenAt s q close) | refused j ↦ Item p ]
+  | fault a ↦ Item p
+  | deep a ↦ Item p
+]
+
+-- those of the members from a position up to the bracket, and the gap behind them
 abbrev pub frontIn : ℕ → List ℕ → ℕ → ℕ → List ℕ
 frontIn k s from close = frontFrom (value k s) s close (length s + 2) (gapAt s from close)
+
+abbrev pub stopIn : ℕ → List ℕ → ℕ → ℕ → Gap
+stopIn k s from close = stopFrom (value k s) s close (length s + 2) (gapAt s from close)
 
 -- those of the list or tuple at a position, where k brackets more may open: all of a shape (`front-shape`, proofs/Stored.antt), none where no such
 -- bracket may stand
@@ -42,11 +58,19 @@ frontAt k s at =
     cond (eqb (closingOf (kindOf (byteAt s at))) 0 || eqb k 0) []
     (frontIn (k - 1) s (at + 1) (closingOf (kindOf (byteAt s at))))
 
--- the dimensions ns were stored, and counted
-pub record Stored (ns out : List ℕ) (r : ℕ) (out′ : List ℕ) : Type 0 where
-  pub counted : r ≡ length ns
+-- the gap behind them: shut where the value ends, of a shape (`stop-shape`, proofs/Stored.antt), and a stray byte at the position where no such bracket
+-- may stand
+unfoldable pub stopAt : ℕ → List ℕ → ℕ → Gap
+stopAt k s at =
+    cond (eqb (closingOf (kindOf (byteAt s at))) 0 || eqb k 0) (Stray at)
+    (stopIn (k - 1) s (at + 1) (closingOf (kindOf (byteAt s at))))
+
+-- the dimensions ns, behind which is the gap g, were stored and counted
+pub record Stored (ns : List ℕ) (g : Gap) (out : List ℕ) (r : Filled) (out′ : List ℕ) : Type 0 where
+  pub counted : r .rank ≡ length ns
+  pub stopped : r .stop ≡ g
   pub out-after : out′ ≡ sets out 0 ns
 
 -- what storing a shape owes
-abbrev pub Fills : Got Node → (out : List ℕ) (r : ℕ) (out′ : List ℕ) → Type 0
-Fills g out r out′ = (ns : List ℕ) → dimensionsAt g ≡ gives ns → Stored ns out r out′
+abbrev pub Fills : Got Node → (out : List ℕ) (r : Filled) (out′ : List ℕ) → Type 0
+Fills g out r out′ = (ns : List ℕ) → dimensionsAt g ≡ gives ns → Stored ns (Shut (place (pos g))) out r out′

@@ -2,20 +2,24 @@
 use Prim.Native.Nat.{ℕ}
 use mathlib.Core.Path.{_≡_}
 use mathlib.Core.List.{List}
-use Rattle.counts.specs.Outcome.{Outcome, each}
+use Rattle.counts.specs.Outcome.{Outcome, refused, then, each}
 use Rattle.record.specs.Dimensions.{dimension, dimensions}
 use Rattle.tokens.specs.Node.{Node, nodes}
-use Rattle.tokens.specs.Got.{got}
+use Rattle.tokens.specs.Got.{Got, got, fault, deep, pos}
 use Rattle.literal.specs.Forget.{forget, forgetAll}
 use Rattle.literal.specs.Literal.{value}
-use Rattle.literal.specs.Brackets.{gapAt}
-use Rattle.literal.specs.Rows.{Row}
 use Rattle.tokens.specs.declared.bytes.Kind.{Kind}
 use Rattle.tokens.specs.declared.bytes.Kind.the-variants.{Square, Round, Curly, Quote, Minus, Digit, TrueWord, FalseWord, NoneWord, Other}
+use Rattle.tokens.specs.declared.Parsed.the-variants.{Value, Fault}
+use Rattle.literal.specs.declared.gaps.Gap.{Gap}
+use Rattle.literal.specs.declared.gaps.Gap.the-variants.{Shut, Item, Stray}
+use Rattle.products.specs.declared.Outline.{Outline}
 use Rattle.products.specs.declared.Verdict.{Verdict}
+use Rattle.products.specs.declared.Verdict.the-variants.{Form}
 use Rattle.products.specs.declared.Member.{Member}
-use Rattle.products.specs.Outline.{outlineOf}
+use Rattle.products.specs.Outline.{extends}
 use Rattle.products.specs.Answer.{sized, outlined}
+use Rattle.dims.specs.declared.Judged.{Judged}
 
 -- the closing bracket of a list or a tuple, by the kind of its first byte, or 0
 abbrev pub closingOf : Kind → ℕ
@@ -38,6 +42,19 @@ dimensionsOf ns = dimensions (forgetAll (nodes ns))
 abbrev pub SizeAt : List ℕ → ℕ → Member → Type 0
 SizeAt s at r = (k : ℕ) (n : Node) (e : ℕ) → value k s at ≡ got n e → sized r ≡ dimension (forget n)
 
--- what the verdict on the members from a position up to the bracket has to be
-abbrev pub MembersFrom : ℕ → List ℕ → ℕ → ℕ → Verdict → Type 0
-MembersFrom k s from close r = (ns : List Node) (e : ℕ) → Row (value k s) s close ns (gapAt s from close) e → outlined r ≡ each outlineOf (dimensionsOf ns)
+-- the outline of the members that were read, behind those of which v is the outline; 11 where no bracket stands
+abbrev pub goesOn : Outcome Outline → Got (List Node) → Outcome Outline
+goesOn v (got ns e) = then v (λ o. each (extends o) (dimensionsOf ns))
+goesOn v (fault p) = refused 11
+goesOn v (deep p) = refused 11
+
+-- what a walk over members owes, behind those of which v is the outline
+pub record Walks (v : Outcome Outline) (g : Got (List Node)) (r : Judged) : Type 0 where
+  pub ends : r .ended ≡ pos g
+  pub says : outlined (r .verdict) ≡ goesOn v g
+
+-- how a bracket ends at a gap where no member stands, where v is the verdict on its members
+abbrev pub shutAt : Gap → Verdict → Judged
+shutAt (Shut e) v = record { ended = Value e; verdict = v }
+shutAt (Item p) v = record { ended = Fault p; verdict = Form }
+shutAt (Stray p) v = record { ended = Fault p; verdict = Form }

@@ -5,6 +5,7 @@ pub mod inner;
 use counts::Number;
 use literal::gaps::Gap;
 use literal::gaps::gap_at;
+use literal::gaps::need;
 use literal::gaps::then_at;
 use literal::value;
 use products::Member;
@@ -13,26 +14,28 @@ use products::Verdict;
 use products::inner::joined;
 use tokens::Parsed;
 use tokens::bytes::Kind;
-use tokens::bytes::kind_of;
 use tokens::bytes::peek;
-use tokens::tokens::natural;
+use tokens::tokens::numeral_at;
 ghost use mathlib.Core.Path.{_≡_};
-ghost use Prim.Native.Nat.{ℕ};
+ghost use mathlib.Core.List.{[]};
+ghost use Prim.Native.Nat.{ℕ, _≤_};
 ghost use Rattle.counts.specs.Number.{number};
-ghost use Rattle.decimal.specs.Decimal.{decimal};
+ghost use Rattle.counts.specs.Outcome.{gives};
+ghost use Rattle.decimal.specs.Decimal.{isDigit};
 ghost use Rattle.record.specs.Dimensions.{signed};
 ghost use mathlib.Core.Bool.{true, false};
+ghost use Rattle.literal.specs.Brackets.{listBy, tupleBy};
 ghost use Rattle.literal.specs.Literal.{value as valueOf};
 ghost use Rattle.tokens.specs.Got.{pos};
-ghost use Rattle.tokens.specs.Text.{part};
-ghost use Rattle.tokens.specs.Tokens.{naturalAt};
-ghost use Rattle.products.specs.Answer.{sized};
+ghost use Rattle.tokens.specs.Text.{byteAt};
+ghost use Rattle.products.specs.Answer.{sized, outlined, rankOf};
+ghost use Rattle.products.specs.Outline.{outlineOf};
 ghost use Rattle.dims.specs.Answer.{Judges};
-ghost use Rattle.dims.specs.Walk.{closingOf, SizeAt, MembersFrom};
+ghost use Rattle.dims.specs.Walk.{closingOf, SizeAt, shutAt, Walks};
 
-// Where a value ends, and what it is as a shape or sub-shape.
+// How the text of a value ends, and what it is as a shape or sub-shape.
 pub struct Judged {
-    pub end: usize,
+    pub ended: Parsed,
     pub verdict: Verdict,
 }
 
@@ -42,33 +45,110 @@ struct Item {
     size: Member,
 }
 
-// How the text of a number ends, and its number.
-struct Digits {
-    ended: Parsed,
-    number: Number,
-}
-
-// Judges the value at `at`, where `room` brackets more may open at once. Every member is looked at, and the first bad one decides.
+// Judges the value at `at` while it is read, where `room` brackets more may open at once. Every member is looked at, and the first bad one decides.
 pub fn judge(text: &[u8], at: usize, room: usize) -> Judged
-    ensures { λ r. ⌜ Judges at (valueOf room (now (text .entry)) at) r ⌝ }
+    ensures { λ r. ⌜ Judges (valueOf room (now (text .entry)) at) r ⌝ }
 {
-    let v = value(text, at, room);
-    let Parsed::Value(end) = v else {
+    let b = peek(text, at);
+    if !((b == 91) | (b == 40)) {
         return Judged {
-            end: at,
-            verdict: Verdict::Form,
-        };
-    };
-    let close = closing(kind_of(peek(text, at)));
-    if close == 0 {
-        return Judged {
-            end: end,
+            ended: value(text, at, room),
             verdict: Verdict::Form,
         };
     }
-    Judged {
-        end: end,
-        verdict: members(text, at + 1, close, room - 1),
+    if room == 0 {
+        return Judged {
+            ended: Parsed::Deep(at),
+            verdict: Verdict::Form,
+        };
+    }
+    if b == 91 {
+        return members(text, at + 1, 93, room - 1, nothing());
+    }
+    tuple(text, at + 1, room - 1)
+}
+
+// Nothing, or a member with its comma and then as in a list.
+fn tuple(text: &[u8], from: usize, room: usize) -> Judged
+    ensures { λ r. ⌜ Walks (gives (outlineOf [])) (tupleBy (valueOf room (now (text .entry))) (now (text .entry)) from) r ⌝ }
+{
+    let g = gap_at(text, from, 41);
+    let Gap::Item(p) = g else {
+        return shut(g, nothing());
+    };
+    let m = member_at(text, p, room);
+    let first = m.ended;
+    let size = m.size;
+    let Parsed::Value(q) = first else {
+        return Judged {
+            ended: first,
+            verdict: Verdict::Form,
+        };
+    };
+    let c = need(text, q, 44);
+    let Parsed::Value(e) = c else {
+        return Judged {
+            ended: c,
+            verdict: Verdict::Form,
+        };
+    };
+    members(text, e, 41, room, joined(nothing(), size))
+}
+
+// The members from `from` up to the closing bracket, behind those that `met` is the verdict on. A bad one is no end: a fault may stand behind it.
+fn members(text: &[u8], from: usize, close: u8, room: usize, met: Verdict) -> Judged
+    requires { ⌜ rankOf met ≤ from ⌝ }
+    ensures { λ r. ⌜ Walks (outlined met) (listBy (valueOf room (now (text .entry))) (now (text .entry)) from close) r ⌝ }
+{
+    let mut g = gap_at(text, from, close);
+    let mut verdict = met;
+    loop {
+        let Gap::Item(p) = g else {
+            return shut(g, verdict);
+        };
+        let m = member_at(text, p, room);
+        let ended = m.ended;
+        let size = m.size;
+        let Parsed::Value(q) = ended else {
+            return Judged {
+                ended: ended,
+                verdict: Verdict::Form,
+            };
+        };
+        verdict = joined(verdict, size);
+        g = then_at(text, q, close);
+    }
+}
+
+// The verdict on no members.
+fn nothing() -> Verdict
+    ensures { λ r. ⌜ r ≡ Verdict.Good (outlineOf []) ⌝ }
+{
+    Verdict::Good(Outline {
+        rank: 0,
+        empty: false,
+        before: Number::Is(1),
+        behind: Number::Is(1),
+    })
+}
+
+// A bracket at a gap where no member stands: its verdict where it is shut there, and a fault elsewhere.
+fn shut(g: Gap, verdict: Verdict) -> Judged
+    ensures { λ r. ⌜ r ≡ shutAt g verdict ⌝ }
+{
+    match g {
+        Gap::Shut(e) => Judged {
+            ended: Parsed::Value(e),
+            verdict: verdict,
+        },
+        Gap::Item(p) => Judged {
+            ended: Parsed::Fault(p),
+            verdict: Verdict::Form,
+        },
+        Gap::Stray(p) => Judged {
+            ended: Parsed::Fault(p),
+            verdict: Verdict::Form,
+        },
     }
 }
 
@@ -90,88 +170,41 @@ pub fn closing(k: Kind) -> u8
     }
 }
 
-// The value at `at`: how it ends, and the dimension that it is.
+// The value at `at`: how it ends, and the dimension that it is. It is asked for its digits first, as nearly every member has no sign.
 fn member_at(text: &[u8], at: usize, room: usize) -> Item
     ensures { λ r. ⌜ r .ended ≡ pos (valueOf room (now (text .entry)) at) ⌝ }
     ensures { λ r. ⌜ SizeAt (now (text .entry)) at (r .size) ⌝ }
 {
-    let k = kind_of(peek(text, at));
-    match k {
-        Kind::Digit => {
-            let d = digits_at(text, at);
-            let ended = d.ended;
-            let number = d.number;
-            Item {
-                ended: ended,
-                size: positive(number),
-            }
-        }
-        Kind::Minus => {
-            let d = digits_at(text, at + 1);
-            let ended = d.ended;
-            let number = d.number;
-            Item {
-                ended: ended,
-                size: negative(number),
-            }
-        }
-        Kind::Square
-        | Kind::Round
-        | Kind::Curly
-        | Kind::Quote
-        | Kind::TrueWord
-        | Kind::FalseWord
-        | Kind::NoneWord
-        | Kind::Other => Item {
+    let d = numeral_at(text, at);
+    let ended = d.ended;
+    let number = d.number;
+    let Parsed::Value(e) = ended else {
+        return other_at(text, at, room);
+    };
+    Item {
+        ended: Parsed::Value(e),
+        size: positive(number),
+    }
+}
+
+// The same where no digit stands.
+fn other_at(text: &[u8], at: usize, room: usize) -> Item
+    requires { ⌜ isDigit (byteAt (now text) at) ≡ false ⌝ }
+    ensures { λ r. ⌜ r .ended ≡ pos (valueOf room (now (text .entry)) at) ⌝ }
+    ensures { λ r. ⌜ SizeAt (now (text .entry)) at (r .size) ⌝ }
+{
+    if peek(text, at) != 45 {
+        return Item {
             ended: value(text, at, room),
             size: Member::Form,
-        },
+        };
     }
-}
-
-// The members from `from` up to the closing bracket.
-fn members(text: &[u8], from: usize, close: u8, room: usize) -> Verdict
-    ensures { λ r. ⌜ MembersFrom room (now (text .entry)) from close r ⌝ }
-{
-    let mut g = gap_at(text, from, close);
-    let mut verdict = Verdict::Good(Outline {
-        rank: 0,
-        empty: false,
-        before: Number::Is(1),
-        behind: Number::Is(1),
-    });
-    loop {
-        let Gap::Item(p) = g else {
-            return verdict;
-        };
-        let m = member_at(text, p, room);
-        let ended = m.ended;
-        let size = m.size;
-        let Parsed::Value(q) = ended else {
-            return verdict;
-        };
-        verdict = joined(verdict, size);
-        g = then_at(text, q, close);
-    }
-}
-
-// The digits at `at`: how they end, and the number that they write.
-fn digits_at(text: &[u8], at: usize) -> Digits
-    ensures { λ r. ⌜ r .ended ≡ naturalAt (now (text .entry)) at ⌝ }
-    ensures { λ r. ⌜ ((e : ℕ) → naturalAt (now (text .entry)) at ≡ Parsed.Value e → r .number ≡ number (decimal (part (now (text .entry)) at e))) ⌝ }
-{
-    let n = natural(text, at);
-    let Parsed::Value(e) = n else {
-        return Digits {
-            ended: n,
-            number: Number::Over,
-        };
-    };
-    let read = decimal::read(&text[at..e]);
-    let number = read.number;
-    Digits {
-        ended: n,
-        number: number,
+    let d = numeral_at(text, at + 1);
+    let ended = d.ended;
+    let number = d.number;
+    Item {
+        ended: ended,
+        size: negative(number),
     }
 }
 

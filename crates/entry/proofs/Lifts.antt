@@ -1,20 +1,21 @@
 -- Entries that move on to make room for levels. A dtype's table from another entry on is that table with its parents moved; the first entry gets the last
--- level as its parent. Then the loop that moves them, the last number first, so that none is lost. Assumes nothing.
+-- level as its parent. Then the loops that move them and tell them of it, both the last first: what stands before a run of stores can be read as it was.
+-- Assumes nothing.
 use Prim.Native.Nat.{ℕ, zero, suc, _+_, _-_, _*_, _/_, _%_, _^_, _<_, _≤_}
 use native.Mathlib.Omega.{arith}
-use mathlib.Core.Path.{_≡_, refl, sym, ap, _∙_}
+use mathlib.Core.Path.{_≡_, refl, sym, ap, subst, _∙_}
 use mathlib.Core.List.{List, [], _∷_, _++_, append-assoc}
 use mathlib.Core.Bool.{Bool, true, false, cond}
 use lib.Dec.{ltb, eqb}
 use lib.ListN.{length, getD, set, take, drop, length-set, length-drop}
-use lib.Seq.{sets, sets-eq, length-sets, length-take-le, take-at, drop-at, getD-take, getD-drop, drop-cons, drop-length}
+use lib.Seq.{sets, sets-eq, length-sets, length-take-le, take-at, drop-at, getD-take, getD-drop, drop-cons, drop-length, set-getD}
 use borrow.Author.Tests.{lt-ltb, le-ltb, eq-eqb, ne-eqb}
 use Rattle.dtype.specs.Dtype.{Dtype, Fields, plain, array, record-of, end-of-fields, field-then, sizeOf}
 use Rattle.dtype.specs.Entries.{entriesOf, entriesIn}
 use Rattle.dtype.specs.Flat.{entry-width, saturated, entryOf, numbers, flat, flats}
 use Rattle.dtype.proofs.Flat.{flat-length}
 use Rattle.record.specs.Descr.{arrays}
-use Rattle.entry.specs.Written.{movedNumber, movedFrom, lifted, sizeOver, levelled, above}
+use Rattle.entry.specs.Written.{movedNumber, movedFrom, movedOn, relinked, lifted, sizeOver, levelled, above}
 use Rattle.entry.proofs.Stores.{set-sets, getD-sets, sets-over}
 use Rattle.entry.proofs.Levels.{arrays-entries, levels-flat}
 
@@ -116,6 +117,163 @@ moved-get (n ∷ l) i by up (suc j) lt =
     let z : suc i + j ≡ i + suc j = omega arith in
     moved-get l (suc i) by up j (omega arith) ∙ ap (λ (x : ℕ). movedNumber x (getD l j 0) by up) z
 
+part-length : (l : List ℕ) (k n : ℕ) → k + n ≤ length l → length (take n (drop k l)) ≡ n
+part-length l k n le = length-take-le n (drop k l) (let m = length-drop k l in omega (arith, m))
+
+-- what a run stored
+part-of : (l : List ℕ) (k n : ℕ) (xs : List ℕ) → k + length xs ≤ length l → n ≡ length xs → take n (drop k (sets l k xs)) ≡ xs
+part-of l k n xs le hn =
+    ap (λ (y : List ℕ). take n (drop k y)) (sets-eq xs l k le ∙ append-assoc (take k l) xs (drop (k + length xs) l))
+    ∙ ap (take n) (drop-at (take k l) (xs ++ drop (k + length xs) l) k (length-take-le k l (omega arith)))
+    ∙ take-at xs (drop (k + length xs) l) n (sym hn)
+
+-- ---- a run of stores, the last first
+module _ (table0 due : List ℕ) (to : ℕ) where
+  pub record Storing (i : ℕ) (table : List ℕ) : Type 0 where
+    pub low : i ≤ length due
+    pub long : length table ≡ length table0
+    pub holds : table ≡ sets table0 (to + i) (drop i due)
+
+  storing-start : (n : ℕ) → length due ≡ n → Storing n table0
+  storing-start n hn =
+      let none : drop n due ≡ [] = ap (λ (k : ℕ). drop k due) (sym hn) ∙ drop-length due in
+      record { low = omega arith; long = refl; holds = ap (sets table0 (to + n)) (sym none) }
+
+  module _ (i j : ℕ) (hi : i ≡ suc j) (table : List ℕ) (w : Storing i table) where
+    stands : table ≡ sets table0 (suc (to + j)) (drop (suc j) due)
+    stands =
+        let more : to + i ≡ suc (to + j) = omega arith in
+        w .holds ∙ ap (λ (x : ℕ). sets table0 x (drop i due)) more ∙ ap (λ (x : ℕ). sets table0 (suc (to + j)) (drop x due)) hi
+
+    -- what stands up to the next store is as it was
+    as-it-was : (k : ℕ) → k ≤ to + j → getD table k 0 ≡ getD table0 k 0
+    as-it-was k le = ap (λ (l : List ℕ). getD l k 0) stands ∙ getD-sets table0 (suc (to + j)) k (drop (suc j) due) (omega arith)
+
+    storing-more : (n : ℕ) → n ≡ getD due j 0 → (table′ : List ℕ) → table′ ≡ set table (to + j) n → Storing j table′
+    storing-more n hn table′ ht =
+        record {
+          low = omega (arith, w .low);
+          long = ap length ht ∙ length-set table (to + j) n ∙ w .long;
+          holds = ht ∙ ap (λ (l : List ℕ). set l (to + j) n) stands ∙ set-sets table0 (to + j) n (suc (to + j)) (drop (suc j) due) (omega arith)
+              ∙ ap (λ (x : ℕ). sets table0 (to + j) (x ∷ drop (suc j) due)) hn ∙ ap (sets table0 (to + j)) (sym (drop-cons due j 0 (omega (arith, w .low))));
+        }
+
+    -- a store that would change nothing is left out
+    storing-skip : getD due j 0 ≡ getD table0 (to + j) 0 → Storing j table
+    storing-skip h = storing-more (getD due j 0) refl table (sym (ap (set table (to + j)) (h ∙ sym (as-it-was (to + j) (omega arith))) ∙ set-getD table (to + j) 0))
+
+  storing-all : (i : ℕ) (table : List ℕ) → Storing i table → i ≡ 0 → table ≡ sets table0 to due
+  storing-all i table w hi =
+      let z : to + 0 ≡ to = omega arith in
+      w .holds ∙ ap (λ (x : ℕ). sets table0 (to + x) (drop x due)) hi ∙ ap (λ (x : ℕ). sets table0 x due) z
+
+-- ---- numbers that move on
+module _ (table0 : List ℕ) (from to count : ℕ) where
+  abbrev pub Moving : ℕ → List ℕ → Type 0
+  Moving i table = Storing table0 (take count (drop from table0)) to i table
+
+  module _ (later : from ≤ to) (room : to + count ≤ length table0) where
+    run-length : length (take count (drop from table0)) ≡ count
+    run-length = part-length table0 from count (omega arith)
+
+    pub moving-start : Moving count table0
+    moving-start = storing-start table0 (take count (drop from table0)) to count run-length
+
+    pub moving-low : (i : ℕ) (table : List ℕ) → Moving i table → i ≤ count
+    moving-low i table w = omega (arith, w .low, run-length)
+
+    pub moving-more : (i j : ℕ) → i ≡ suc j → (table : List ℕ) → Moving i table → (table′ : List ℕ) → table′ ≡ set table (to + j) (getD table (from + j) 0) → Moving j table′
+    moving-more i j hi table w table′ ht =
+        storing-more table0 (take count (drop from table0)) to i j hi table w (getD table (from + j) 0)
+        (as-it-was table0 (take count (drop from table0)) to i j hi table w (from + j) (omega arith)
+        ∙ sym (getD-take count (drop from table0) j 0 (omega (arith, w .low, run-length)) ∙ getD-drop from table0 j 0))
+        table′ ht
+
+  pub moving-all : (i : ℕ) (table : List ℕ) → Moving i table → i ≡ 0 → table ≡ movedOn table0 from to count
+  moving-all i table w hi = storing-all table0 (take count (drop from table0)) to i table w hi
+
+  pub moved-on-length : length (movedOn table0 from to count) ≡ length table0
+  moved-on-length = length-sets table0 to (take count (drop from table0))
+
+-- ---- entries that are told of it
+module _ (table0 : List ℕ) (entry count by : ℕ) where
+  abbrev there : List ℕ
+  there = take (entry-width * count) (drop (entry-width * entry) table0)
+
+  abbrev told : List ℕ
+  told = movedFrom 0 by (entry - 1) there
+
+  abbrev pub Telling : ℕ → List ℕ → Type 0
+  Telling i table = Storing table0 told (entry-width * entry) i table
+
+  pub telling-all : (i : ℕ) (table : List ℕ) → Telling i table → i ≡ 0 → table ≡ relinked table0 entry count by
+  telling-all i table w hi = storing-all table0 told (entry-width * entry) i table w hi
+
+  module _ (room : entry-width * (entry + count) ≤ length table0) where
+    there-length : length there ≡ entry-width * count
+    there-length = part-length table0 (entry-width * entry) (entry-width * count) (omega arith)
+
+    told-length : length told ≡ entry-width * count
+    told-length = moved-length there 0 by (entry - 1) ∙ there-length
+
+    told-get : (j : ℕ) → j < entry-width * count → getD told j 0 ≡ movedNumber j (getD table0 (entry-width * entry + j) 0) by (entry - 1)
+    told-get j lt =
+        let z : 0 + j ≡ j = omega arith in
+        moved-get there 0 by (entry - 1) j (omega (arith, there-length)) ∙ ap (λ (x : ℕ). movedNumber x (getD there j 0) by (entry - 1)) z
+        ∙ ap (λ (x : ℕ). movedNumber j x by (entry - 1)) (getD-take (entry-width * count) (drop (entry-width * entry) table0) j 0 lt ∙ getD-drop (entry-width * entry) table0 j 0)
+
+    pub telling-start : (k : ℕ) → k ≡ count → Telling (entry-width * k) table0
+    telling-start k hk = storing-start table0 told (entry-width * entry) (entry-width * k) (told-length ∙ ap (λ (x : ℕ). entry-width * x) (sym hk))
+
+    pub telling-low : (k : ℕ) (table : List ℕ) → Telling (entry-width * k) table → k ≤ count
+    telling-low k table w = omega (arith, w .low, told-length)
+
+    -- m numbers that are neither a parent nor the first name stay
+    telling-skip : (m j : ℕ) (table : List ℕ) → ((k : ℕ) → j ≤ k → k < j + m → (k ≡ 8 → ⊥) × (k % entry-width ≡ 0 → ⊥)) → Telling (j + m) table → Telling j table
+    telling-skip zero j table stay w = let z : j + 0 ≡ j = omega arith in subst (λ (x : ℕ). Telling x table) z w
+    telling-skip (suc m) j table stay w =
+        let s = stay (j + m) (omega arith) (omega arith) in
+        let same : getD told (j + m) 0 ≡ getD table0 (entry-width * entry + (j + m)) 0 =
+        told-get (j + m) (omega (arith, w .low, told-length))
+        ∙ sym (moved-other (j + m) (getD table0 (entry-width * entry + (j + m)) 0) by (entry - 1) (λ (e : j + m ≡ 0). s .1 (ap (λ (x : ℕ). x % entry-width) e)) (s .0) (s .1)) in
+        telling-skip m j table (λ k lo hi. stay k lo (omega arith)) (storing-skip table0 told (entry-width * entry) (j + suc m) (j + m) (omega arith) table w same)
+
+    -- an entry behind the first: its parent
+    pub telling-more : (k j : ℕ) → k ≡ suc j → 0 < j → (table : List ℕ) → Telling (entry-width * k) table → (at n : ℕ) → at ≡ entry-width * (entry + j) → n ≡ saturated (getD table at 0 + by)
+        → (table′ : List ℕ) → table′ ≡ set table at n → Telling (entry-width * j) table′
+    telling-more k j hk pos table w at n hat hn table′ ht =
+        let to = entry-width * entry in
+        let i = entry-width * j in
+        let place : at ≡ to + i = omega arith in
+        let whole : entry-width * k ≡ i + 1 + 8 = omega arith in
+        let more : i + 1 ≡ suc i = omega arith in
+        let s : Telling (i + 1) table =
+        telling-skip 8 (i + 1) table (λ k lo hi. (λ (e : k ≡ 8). absurd (omega arith), λ (e : k % 9 ≡ 0). absurd (omega arith))) (subst (λ (x : ℕ). Telling x table) whole w) in
+        let read : getD table at 0 ≡ getD table0 (to + i) 0 = ap (λ (x : ℕ). getD table x 0) place ∙ as-it-was table0 told to (i + 1) i more table s (to + i) (omega arith) in
+        let is : n ≡ getD told i 0 =
+        hn ∙ ap (λ (x : ℕ). saturated (x + by)) read
+        ∙ moved-parent i (getD table0 (to + i) 0) by (entry - 1) (λ (e : i ≡ 0). absurd (omega arith)) (λ (e : i ≡ 8). absurd (omega arith)) (omega arith)
+        ∙ sym (told-get i (omega (arith, s .low, told-length))) in
+        storing-more table0 told to (i + 1) i more table s n is table′ (ht ∙ ap (λ (x : ℕ). set table x n) place)
+
+    -- the first: its name, then its parent
+    pub telling-first : (k : ℕ) → k ≡ 1 → (table : List ℕ) → Telling (entry-width * k) table → (at up : ℕ) → at ≡ entry-width * entry → up ≡ entry - 1
+        → (table1 table2 : List ℕ) → table1 ≡ set table (at + 8) 0 → table2 ≡ set table1 at up → Telling 0 table2
+    telling-first k hk table w at up hat hup table1 table2 h1 h2 =
+        let to = entry-width * entry in
+        let nine : entry-width * k ≡ suc 8 = omega arith in
+        let place : at + 8 ≡ to + 8 = omega arith in
+        let front : at ≡ to + 0 = omega arith in
+        let name : Telling 8 table1 =
+        storing-more table0 told to (entry-width * k) 8 nine table w 0
+        (moved-name 8 (getD table0 (to + 8) 0) by (entry - 1) (λ (e : 8 ≡ 0). absurd (omega arith)) refl ∙ sym (told-get 8 (omega (arith, w .low, told-length))))
+        table1 (h1 ∙ ap (λ (x : ℕ). set table x 0) place) in
+        let s : Telling 1 table1 = telling-skip 7 1 table1 (λ k lo hi. (λ (e : k ≡ 8). absurd (omega arith), λ (e : k % 9 ≡ 0). absurd (omega arith))) name in
+        storing-more table0 told to 1 0 refl table1 s up
+        (hup ∙ moved-first 0 (getD table0 (to + 0) 0) by (entry - 1) refl ∙ sym (told-get 0 (omega (arith, s .low, told-length))))
+        table2 (h2 ∙ ap (λ (x : ℕ). set table1 x up) front)
+
+-- ---- both
 module _ (table0 : List ℕ) (entry count by : ℕ) where
   abbrev old : List ℕ
   old = take (entry-width * count) (drop (entry-width * entry) table0)
@@ -136,48 +294,16 @@ module _ (table0 : List ℕ) (entry count by : ℕ) where
       go true = refl
       go false = length-sets table0 (entry-width * (entry + by)) due
 
-  pub record Lifting (i : ℕ) (table : List ℕ) : Type 0 where
-    pub low : i ≤ entry-width * count
-    pub long : length table ≡ length table0
-    pub holds : table ≡ sets table0 (entry-width * (entry + by) + i) (drop i due)
-
-  module _ (room : entry + by + count ≤ length table0 / entry-width) where
-    old-length : length old ≡ entry-width * count
-    old-length = length-take-le (entry-width * count) (drop (entry-width * entry) table0) (let n = length-drop (entry-width * entry) table0 in omega (arith, n))
-
-    due-length : length due ≡ entry-width * count
-    due-length = moved-length old 0 by (entry + by - 1) ∙ old-length
-
-    pub lifting-start : Lifting (entry-width * count) table0
-    lifting-start =
-        let none : drop (entry-width * count) due ≡ [] = ap (λ (n : ℕ). drop n due) (sym due-length) ∙ drop-length due in
-        record { low = omega arith; long = refl; holds = ap (sets table0 (entry-width * (entry + by) + entry-width * count)) (sym none) }
-
-    pub lifting-more : (i j : ℕ) (table : List ℕ) → Lifting i table → i ≡ suc j → (n : ℕ) → n ≡ movedNumber j (getD table (entry-width * entry + j) 0) by (entry + by - 1)
-        → (table′ : List ℕ) → table′ ≡ set table (entry-width * (entry + by) + j) n → Lifting j table′
-    lifting-more i j table w hi n hn table′ ht =
-        let to = entry-width * (entry + by) in
-        let more : to + i ≡ suc (to + j) = omega arith in
-        let stands : table ≡ sets table0 (suc (to + j)) (drop (suc j) due) = w .holds ∙ ap (λ (x : ℕ). sets table0 x (drop i due)) more ∙ ap (λ (x : ℕ). sets table0 (suc (to + j)) (drop x due)) hi in
-        let same : getD table (entry-width * entry + j) 0 ≡ getD old j 0 =
-        ap (λ (l : List ℕ). getD l (entry-width * entry + j) 0) stands
-        ∙ getD-sets table0 (suc (to + j)) (entry-width * entry + j) (drop (suc j) due) (omega arith)
-        ∙ sym (getD-take (entry-width * count) (drop (entry-width * entry) table0) j 0 (omega (arith, w .low)) ∙ getD-drop (entry-width * entry) table0 j 0) in
-        let z : 0 + j ≡ j = omega arith in
-        let is : n ≡ getD due j 0 =
-        hn ∙ ap (λ (x : ℕ). movedNumber j x by (entry + by - 1)) same ∙ ap (λ (x : ℕ). movedNumber x (getD old j 0) by (entry + by - 1)) (sym z)
-        ∙ sym (moved-get old 0 by (entry + by - 1) j (omega (arith, w .low, old-length))) in
-        record {
-          low = omega (arith, w .low);
-          long = ap length ht ∙ length-set table (to + j) n ∙ w .long;
-          holds = ht ∙ ap (λ (l : List ℕ). set l (to + j) n) stands ∙ set-sets table0 (to + j) n (suc (to + j)) (drop (suc j) due) (omega arith)
-              ∙ ap (λ (x : ℕ). sets table0 (to + j) (x ∷ drop (suc j) due)) is ∙ ap (sets table0 (to + j)) (sym (drop-cons due j 0 (omega (arith, w .low, due-length))));
-        }
-
-    pub lifting-all : (i : ℕ) (table : List ℕ) → Lifting i table → i ≡ 0 → table ≡ lifted table0 entry count by
-    lifting-all i table w hi =
-        let z : entry-width * (entry + by) + 0 ≡ entry-width * (entry + by) = omega arith in
-        w .holds ∙ ap (λ (x : ℕ). sets table0 (entry-width * (entry + by) + x) (drop x due)) hi ∙ ap (λ (x : ℕ). sets table0 x due) z ∙ sym (lifted-room room)
+  -- moved on, and then told of it
+  pub lifted-by : entry + by + count ≤ length table0 / entry-width → (table1 table2 : List ℕ) → table1 ≡ movedOn table0 (entry-width * entry) (entry-width * (entry + by)) (entry-width * count)
+      → table2 ≡ relinked table1 (entry + by) count by → table2 ≡ lifted table0 entry count by
+  lifted-by room table1 table2 h1 h2 =
+      let to = entry-width * (entry + by) in
+      let up = entry + by - 1 in
+      let long : length old ≡ entry-width * count = part-length table0 (entry-width * entry) (entry-width * count) (omega arith) in
+      let part : take (entry-width * count) (drop to (sets table0 to old)) ≡ old = part-of table0 to (entry-width * count) old (omega (arith, long)) (sym long) in
+      h2 ∙ ap (λ (l : List ℕ). relinked l (entry + by) count by) h1 ∙ ap (λ (l : List ℕ). sets (sets table0 to old) to (movedFrom 0 by up l)) part
+      ∙ sets-over table0 to old (movedFrom 0 by up old) (omega (arith, moved-length old 0 by up)) ∙ sym (lifted-room room)
 
 -- ---- the levels above a type that was lifted
 pub over-none : (ns : List ℕ) (entry up m last size : ℕ) (table : List ℕ) → length ns ≡ 0 → (size ≡ sizeOver ns size) × (table ≡ above ns entry up m last size table)
@@ -190,13 +316,6 @@ over-some [] entry up m last size table h count last′ table1 table2 hc hl h1 h
 over-some (n ∷ ns) entry up m last size table h count last′ table1 table2 hc hl h1 h2 =
     h2 ∙ ap (levelled (n ∷ ns) entry up m last′ size) (h1 ∙ ap (λ (x : ℕ). lifted table entry x (suc (length ns))) hc)
     ∙ ap (λ (x : ℕ). levelled (n ∷ ns) entry up m x size (lifted table entry (last - entry) (suc (length ns)))) hl
-
--- what a run stored
-part-of : (l : List ℕ) (k n : ℕ) (xs : List ℕ) → k + length xs ≤ length l → n ≡ length xs → take n (drop k (sets l k xs)) ≡ xs
-part-of l k n xs le hn =
-    ap (λ (y : List ℕ). take n (drop k y)) (sets-eq xs l k le ∙ append-assoc (take k l) xs (drop (k + length xs) l))
-    ∙ ap (take n) (drop-at (take k l) (xs ++ drop (k + length xs) l) k (length-take-le k l (omega arith)))
-    ∙ take-at xs (drop (k + length xs) l) n (sym hn)
 
 pub above-flat : (ns : List ℕ) (d : Dtype) (entry up m last size : ℕ) (old : List ℕ) → size ≡ saturated (sizeOf d) → last ≡ entry + entriesOf d → entry-width * (last + length ns) ≤ length old → length old < 2 ^ 64
     → above ns entry up m last size (sets old (entry-width * entry) (flat d entry up m [])) ≡ sets old (entry-width * entry) (flat (arrays ns d) entry up m [])

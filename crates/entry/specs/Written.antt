@@ -64,6 +64,15 @@ abbrev pub movedFrom : (i by up : ℕ) → List ℕ → List ℕ
 movedFrom i by up [] = []
 movedFrom i by up (n ∷ l) = movedNumber i n by up ∷ movedFrom (suc i) by up l
 
+-- a table in which so many numbers from `from` on stand from `to` on too
+abbrev pub movedOn : (table : List ℕ) (from to count : ℕ) → List ℕ
+movedOn table from to count = sets table to (take count (drop from table))
+
+-- a table in which so many entries from `entry` on, which moved on by `by` to there, stand below the entry before them
+abbrev pub relinked : (table : List ℕ) (entry count by : ℕ) → List ℕ
+relinked table entry count by =
+    sets table (entry-width * entry) (movedFrom 0 by (entry - 1) (take (entry-width * count) (drop (entry-width * entry) table)))
+
 -- a table in which so many entries from `entry` on stand `by` later, below the entry before them, where it has room for that
 abbrev pub lifted : (table : List ℕ) (entry count by : ℕ) → List ℕ
 lifted table entry count by =

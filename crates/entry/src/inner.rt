@@ -13,10 +13,11 @@ use type_str::TypeRead;
 use type_str::TypeStr;
 use units::TimeUnits;
 ghost use mathlib.Core.Path.{_≡_};
-ghost use Prim.Native.Nat.{_+_, _-_};
+ghost use Prim.Native.Nat.{_+_, _-_, _*_, _≤_};
+ghost use lib.ListN.{length};
 ghost use Rattle.dtype.specs.Dtype.{plain, sizeOf};
-ghost use Rattle.dtype.specs.Flat.{saturated, entryOf};
-ghost use Rattle.entry.specs.Written.{noType, typeIn, put, bare, upOf, nameOf, sizeOver, levelled, movedNumber, lifted, above};
+ghost use Rattle.dtype.specs.Flat.{saturated, entryOf, entry-width};
+ghost use Rattle.entry.specs.Written.{noType, typeIn, put, bare, upOf, nameOf, sizeOver, levelled, movedOn, relinked, lifted, above};
 
 // The type that was read.
 pub fn type_of(r: TypeRead) -> TypeStr
@@ -113,7 +114,7 @@ pub fn put_over(
     put_levels(table, entry, up, name, shape, last, size)
 }
 
-// Moves so many entries from `entry` on, the last number first.
+// Moves so many entries from `entry` on, and lets the numbers in them follow.
 fn lift(table: &mut [u64], entry: usize, count: usize, by: usize)
     ensures { λ _. ⌜ now (table .exit) ≡ lifted (now (table .entry)) entry count by ⌝ }
 {
@@ -127,30 +128,38 @@ fn lift(table: &mut [u64], entry: usize, count: usize, by: usize)
     if all - count - by < entry {
         return;
     }
-    let from = ENTRY * entry;
-    let to = ENTRY * (entry + by);
-    let head = from_to(1, entry + by);
-    let mut i = ENTRY * count;
+    move_on(table, ENTRY * entry, ENTRY * (entry + by), ENTRY * count);
+    relink(table, entry + by, count, by);
+}
+
+// Moves so many numbers, the last first, so that none is lost.
+fn move_on(table: &mut [u64], from: usize, to: usize, count: usize)
+    requires { ⌜ (from ≤ to) × (to + count ≤ length (now table)) ⌝ }
+    ensures { λ _. ⌜ now (table .exit) ≡ movedOn (now (table .entry)) from to count ⌝ }
+{
+    let mut i = count;
     while 0 < i {
         i -= 1;
-        table[to + i] = moved(i, table[from + i], by as u64, head);
+        table[to + i] = table[from + i];
     }
 }
 
-// Number i of entries that move, which was n.
-fn moved(i: usize, n: u64, by: u64, up: u64) -> u64
-    ensures { λ r. ⌜ r ≡ movedNumber i n by up ⌝ }
+// Tells so many entries that they have moved on by `by` to `entry`. The first comes below the entry before it, and has no name.
+fn relink(table: &mut [u64], entry: usize, count: usize, by: usize)
+    requires { ⌜ entry-width * (entry + count) ≤ length (now table) ⌝ }
+    ensures { λ _. ⌜ now (table .exit) ≡ relinked (now (table .entry)) entry count by ⌝ }
 {
-    if i == 0 {
-        return up;
+    let mut k = count;
+    while 1 < k {
+        k -= 1;
+        let i = ENTRY * (entry + k);
+        table[i] = held_sum(table[i], by as u64);
     }
-    if i == 8 {
-        return 0;
+    if k == 1 {
+        let first = ENTRY * entry;
+        table[first + 8] = 0;
+        table[first] = from_to(1, entry);
     }
-    if i % ENTRY == 0 {
-        return held_sum(n, by);
-    }
-    n
 }
 
 // Writes the levels of a sub-shape above the type whose entries end before `stop`, from the innermost on, and answers their size.

@@ -6,10 +6,10 @@ use native.Mathlib.Omega.{arith}
 use mathlib.Core.Path.{_≡_, refl, sym, ap, subst, _∙_}
 use mathlib.Core.List.{List, [], _∷_}
 use mathlib.Core.Bool.{Bool, true, false, _||_, _&&_, cond, not}
-use lib.ListN.{length, take, drop, getD}
+use lib.ListN.{length, take, drop}
 use lib.Seq.{drop-cons}
 use lib.Dec.{eqb, ltb}
-use borrow.Author.Tests.{eqb-true, ltb-true, le-ltb}
+use borrow.Author.Tests.{eqb-true, ltb-true, ltb-false, le-ltb}
 use Rattle.counts.specs.Outcome.{Outcome, gives, refused, then, unless}
 use Rattle.counts.specs.Same.{same}
 use Rattle.grammar.specs.Bytes.{isBreak, isEscape, unescape}
@@ -18,7 +18,6 @@ use Rattle.tokens.specs.Text.{byteAt}
 use Rattle.tokens.specs.Strings.{Spelled, escapeAt, pieceBy, pieceAt, ends, heard, pieces, spelled, scanned}
 use Rattle.tokens.specs.declared.Parsed.the-variants.{Value, Fault}
 use Rattle.tokens.specs.declared.strings.Scan.{Scan}
-use Rattle.tokens.proofs.Positions.{getD-any}
 use Rattle.tokens.specs.declared.strings.Piece.{Piece}
 use Rattle.tokens.specs.declared.strings.Piece.the-variants.{Close, Byte, Bad}
 use Rattle.spelling.specs.declared.Endianness.{Endianness}
@@ -264,7 +263,7 @@ pub type-special : (q : ℕ) (s : List ℕ) (from : ℕ) → spelled q s from .e
 unfolding typeString
 type-special q s from h = rw (typeString, syntax-special (spelled q s from .bytes) (odd-string q s from h)) refl
 
--- past the end of the text no string begins
+-- past the end of the text no piece stands
 out-piece : (q : ℕ) (s : List ℕ) (at : ℕ) → length s ≤ at → pieceAt q s at ≡ Bad at
 unfolding pieceAt
 out-piece q s at h = ap (λ (t : Bool). cond t (pieceBy q s at) (Bad at)) (le-ltb at (length s) h)
@@ -286,29 +285,32 @@ no-type : typeString [] ≡ refused 15
 unfolding typeString syntax
 no-type = refl
 
-pub type-outside : (s : List ℕ) (at : ℕ) → length s ≤ at → refused 15 ≡ typeString (spelled (byteAt s at) s (at + 1) .bytes)
+-- a string that would begin past the end of the text is no type string
+type-outside : (q : ℕ) (s : List ℕ) (from : ℕ) → length s ≤ from → refused 15 ≡ typeString (spelled q s from .bytes)
 unfolding spelled
-type-outside s at h = sym (ap typeString (none-pieces (byteAt s at) s (length s + 1) (at + 1) (omega arith)) ∙ no-type)
+type-outside q s from h = sym (ap typeString (none-pieces q s (length s + 1) from h) ∙ no-type)
 
--- ---- a type string, as the code scans it: the quote is read where the text has it
-module _ (s : List ℕ) (at : ℕ) (lt : at < length s) (r : Scan) (hr : r ≡ scanned (spelled (getD s at 0) s (at + 1))) where
-  scanned-is : r ≡ scanned (spelled (byteAt s at) s (at + 1))
-  scanned-is = hr ∙ ap (λ (b : ℕ). scanned (spelled b s (at + 1))) (getD-any s at 0 256 lt)
+-- ---- a type string, as the code scans it
+module _ (q : ℕ) (s : List ℕ) (from : ℕ) (r : Scan) (hr : r ≡ scanned (spelled q s from)) where
+  scanned-length : r .len ≡ length (spelled q s from .bytes)
+  scanned-length = ap (λ (x : Scan). x .len) hr
 
-  pub scanned-length : r .len ≡ length (spelled (byteAt s at) s (at + 1) .bytes)
-  scanned-length = ap (λ (x : Scan). x .len) scanned-is
+  pub escaped-says : (r .escape || ltb (length s) from) ≡ true → refused 15 ≡ typeString (spelled q s from .bytes)
+  escaped-says h =
+      or-elim (r .escape) (ltb (length s) from) h
+      (λ k. sym (type-special q s from (sym (ap (λ (x : Scan). x .escape) hr) ∙ k)))
+      (λ k. let lt = ltb-true (length s) from k in type-outside q s from (omega arith))
 
-  pub escaped-says : r .escape ≡ true → typeString (spelled (byteAt s at) s (at + 1) .bytes) ≡ refused 15
-  escaped-says h = type-special (byteAt s at) s (at + 1) (sym (ap (λ (x : Scan). x .escape) scanned-is) ∙ h)
+  raw-here : (r .escape || ltb (length s) from) ≡ false
+      → (spelled q s from .bytes ≡ take (length (spelled q s from .bytes)) (drop from s)) × (from + length (spelled q s from .bytes) ≤ length s)
+  raw-here h =
+      let two = or-none (r .escape) (ltb (length s) from) h in
+      raw-string q s from (ltb-false (length s) from (two .1)) (sym (ap (λ (x : Scan). x .escape) hr) ∙ two .0)
 
-  raw-here : r .escape ≡ false
-      → (spelled (byteAt s at) s (at + 1) .bytes ≡ take (length (spelled (byteAt s at) s (at + 1) .bytes)) (drop (at + 1) s)) × (at + 1 + length (spelled (byteAt s at) s (at + 1) .bytes) ≤ length s)
-  raw-here h = raw-string (byteAt s at) s (at + 1) (omega arith) (sym (ap (λ (x : Scan). x .escape) scanned-is) ∙ h)
-
-  pub raw-inside : r .escape ≡ false → at + 1 + r .len ≤ length s
+  pub raw-inside : (r .escape || ltb (length s) from) ≡ false → from + r .len ≤ length s
   raw-inside h = omega (arith, raw-here h .1, scanned-length)
 
-  pub raw-says : r .escape ≡ false → take (at + 1 + r .len - (at + 1)) (drop (at + 1) s) ≡ spelled (byteAt s at) s (at + 1) .bytes
+  pub raw-says : (r .escape || ltb (length s) from) ≡ false → take (from + r .len - from) (drop from s) ≡ spelled q s from .bytes
   raw-says h =
-      let e : at + 1 + r .len - (at + 1) ≡ length (spelled (byteAt s at) s (at + 1) .bytes) = omega (arith, scanned-length) in
-      ap (λ (n : ℕ). take n (drop (at + 1) s)) e ∙ sym (raw-here h .0)
+      let e : from + r .len - from ≡ length (spelled q s from .bytes) = omega (arith, scanned-length) in
+      ap (λ (n : ℕ). take n (drop from s)) e ∙ sym (raw-here h .0)

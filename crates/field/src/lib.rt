@@ -2,7 +2,6 @@
 // a list (a record). Each record item is a list or tuple of 2 or 3"). These serve our own crates. No function here has a `requires`.
 use dims::closing;
 use literal::gaps::Gap;
-use literal::value;
 use tokens::Parsed;
 use tokens::bytes::Kind;
 use tokens::bytes::kind_of;
@@ -11,14 +10,10 @@ use tokens::strings::scan_at;
 use type_read::parse;
 use type_str::TypeRead;
 ghost use mathlib.Core.Path.{_≡_};
-ghost use Prim.Native.Nat.{_+_};
 ghost use Rattle.type_str.specs.Answer.{answer};
 ghost use Rattle.type_str.specs.TypeString.{typeString};
-ghost use Rattle.tokens.specs.Got.{pos};
 ghost use Rattle.tokens.specs.Text.{byteAt, kindOf};
 ghost use Rattle.tokens.specs.Strings.{spelled};
-ghost use Rattle.literal.specs.Answer.{place};
-ghost use Rattle.literal.specs.Literal.{value as valueOf};
 ghost use Rattle.dims.specs.Walk.{closingOf};
 ghost use Rattle.field.specs.Begins.{isString, gapPlace};
 
@@ -48,18 +43,6 @@ pub fn closing_at(text: &[u8], at: usize) -> u8
     closing(kind_of(peek(text, at)))
 }
 
-// Where the value at `at` ends, or its fault.
-pub fn end_of(text: &[u8], at: usize, room: usize) -> usize
-    ensures { λ r. ⌜ r ≡ place (pos (valueOf room (now (text .entry)) at)) ⌝ }
-{
-    let r = value(text, at, room);
-    match r {
-        Parsed::Value(e) => e,
-        Parsed::Fault(p) => p,
-        Parsed::Deep(p) => p,
-    }
-}
-
 // Where a bracket ends, the next item begins, or a byte stands that is neither.
 pub fn place_of(g: Gap) -> usize
     ensures { λ r. ⌜ r ≡ gapPlace g ⌝ }
@@ -71,18 +54,29 @@ pub fn place_of(g: Gap) -> usize
     }
 }
 
-// The type string at `at`: the part of the text that begins after its quote. Any escape in it is a syntax fault.
-pub fn type_at(text: &[u8], at: usize) -> TypeRead
-    ensures { λ r. ⌜ answer r ≡ typeString (spelled (byteAt (now (text .entry)) at) (now (text .entry)) (at + 1) .bytes) ⌝ }
+// How the string behind a quote ends, and what it is as a type string.
+pub struct Typed {
+    pub ended: Parsed,
+    pub read: TypeRead,
+}
+
+// The string whose first piece stands at `from`, passed over once. Where no escape stands in it, the part of the text up to its end is read as a type
+// string. Any escape in it is a syntax fault.
+pub fn typed_at(text: &[u8], from: usize, quote: u8) -> Typed
+    ensures { λ r. ⌜ r .ended ≡ spelled quote (now (text .entry)) from .ended ⌝ }
+    ensures { λ r. ⌜ answer (r .read) ≡ typeString (spelled quote (now (text .entry)) from .bytes) ⌝ }
 {
-    if text.len() <= at {
-        return TypeRead::Syntax;
-    }
-    let from = at + 1;
-    let s = scan_at(text, from, text[at]);
-    if s.escape {
-        return TypeRead::Syntax;
+    let s = scan_at(text, from, quote);
+    let ended = s.ended;
+    if s.escape | (text.len() < from) {
+        return Typed {
+            ended: ended,
+            read: TypeRead::Syntax,
+        };
     }
     let to = from + s.len;
-    parse(&text[from..to])
+    Typed {
+        ended: ended,
+        read: parse(&text[from..to]),
+    }
 }

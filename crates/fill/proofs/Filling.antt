@@ -5,7 +5,7 @@ use native.Mathlib.Omega.{arith}
 use mathlib.Core.Path.{_≡_, refl, sym, ap, subst, _∙_}
 use mathlib.Core.List.{List, [], _∷_, _++_, append-assoc}
 use mathlib.Core.Bool.{true, false}
-use lib.ListN.{length, length-append}
+use lib.ListN.{length, length-append, getD}
 use lib.Seq.{sets, length-sets}
 use denote.Enum.Declared.{tagOf}
 use types.Run.{OneOf}
@@ -17,11 +17,11 @@ use Rattle.dtype.specs.Names.{nameBytes, nameBytesIn, namesOf, namesIn}
 use Rattle.dtype.specs.Flat.{entry-width, saturated, entryOf, numbers, flat, flats}
 use Rattle.dtype.proofs.Flat.{some-entry, flat-length, names-length}
 use Rattle.type_str.specs.declared.TypeStr.{TypeStr}
-use Rattle.type_str.specs.declared.TypeRead.{TypeRead}
 use Rattle.type_str.specs.Answer.{answer}
 use Rattle.type_str.specs.TypeString.{typeString}
 use Rattle.record.specs.Descr.{Field, arrays, descrOf, fieldOf, fieldsOf}
 use Rattle.tokens.specs.Node.{Node, nodes, string, integer, True, False, None, list, tuple, dict}
+use Rattle.tokens.specs.declared.Parsed.{Parsed}
 use Rattle.tokens.specs.Got.{Got, got, pos}
 use Rattle.literal.specs.Answer.{place}
 use Rattle.literal.specs.Forget.{forget, forgetAll}
@@ -33,13 +33,14 @@ use Rattle.literal.specs.Rows.{Row}
 use Rattle.literal.specs.declared.gaps.Gap.{Gap}
 use Rattle.literal.specs.declared.gaps.Gap.the-variants.{Item}
 use Rattle.literal.proofs.gaps.Gap.{the-type}
-use Rattle.tokens.proofs.Positions.{kind-in}
+use Rattle.tokens.proofs.Positions.{kind-in, getD-any}
 use Rattle.literal.proofs.View.{view, value-kind}
 use Rattle.literal.proofs.Rows.{row-step}
 use Rattle.literal.proofs.Ends.{Ahead, value-ahead, then-ahead}
 use Rattle.literal.proofs.Steps.{gapLeft, gap-falls}
 use Rattle.fill.specs.declared.Spot.{Spot}
 use Rattle.fill.specs.declared.Many.{Many}
+use Rattle.field.specs.declared.Typed.{Typed}
 use Rattle.field.specs.Begins.{gapPlace, isString}
 use Rattle.entry.specs.Written.{typeIn, put, bare, above}
 use Rattle.entry.proofs.Stores.{sets-append, flat-front, names-front}
@@ -61,8 +62,9 @@ false-true : {A : Type 0} → false ≡ true → A
 false-true h = absurd (let z : _≡_ {A = ℕ} 0 1 = cc in omega arith)
 
 -- what the value at `at` is, by whether a string begins there
-pub record Text (s : List ℕ) (at : ℕ) (d : Dtype) : Type 0 where
+pub record Text (s : List ℕ) (at e : ℕ) (d : Dtype) : Type 0 where
   pub inside : at < length s
+  pub ended : spelled (byteAt s at) s (at + 1) .ended ≡ Parsed.Value e
   pub t : TypeStr
   pub is : typeString (spelled (byteAt s at) s (at + 1) .bytes) ≡ gives t
   pub plainly : d ≡ plain t
@@ -77,14 +79,14 @@ pub record Listed (k : ℕ) (s : List ℕ) (at e : ℕ) (d : Dtype) : Type 0 whe
   pub recorded : d ≡ record-of fs
 
 module _ (k : ℕ) (s : List ℕ) (at e : ℕ) (d : Dtype) where
-  pub text-due : (n : Node) → value k s at ≡ got n e → descrOf (forget n) ≡ gives d → isString (kindOf (byteAt s at)) ≡ true → Text s at d
+  pub text-due : (n : Node) → value k s at ≡ got n e → descrOf (forget n) ≡ gives d → isString (kindOf (byteAt s at)) ≡ true → Text s at e d
   unfolding forget
   text-due (string x u) hv hd hq =
       let hk = value-kind k s at hv in
       let v = view k s at hv hk in
       let y : u ≡ spelled (byteAt s at) s (at + 1) .bytes = cc in
       let b = plain-back (typeString u) d hd in
-      record { inside = kind-in s at hk refl; t = b .0; is = ap typeString (sym y) ∙ b .1; plainly = b .2 }
+      record { inside = kind-in s at hk refl; ended = v .1; t = b .0; is = ap typeString (sym y) ∙ b .1; plainly = b .2 }
   text-due (integer x true n) hv hd hq = refused-gives hd
   text-due (integer x false n) hv hd hq = refused-gives hd
   text-due (True x) hv hd hq = refused-gives hd
@@ -421,13 +423,21 @@ fields-due k s at entry byte table names n e d h l =
 
 -- ---- a descr as a whole, by what stands at `at`
 module _ (k : ℕ) (s : List ℕ) (at entry up m byte : ℕ) (table names : List ℕ) (n : Node) (e : ℕ) (d : Dtype) (h : Due k s at entry table byte names n e d) where
-  pub text-whole : isString (kindOf (byteAt s at)) ≡ true → (r : TypeRead) → answer r ≡ typeString (spelled (byteAt s at) s (at + 1) .bytes) → (u : TypeStr) → u ≡ typeIn r
-      → (end : ℕ) → end ≡ place (pos (value k s at)) → (size : ℕ) → size ≡ saturated (sizeOf (plain u))
-      → (table′ : List ℕ) → table′ ≡ put table entry (entryOf (plain u) up m) → Filled e entry up m byte d table names table′ names (record { end = end; entry = entry + 1; byte = byte; size = size })
-  text-whole hq r hr u hu end he size hs table′ ht =
-      let t = text-due k s at e d n (h .stands) (h .is) hq in
-      text-filled e entry up m byte d (t .t) u table names table′ size end (t .plainly) (hu ∙ ap typeIn (read-back r (t .t) (hr ∙ t .is))) (he ∙ ap (λ (g : Got Node). place (pos g)) (h .stands)) hs
-      (ht ∙ put-room table entry (entryOf (plain u) up m) (omega (arith, h .room, some-entry d)))
+  module _ (hq : isString (kindOf (byteAt s at)) ≡ true) where
+    pub text-in : at < length s
+    text-in = text-due k s at e d n (h .stands) (h .is) hq .inside
+
+    -- the quote is read where the text has it
+    pub text-whole : (r : Typed) → (r .ended ≡ spelled (getD s at 0) s (at + 1) .ended) × (answer (r .read) ≡ typeString (spelled (getD s at 0) s (at + 1) .bytes))
+        → (u : TypeStr) → u ≡ typeIn (r .read) → (end : ℕ) → end ≡ place (r .ended) → (size : ℕ) → size ≡ saturated (sizeOf (plain u))
+        → (table′ : List ℕ) → table′ ≡ put table entry (entryOf (plain u) up m) → Filled e entry up m byte d table names table′ names (record { end = end; entry = entry + 1; byte = byte; size = size })
+    text-whole r hr u hu end he size hs table′ ht =
+        let t = text-due k s at e d n (h .stands) (h .is) hq in
+        let b = getD-any s at 0 256 (t .inside) in
+        let ended : r .ended ≡ Parsed.Value e = hr .0 ∙ ap (λ (x : ℕ). spelled x s (at + 1) .ended) b ∙ t .ended in
+        let read : answer (r .read) ≡ gives (t .t) = hr .1 ∙ ap (λ (x : ℕ). typeString (spelled x s (at + 1) .bytes)) b ∙ t .is in
+        text-filled e entry up m byte d (t .t) u table names table′ size end (t .plainly) (hu ∙ ap typeIn (read-back (r .read) (t .t) read)) (he ∙ ap place ended) hs
+        (ht ∙ put-room table entry (entryOf (plain u) up m) (omega (arith, h .room, some-entry d)))
 
   module _ (hq : isString (kindOf (byteAt s at)) ≡ false) where
     listed : Listed k s at e d

@@ -26,6 +26,7 @@ use Rattle.literal.specs.Literal.{value}
 use Rattle.dims.specs.Answer.{dimensionsAt}
 use Rattle.products.specs.Outline.{outlineOf}
 use Rattle.products.specs.declared.Outline.{Outline}
+use Rattle.dims.specs.declared.inner.Filled as dims-filled
 use Rattle.dims.specs.Fill as dims
 use Rattle.dims.proofs.Stored.{stored-over}
 use Rattle.sums.specs.declared.Totals.{Totals}
@@ -146,7 +147,7 @@ module _ (text : List ℕ) (plan : Plan) (r : Record) (h : PlanOf text (skip tex
       lent-eq a b c = cc
 
       pub house-fits :
-          (spot : Spot) (count : ℕ) (t′ n′ s′ : List ℕ) → Fills inside text (plan .descr .at) 0 0 0 0 t ns t′ n′ spot → dims.Fills (value inside text (plan .shape .at)) s count s′
+          (spot : Spot) (count : dims-filled.Filled) (t′ n′ s′ : List ℕ) → Fills inside text (plan .descr .at) 0 0 0 0 t ns t′ n′ spot → dims.Fills (value inside text (plan .shape .at)) s count s′
           → Houses r l (TextRead.Read (record { order = plan .order; rank = plan .shape .outline .rank; entries = plan .descr .totals .entries; names = plan .descr .totals .names })) (lent t′ n′ s′)
       unfolding fill-due
       house-fits spot count t′ n′ s′ f g =

@@ -21,6 +21,7 @@ use Rattle.type_str.specs.Answer.{answer}
 use Rattle.record.specs.Parts.{stringOr, membersOr}
 use Rattle.record.specs.Dimensions.{subShape}
 use Rattle.record.specs.Descr.{Field, arrays, twoOrThree, perhaps, descrOf, fieldOf, namedOf, typedOf}
+use Rattle.tokens.specs.declared.Parsed.{Parsed}
 use Rattle.tokens.specs.Node.{Node, nodes, string, integer, True, False, None, list, tuple, dict}
 use Rattle.tokens.specs.Got.{Got, got, pos}
 use Rattle.literal.specs.Answer.{place}
@@ -36,6 +37,7 @@ use Rattle.literal.proofs.gaps.Gap.{the-type}
 use Rattle.tokens.proofs.Positions.{kind-in}
 use Rattle.literal.proofs.View.{view, value-kind}
 use Rattle.dims.specs.Answer.{dimensionsAt}
+use Rattle.dims.specs.declared.inner.Filled.{Filled}
 use Rattle.dims.specs.Fill.{Stored}
 use Rattle.dims.proofs.Stored.{stored-over}
 use Rattle.entry.specs.Written.{sizeOver, above}
@@ -145,14 +147,15 @@ pub field-items : (k : ℕ) (s : List ℕ) (at e close : ℕ) (n : Node) (f : Fi
 field-items k s at e close n f b o = items-back (b .held) f (sym (field-members (forget n) ∙ ap (λ (y : Outcome Values). then y itemsOf) (b .holds 14)) ∙ o .is)
 
 -- ---- a name
-pub name-is : (k : ℕ) (s : List ℕ) (p q : ℕ) (a : Node) (w : List ℕ) → read.value k s p ≡ got a q → stringOr 14 (forget a) ≡ gives w → (w ≡ spelled (byteAt s p) s (p + 1) .bytes) × (p < length s)
+pub name-is : (k : ℕ) (s : List ℕ) (p q : ℕ) (a : Node) (w : List ℕ) → read.value k s p ≡ got a q → stringOr 14 (forget a) ≡ gives w
+    → (w ≡ spelled (byteAt s p) s (p + 1) .bytes) × (p < length s) × (spelled (byteAt s p) s (p + 1) .ended ≡ Parsed.Value q)
 unfolding forget
 name-is k s p q (string x u) w hv hs =
     let hk = value-kind k s p hv in
     let v = view k s p hv hk in
     let y : u ≡ spelled (byteAt s p) s (p + 1) .bytes = cc in
     let z : u ≡ w = cc in
-    (sym z ∙ y, kind-in s p hk refl)
+    (sym z ∙ y, kind-in s p hk refl, v .1)
 name-is k s p q (integer x minus n) w hv hs = refused-gives hs
 name-is k s p q (True x) w hv hs = refused-gives hs
 name-is k s p q (False x) w hv hs = refused-gives hs
@@ -179,7 +182,7 @@ pub record Opened (k : ℕ) (s : List ℕ) (close p1 p2 e : ℕ) (f : Field) : T
   pub shaped : perhaps (forgetAll (nodes us)) ≡ gives ns
   pub typed : f .type ≡ arrays ns d
 
-pub opened : (k : ℕ) (s : List ℕ) (at close p1 p2 e1 : ℕ) → close ≡ closingOf (kindOf (byteAt s at)) → p1 ≡ gapPlace (gapAt s (at + 1) close) → e1 ≡ place (pos (read.value (k - 1) s p1))
+pub opened : (k : ℕ) (s : List ℕ) (at close p1 p2 e1 : ℕ) → close ≡ closingOf (kindOf (byteAt s at)) → p1 ≡ gapPlace (gapAt s (at + 1) close) → e1 ≡ place (spelled (byteAt s p1) s (p1 + 1) .ended)
     → p2 ≡ gapPlace (thenAt s e1 close) → (n : Node) (e : ℕ) (f : Field) → OneField k s at n e f → Opened k s close p1 p2 e f
 opened k s at close p1 p2 e1 hc h1 he1 h2 n e f o =
     let rd = read.value (k - 1) s in
@@ -187,9 +190,9 @@ opened k s at close p1 p2 e1 hc h1 he1 h2 n e f o =
     let i = field-items k s at e close n f br o in
     let x = row-head rd s close (i .first) (i .second ∷ i .others) (gapAt s (at + 1) close) e (subst (λ (l : List Node). Row rd s close l (gapAt s (at + 1) close) e) (i .are) (br .row)) in
     let v1 : rd p1 ≡ got (i .first) (x .0) = ap rd h1 ∙ x .1 in
-    let q1 : x .0 ≡ e1 = sym (he1 ∙ ap (λ (g : Got Node). place (pos g)) v1) in
-    let y = row-head rd s close (i .second) (i .others) (thenAt s e1 close) e (subst (λ (q : ℕ). Row rd s close (i .second ∷ i .others) (thenAt s q close) e) q1 (x .2)) in
     let nm = name-is (k - 1) s p1 (x .0) (i .first) (f .name) v1 (i .named) in
+    let q1 : x .0 ≡ e1 = sym (he1 ∙ ap place (nm .2)) in
+    let y = row-head rd s close (i .second) (i .others) (thenAt s e1 close) e (subst (λ (q : ℕ). Row rd s close (i .second ∷ i .others) (thenAt s q close) e) q1 (x .2)) in
     record {
       deep = br .room;
       begins = nm .1;
@@ -258,6 +261,6 @@ module _ (k : ℕ) (s : List ℕ) (close : ℕ) (table : List ℕ) (r : Spot) (e
         }
 
 -- the dimensions at the front of a buffer that has room for them
-pub shape-front : (ns zeros out : List ℕ) (r rank : ℕ) → Stored ns zeros r out → length ns ≤ length zeros → rank ≡ r → take rank out ≡ ns
-shape-front ns zeros out r rank st le hr =
+pub shape-front : (ns : List ℕ) (g : Gap) (zeros out : List ℕ) (r : Filled) (rank : ℕ) → Stored ns g zeros r out → length ns ≤ length zeros → rank ≡ r .rank → take rank out ≡ ns
+shape-front ns g zeros out r rank st le hr =
     ap (λ (i : ℕ). take i out) (hr ∙ st .counted) ∙ ap (take (length ns)) (st .out-after ∙ stored-over ns zeros le) ∙ take-append-seam ns (drop (length ns) zeros)

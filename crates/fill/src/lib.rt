@@ -9,10 +9,9 @@ use entry::inner::put_plain;
 use entry::inner::put_record;
 use entry::inner::type_of;
 use field::closing_at;
-use field::end_of;
 use field::place_of;
 use field::string_at;
-use field::type_at;
+use field::typed_at;
 use grammar::OPEN;
 use held::held_sum;
 use judge::Judged;
@@ -21,12 +20,15 @@ use literal::gaps::Gap;
 use literal::gaps::gap_at;
 use literal::gaps::then_at;
 use refusal::Refusal;
+use tokens::Parsed;
+use tokens::strings::Scan;
 use tokens::strings::decode;
 ghost use mathlib.Core.Path.{_≡_};
 ghost use Prim.Native.Nat.{_+_, _≤_, _<_};
 ghost use lib.ListN.{length};
 ghost use lib.Seq.{sets};
-ghost use Rattle.tokens.specs.Strings.{spelled};
+ghost use Rattle.literal.specs.Answer.{place};
+ghost use Rattle.tokens.specs.Strings.{spelled, scanned};
 ghost use Rattle.dtype.specs.Record.{Record};
 ghost use Rattle.tokens.specs.Text.{byteAt, skip};
 ghost use Rattle.judge.specs.Judged.{PlanOf};
@@ -122,9 +124,12 @@ fn fill(
     ensures { λ r. ⌜ Fills room (now (text .entry)) at entry up name byte (now (table .entry)) (now (names .entry)) (now (table .exit)) (now (names .exit)) r ⌝ }
 {
     if string_at(text, at) {
-        let size = put_plain(table, entry, type_of(type_at(text, at)), up, name);
+        let t = typed_at(text, at + 1, text[at]);
+        let ended = t.ended;
+        let read = t.read;
+        let size = put_plain(table, entry, type_of(read), up, name);
         return Spot {
-            end: end_of(text, at, room),
+            end: end_place(ended),
             entry: entry + 1,
             byte: byte,
             size: size,
@@ -198,9 +203,11 @@ fn field(
     let deep = room - 1;
     let p1 = place_of(gap_at(text, at + 1, close));
     let m = name_at(text, p1, names, byte);
-    let n = m as u64;
-    let p2 = place_of(then_at(text, end_of(text, p1, deep), close));
-    let r = fill(text, p2, deep, table, entry, up, n, names, byte + m);
+    let ended = m.ended;
+    let len = m.len;
+    let n = len as u64;
+    let p2 = place_of(then_at(text, end_place(ended), close));
+    let r = fill(text, p2, deep, table, entry, up, n, names, byte + len);
     shaped(text, close, deep, r, table, entry, up, n)
 }
 
@@ -228,22 +235,35 @@ fn shaped(
         };
     };
     let mut shape: [u64; 32] = [0; 32];
-    let rank = dims::inner::fill(text, p, room, &mut shape);
+    let s = dims::inner::fill(text, p, room, &mut shape);
+    let rank = s.rank;
+    let stop = s.stop;
     let size = put_over(table, entry, up, name, &shape[..rank], r.entry, r.size);
     Spot {
-        end: place_of(then_at(text, end_of(text, p, room), close)),
+        end: place_of(then_at(text, place_of(stop), close)),
         entry: r.entry + rank,
         byte: r.byte,
         size: size,
     }
 }
 
-// The name that the string at `at` spells, from byte `byte` on, and its length.
-fn name_at(text: &[u8], at: usize, names: &mut [u8], byte: usize) -> usize
+// The name that the string at `at` spells, written from byte `byte` on: what a scan of the string tells.
+fn name_at(text: &[u8], at: usize, names: &mut [u8], byte: usize) -> Scan
     requires { ⌜ at < length (now text) ⌝ }
     requires { ⌜ byte + length (spelled (byteAt (now text) at) (now text) (at + 1) .bytes) ≤ length (now names) ⌝ }
-    ensures { λ r. ⌜ r ≡ length (spelled (byteAt (now (text .entry)) at) (now (text .entry)) (at + 1) .bytes) ⌝ }
+    ensures { λ r. ⌜ r ≡ scanned (spelled (byteAt (now (text .entry)) at) (now (text .entry)) (at + 1)) ⌝ }
     ensures { λ _. ⌜ now (names .exit) ≡ sets (now (names .entry)) byte (spelled (byteAt (now (text .entry)) at) (now (text .entry)) (at + 1) .bytes) ⌝ }
 {
     decode(text, at + 1, text[at], &mut names[byte..])
+}
+
+// Where a reading ended.
+fn end_place(p: Parsed) -> usize
+    ensures { λ r. ⌜ r ≡ place p ⌝ }
+{
+    match p {
+        Parsed::Value(e) => e,
+        Parsed::Fault(e) => e,
+        Parsed::Deep(e) => e,
+    }
 }

@@ -7,35 +7,36 @@ use Rattle.counts.specs.Outcome.{Outcome, gives, refused, then, each}
 use Rattle.grammar.specs.Value.{Value}
 use Rattle.refusal.specs.declared.Refusal.{Refusal}
 use Rattle.refusal.specs.Numbers.{numberOf}
+use Rattle.dtype.specs.Dtype.{Dtype}
 use Rattle.record.specs.Dict.{key-order, key-shape, key-descr}
 use Rattle.record.specs.Dimensions.{subShape, ranked, shapeOf}
 use Rattle.record.specs.Descr.{descrOf}
 use Rattle.record.specs.FromValue.{orderOf}
 use Rattle.tokens.specs.Node.{Node}
-use Rattle.tokens.specs.Got.{Got, got}
+use Rattle.tokens.specs.Got.{Got}
 use Rattle.literal.specs.Forget.{forget}
 use Rattle.literal.specs.Literal.{value, most-open}
 use Rattle.products.specs.Answer.{outlined}
-use Rattle.dims.specs.Answer.{valueOr, dimensionsAt}
 use Rattle.products.specs.Outline.{outlineOf}
 use Rattle.products.specs.declared.Outline.{Outline}
 use Rattle.products.specs.declared.Verdict as products
-use Rattle.keys.specs.declared.Found as found
-use Rattle.keys.specs.declared.Found.{Found}
+use Rattle.keys.specs.declared.ShapeFound as shape
+use Rattle.keys.specs.declared.ShapeFound.{ShapeFound}
+use Rattle.keys.specs.declared.DescrFound as descr
+use Rattle.keys.specs.declared.DescrFound.{DescrFound}
 use Rattle.keys.specs.declared.Declared.{Declared}
 use Rattle.keys.specs.Pairs.{nodeFor}
-use Rattle.keys.specs.Answer.{FoundIs, ordered}
+use Rattle.keys.specs.Answer.{ordered, OrderIs, ShapeFoundIs, DescrFoundIs}
 use Rattle.keys.proofs.Nodes.{node-value}
 use Rattle.sums.specs.Totals.{totalsOf}
-use Rattle.descr.specs.Judges.{Judges}
 use Rattle.sums.specs.Verdict as verdicts
 use Rattle.sums.specs.declared.Totals.{Totals}
 use Rattle.sums.specs.declared.Verdict as sums
-use Rattle.descr.specs.declared.Judged as judged
 use Rattle.sums.specs.declared.Rule.{Rule}
+use Rattle.judge.specs.declared.OrderRead.{OrderRead}
 use Rattle.judge.specs.declared.ShapeRead.{ShapeRead}
 use Rattle.judge.specs.declared.DescrRead.{DescrRead}
-use Rattle.judge.specs.Judged.{inside, neededAt, orderAt, shapeAt, dtypeAt, Counts, ShapeIs, DescrIs, RankedOf}
+use Rattle.judge.specs.Judged.{inside, neededAt, orderAt, shapeAt, dtypeAt, orderAnswer, ShapeFor, DescrFor, Counts, ShapeIs, DescrIs, RankedOf}
 
 -- ---- what `each` gives, and what it refuses
 pub each-back : {A B : Type 0} (f : A → B) (o : Outcome A) (b : B) → each f o ≡ gives b → (a : A) × (o ≡ gives a) × (f a ≡ b)
@@ -51,66 +52,83 @@ module _ (s : List ℕ) (at : ℕ) (w : List ℕ) where
   abbrev g : Got Node
   g = value most-open s at
 
-  by-node : (o : Outcome Node) (p : ℕ) → nodeFor w g ≡ o → FoundIs inside s (found.Found.At p) o → Counts s at w p
-  by-node (gives n) p e h = record { node = n; end = h .0; found = e; stands = h .1 }
-  by-node (refused m) p e h = absurd h
-
-  pub found-at : (r : Found) (p : ℕ) → FoundIs inside s r (nodeFor w g) → r ≡ found.Found.At p → Counts s at w p
-  found-at r p h e = by-node (nodeFor w g) p refl (subst (λ (x : Found). FoundIs inside s x (nodeFor w g)) e h)
-
-  none-node : (o : Outcome Node) → nodeFor w g ≡ o → FoundIs inside s found.Found.Missing o → neededAt w g ≡ refused 9
-  none-node (gives n) e h = absurd h
-  none-node (refused m) e h = sym (node-value w g) ∙ ap (each forget) (e ∙ ap refused h)
-
-  pub found-none : (r : Found) → FoundIs inside s r (nodeFor w g) → r ≡ found.Found.Missing → neededAt w g ≡ refused 9
-  found-none r h e = none-node (nodeFor w g) refl (subst (λ (x : Found). FoundIs inside s x (nodeFor w g)) e h)
-
   -- the value that counts, its places forgotten
   value-is : (p : ℕ) (v : Counts s at w p) → neededAt w g ≡ gives (forget (v .node))
   value-is p v = sym (node-value w g) ∙ ap (each forget) (v .found)
 
+  none-is : (m : ℕ) → nodeFor w g ≡ refused m → m ≡ 9 → neededAt w g ≡ refused 9
+  none-is m e h = sym (node-value w g) ∙ ap (each forget) (e ∙ ap refused h)
+
 -- ---- the order
+then-each : {A B C : Type 0} (f : A → B) (h : B → Outcome C) (o : Outcome A) → then o (λ a. h (f a)) ≡ then (each f o) h
+then-each f h (gives a) = refl
+then-each f h (refused n) = refl
+
+pub order-is : (s : List ℕ) (at : ℕ) (r : OrderRead) (x : Declared) → orderAnswer r ≡ ordered x → OrderIs x (nodeFor key-order (value most-open s at)) → orderAnswer r ≡ orderAt s at
+order-is s at r x h ho = h ∙ ho ∙ then-each forget orderOf (nodeFor key-order (value most-open s at)) ∙ ap (λ (y : Outcome Value). then y orderOf) (node-value key-order (value most-open s at))
+
 module _ (s : List ℕ) (at : ℕ) where
-  pub order-none : neededAt key-order (value most-open s at) ≡ refused 9 → refused 9 ≡ orderAt s at
-  order-none h = sym (ap (λ (x : Outcome Value). then x orderOf) h)
-
-  pub order-by : (p : ℕ) (d : Declared) → Counts s at key-order p → ordered d ≡ then (valueOr 10 (value inside s p)) orderOf → ordered d ≡ orderAt s at
-  order-by p d v h = h ∙ ap (λ (x : Got Node). then (valueOr 10 x) orderOf) (v .stands) ∙ sym (ap (λ (x : Outcome Value). then x orderOf) (value-is s at key-order p v))
-
   -- ---- the shape
-  dimensions-of : (p : ℕ) (v : Counts s at key-shape p) → dimensionsAt (value inside s p) ≡ subShape (forget (v .node))
-  dimensions-of p v = ap dimensionsAt (v .stands)
+  abbrev ShapeAt : ℕ → products.Verdict → Type 0
+  ShapeAt p x = (v : Counts s at key-shape p) × (outlined x ≡ each outlineOf (subShape (forget (v .node))))
+
+  shape-node : (o : Outcome Node) (p : ℕ) (x : products.Verdict) → nodeFor key-shape (value most-open s at) ≡ o → ShapeFoundIs inside s (shape.ShapeFound.At p x) o → ShapeAt p x
+  shape-node (gives n) p x e h = (record { node = n; end = h .0; found = e; stands = h .1 }, h .2)
+  shape-node (refused m) p x e h = absurd h
+
+  shape-found : (r : ShapeFound) (p : ℕ) (x : products.Verdict) → ShapeFor s at r → r ≡ shape.ShapeFound.At p x → ShapeAt p x
+  shape-found r p x h e = shape-node (nodeFor key-shape (value most-open s at)) p x refl (subst (ShapeFor s at) e h)
 
   shape-by : (p : ℕ) (v : Counts s at key-shape p) (o : Outcome (List ℕ)) → subShape (forget (v .node)) ≡ o → shapeAt s at ≡ then o ranked
   shape-by p v o h = ap (λ (x : Outcome Value). then x shapeOf) (value-is s at key-shape p v) ∙ ap (λ (x : Outcome (List ℕ)). then x ranked) h
 
-  pub shape-good : (p : ℕ) (x : products.Verdict) (o : Outline) (v : Counts s at key-shape p) → outlined x ≡ each outlineOf (dimensionsAt (value inside s p)) → x ≡ products.Verdict.Good o → (r : ShapeRead) → RankedOf p o r → ShapeIs s at r (shapeAt s at)
-  shape-good p x o v h e r k =
-      let b = each-back outlineOf (subShape (forget (v .node))) o (ap (each outlineOf) (sym (dimensions-of p v)) ∙ sym h ∙ ap outlined e) in
-      subst (ShapeIs s at r) (sym (shape-by p v (gives (b .0)) (b .1))) (k s at v (b .0) (sym (b .2)) (b .1))
+  pub shape-good : (f : ShapeFound) (p : ℕ) (x : products.Verdict) (o : Outline) → ShapeFor s at f → f ≡ shape.ShapeFound.At p x → x ≡ products.Verdict.Good o → (r : ShapeRead) → RankedOf p o r → ShapeIs s at r (shapeAt s at)
+  shape-good f p x o h hf e r k =
+      let v = shape-found f p x h hf in
+      let b = each-back outlineOf (subShape (forget (v .0 .node))) o (sym (v .1) ∙ ap outlined e) in
+      subst (ShapeIs s at r) (sym (shape-by p (v .0) (gives (b .0)) (b .1))) (k s at (v .0) (b .0) (sym (b .2)) (b .1))
 
-  pub shape-bad : (p : ℕ) (x : products.Verdict) (n : ℕ) (v : Counts s at key-shape p) → outlined x ≡ each outlineOf (dimensionsAt (value inside s p)) → outlined x ≡ refused n → (f : Refusal) → numberOf f ≡ n → ShapeIs s at (ShapeRead.Refused f) (shapeAt s at)
-  shape-bad p x n v h e f hf =
-      subst (ShapeIs s at (ShapeRead.Refused f))
-      (sym (shape-by p v (refused n) (each-none outlineOf (subShape (forget (v .node))) n (ap (each outlineOf) (sym (dimensions-of p v)) ∙ sym h ∙ e)))) hf
+  pub shape-bad : (f : ShapeFound) (p : ℕ) (x : products.Verdict) (n : ℕ) → ShapeFor s at f → f ≡ shape.ShapeFound.At p x → outlined x ≡ refused n → (u : Refusal) → numberOf u ≡ n → ShapeIs s at (ShapeRead.Refused u) (shapeAt s at)
+  shape-bad f p x n h hf e u hu =
+      let v = shape-found f p x h hf in
+      subst (ShapeIs s at (ShapeRead.Refused u)) (sym (shape-by p (v .0) (refused n) (each-none outlineOf (subShape (forget (v .0 .node))) n (sym (v .1) ∙ e)))) hu
 
-  pub shape-none : neededAt key-shape (value most-open s at) ≡ refused 9 → ShapeIs s at (ShapeRead.Refused Refusal.NoKey) (shapeAt s at)
-  shape-none h = subst (λ (x : Outcome Value). ShapeIs s at (ShapeRead.Refused Refusal.NoKey) (then x shapeOf)) (sym h) refl
+  shape-none-by : (o : Outcome Node) → nodeFor key-shape (value most-open s at) ≡ o → ShapeFoundIs inside s shape.ShapeFound.Missing o → shapeAt s at ≡ refused 9
+  shape-none-by (gives n) e h = absurd h
+  shape-none-by (refused m) e h = ap (λ (x : Outcome Value). then x shapeOf) (none-is s at key-shape m e h)
+
+  pub shape-none : (f : ShapeFound) → ShapeFor s at f → f ≡ shape.ShapeFound.Missing → ShapeIs s at (ShapeRead.Refused Refusal.NoKey) (shapeAt s at)
+  shape-none f h hf = subst (ShapeIs s at (ShapeRead.Refused Refusal.NoKey)) (sym (shape-none-by (nodeFor key-shape (value most-open s at)) refl (subst (ShapeFor s at) hf h))) refl
 
   -- ---- the dtype
-  verdict-of : (p : ℕ) (r : judged.Judged) (v : Counts s at key-descr p) → Judges inside s p (λ v. each totalsOf (descrOf v)) r → verdicts.verdict (r .verdict) ≡ each totalsOf (descrOf (forget (v .node)))
-  verdict-of p r v j = j .of-value (v .node) (v .end) (v .stands) .1
+  abbrev DescrAt : ℕ → sums.Verdict → Type 0
+  DescrAt p x = (v : Counts s at key-descr p) × (verdicts.verdict x ≡ each totalsOf (descrOf (forget (v .node))))
 
-  pub descr-good : (p : ℕ) (r : judged.Judged) (t : Totals) → Counts s at key-descr p → Judges inside s p (λ v. each totalsOf (descrOf v)) r → r .verdict ≡ sums.Verdict.Fits t → DescrIs s at (DescrRead.Is (record { at = p; totals = t })) (dtypeAt s at)
-  descr-good p r t v j e =
-      let b = each-back totalsOf (descrOf (forget (v .node))) t (sym (verdict-of p r v j) ∙ ap verdicts.verdict e) in
-      subst (DescrIs s at (DescrRead.Is (record { at = p; totals = t }))) (sym (ap (λ (y : Outcome Value). then y descrOf) (value-is s at key-descr p v) ∙ b .1))
-      (record { counts = v; is = b .1; totalled = sym (b .2) })
+  descr-node : (o : Outcome Node) (p : ℕ) (x : sums.Verdict) → nodeFor key-descr (value most-open s at) ≡ o → DescrFoundIs inside s (descr.DescrFound.At p x) o → DescrAt p x
+  descr-node (gives n) p x e h = (record { node = n; end = h .0; found = e; stands = h .1 }, h .2)
+  descr-node (refused m) p x e h = absurd h
 
-  pub descr-bad : (p : ℕ) (r : judged.Judged) (u : Rule) → Counts s at key-descr p → Judges inside s p (λ v. each totalsOf (descrOf v)) r → r .verdict ≡ sums.Verdict.Bad u → (f : Refusal) → numberOf f ≡ verdicts.numberOf u → DescrIs s at (DescrRead.Refused f) (dtypeAt s at)
-  descr-bad p r u v j e f hf =
-      subst (DescrIs s at (DescrRead.Refused f))
-      (sym (ap (λ (y : Outcome Value). then y descrOf) (value-is s at key-descr p v) ∙ each-none totalsOf (descrOf (forget (v .node))) (verdicts.numberOf u) (sym (verdict-of p r v j) ∙ ap verdicts.verdict e))) hf
+  descr-found : (r : DescrFound) (p : ℕ) (x : sums.Verdict) → DescrFor s at r → r ≡ descr.DescrFound.At p x → DescrAt p x
+  descr-found r p x h e = descr-node (nodeFor key-descr (value most-open s at)) p x refl (subst (DescrFor s at) e h)
 
-  pub descr-none : neededAt key-descr (value most-open s at) ≡ refused 9 → DescrIs s at (DescrRead.Refused Refusal.NoKey) (dtypeAt s at)
-  descr-none h = subst (λ (x : Outcome Value). DescrIs s at (DescrRead.Refused Refusal.NoKey) (then x descrOf)) (sym h) refl
+  descr-value : (p : ℕ) (v : Counts s at key-descr p) (o : Outcome Dtype) → descrOf (forget (v .node)) ≡ o → dtypeAt s at ≡ o
+  descr-value p v o h = ap (λ (y : Outcome Value). then y descrOf) (value-is s at key-descr p v) ∙ h
+
+  pub descr-good : (f : DescrFound) (p : ℕ) (x : sums.Verdict) (t : Totals) → DescrFor s at f → f ≡ descr.DescrFound.At p x → x ≡ sums.Verdict.Fits t → DescrIs s at (DescrRead.Is (record { at = p; totals = t })) (dtypeAt s at)
+  descr-good f p x t h hf e =
+      let v = descr-found f p x h hf in
+      let b = each-back totalsOf (descrOf (forget (v .0 .node))) t (sym (v .1) ∙ ap verdicts.verdict e) in
+      subst (DescrIs s at (DescrRead.Is (record { at = p; totals = t }))) (sym (descr-value p (v .0) (gives (b .0)) (b .1))) (record { counts = v .0; is = b .1; totalled = sym (b .2) })
+
+  pub descr-bad : (f : DescrFound) (p : ℕ) (x : sums.Verdict) (u : Rule) → DescrFor s at f → f ≡ descr.DescrFound.At p x → x ≡ sums.Verdict.Bad u → (w : Refusal) → numberOf w ≡ verdicts.numberOf u → DescrIs s at (DescrRead.Refused w) (dtypeAt s at)
+  descr-bad f p x u h hf e w hw =
+      let v = descr-found f p x h hf in
+      subst (DescrIs s at (DescrRead.Refused w))
+      (sym (descr-value p (v .0) (refused (verdicts.numberOf u)) (each-none totalsOf (descrOf (forget (v .0 .node))) (verdicts.numberOf u) (sym (v .1) ∙ ap verdicts.verdict e)))) hw
+
+  descr-none-by : (o : Outcome Node) → nodeFor key-descr (value most-open s at) ≡ o → DescrFoundIs inside s descr.DescrFound.Missing o → dtypeAt s at ≡ refused 9
+  descr-none-by (gives n) e h = absurd h
+  descr-none-by (refused m) e h = ap (λ (x : Outcome Value). then x descrOf) (none-is s at key-descr m e h)
+
+  pub descr-none : (f : DescrFound) → DescrFor s at f → f ≡ descr.DescrFound.Missing → DescrIs s at (DescrRead.Refused Refusal.NoKey) (dtypeAt s at)
+  descr-none f h hf = subst (DescrIs s at (DescrRead.Refused Refusal.NoKey)) (sym (descr-none-by (nodeFor key-descr (value most-open s at)) refl (subst (DescrFor s at) hf h))) refl

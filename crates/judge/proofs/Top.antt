@@ -27,12 +27,12 @@ use Rattle.tokens.specs.Node.{Node}
 use Rattle.tokens.specs.Got.{Got, got, fault, deep, pos}
 use Rattle.literal.specs.Forget.{forget, forgot}
 use Rattle.tokens.specs.Text.{skip}
-use Rattle.literal.specs.Literal.{value, alone, literalOf, most-open}
+use Rattle.literal.specs.Literal.{value, alone, aloneAt, literalOf, most-open}
 use Rattle.tokens.specs.declared.Parsed as parsed
 use Rattle.literal.proofs.Meaning.{literal-means}
+use Rattle.literal.proofs.Steps.{alone-at, literal-is}
 use Rattle.dims.specs.Answer.{valueOr}
-use Rattle.keys.specs.Pairs.{nodeFor, keyed, keyedAt}
-use Rattle.keys.specs.Answer.{KeysAre}
+use Rattle.keys.specs.Pairs.{keyed, keyedAt}
 use Rattle.keys.specs.declared.Places.{Places}
 use Rattle.keys.specs.declared.KeysRead.{KeysRead}
 use Rattle.judge.specs.declared.Shape.{Shape}
@@ -41,7 +41,7 @@ use Rattle.judge.specs.declared.Judged.{Judged}
 use Rattle.judge.specs.declared.OrderRead.{OrderRead}
 use Rattle.judge.specs.declared.ShapeRead.{ShapeRead}
 use Rattle.judge.specs.declared.DescrRead.{DescrRead}
-use Rattle.judge.specs.Judged.{reading, inside, neededAt, orderAt, shapeAt, dtypeAt, behindShape, behindOrder, orderAnswer, KeysIn, ShapeOf, ShapeIs, DescrOf, DescrIs, JudgedIs}
+use Rattle.judge.specs.Judged.{reading, neededAt, orderAt, shapeAt, dtypeAt, behindShape, behindOrder, orderAnswer, KeysIn, KeysSay, ShapeOf, ShapeIs, DescrOf, DescrIs, JudgedIs}
 
 -- the reading that is meant keeps the promise
 pub reading-keeps : Keeps reading
@@ -122,15 +122,11 @@ module _ (text : List ℕ) (at : ℕ) where
   abbrev pub recordAt : Outcome Record
   recordAt = then (valueOr 8 (value most-open text at)) recordOf
 
-  -- what `keys` says of the dict
-  abbrev pub KeysSay : KeysRead → Type 0
-  KeysSay r = KeysAre inside text r (keyedAt (value most-open text at)) (λ w. nodeFor w (value most-open text at))
+  pub keys-read : (r : KeysRead) (x : Places) → KeysSay text at r → r ≡ KeysRead.Read x → (keyedAt (value most-open text at) ≡ true) × KeysIn text at x
+  keys-read r x h e = subst (KeysSay text at) e h
 
-  pub keys-read : (r : KeysRead) (x : Places) → KeysSay r → r ≡ KeysRead.Read x → (keyedAt (value most-open text at) ≡ true) × KeysIn text at x
-  keys-read r x h e = subst KeysSay e h
-
-  pub not-dict : (r : KeysRead) → KeysSay r → r ≡ KeysRead.NotDict → recordAt ≡ refused 8
-  not-dict r h e = unkeyed-at (value most-open text at) (subst KeysSay e h)
+  pub not-dict : (r : KeysRead) → KeysSay text at r → r ≡ KeysRead.NotDict → recordAt ≡ refused 8
+  not-dict r h e = unkeyed-at (value most-open text at) (subst (KeysSay text at) e h)
 
   pub with-order : (r : Judged) (o : Order) (x : OrderRead) → keyedAt (value most-open text at) ≡ true → orderAnswer x ≡ orderAt text at → x ≡ OrderRead.Is o → JudgedIs text at r (behindOrder text at o) → JudgedIs text at r recordAt
   with-order r o x h ho e k =
@@ -168,6 +164,10 @@ module _ (s : List ℕ) (well : gives tt ≡ utf8 s) where
       go false e k = absurd (let z : _≡_ {A = ℕ} 0 1 = cc in omega arith)
   by-value (fault q) p h = absurd (let z : _≡_ {A = ℕ} 0 1 = cc in omega arith)
   by-value (deep q) p h = absurd (let z : _≡_ {A = ℕ} 0 1 = cc in omega arith)
+
+  -- how the value ended, and then the text
+  pub ended-so : (end x : parsed.Parsed) (at : ℕ) → at ≡ skip s 0 → end ≡ pos (value most-open s at) → x ≡ aloneAt s end → x ≡ pos (literalOf s)
+  ended-so end x at ha he hx = hx ∙ ap (aloneAt s) he ∙ alone-at s (value most-open s at) ∙ ap pos (literal-is s at ha)
 
   pub fault-record : (p : ℕ) → parsed.Parsed.Fault p ≡ pos (literalOf s) → recordIn reading s ≡ refused 6
   fault-record p h = past-utf8 ∙ by-fault (literalOf s) p h

@@ -15,7 +15,7 @@ use Rattle.record.specs.Parts.{itemsOr}
 use Rattle.record.specs.Dict.{key-order, key-shape, key-descr, needed}
 use Rattle.record.specs.Dimensions.{subShape, ranked, shapeOf}
 use Rattle.record.specs.Descr.{descrOf}
-use Rattle.record.specs.FromValue.{orderOf}
+use Rattle.record.specs.FromValue.{orderOf, recordOf}
 use Rattle.record.specs.Header.{Reading}
 use Rattle.tokens.specs.Node.{Node}
 use Rattle.tokens.specs.Got.{Got, got}
@@ -24,10 +24,12 @@ use Rattle.literal.specs.Literal.{value, literalOf, most-open}
 use Rattle.dims.specs.Answer.{valueOr}
 use Rattle.products.specs.Outline.{outlineOf}
 use Rattle.products.specs.declared.Outline.{Outline}
-use Rattle.keys.specs.Pairs.{nodeFor}
-use Rattle.keys.specs.Answer.{FoundIs, KeysAt}
-use Rattle.keys.specs.declared.Found.{Found}
+use Rattle.keys.specs.Pairs.{nodeFor, keyedAt}
+use Rattle.keys.specs.Answer.{ShapeFoundIs, DescrFoundIs, KeysAt, KeysAre}
+use Rattle.keys.specs.declared.ShapeFound.{ShapeFound}
+use Rattle.keys.specs.declared.DescrFound.{DescrFound}
 use Rattle.keys.specs.declared.Places.{Places}
+use Rattle.keys.specs.declared.KeysRead.{KeysRead}
 use Rattle.sums.specs.Totals.{totalsOf}
 use Rattle.judge.specs.declared.Shape.{Shape}
 use Rattle.judge.specs.declared.Descr.{Descr}
@@ -70,12 +72,19 @@ abbrev pub orderAnswer : OrderRead → Outcome Order
 orderAnswer (OrderRead.Is o) = gives o
 orderAnswer (OrderRead.Refused r) = refused (numberOf r)
 
--- where the value of the key w was found in the dict at `at`, and those of the three keys
-abbrev pub FoundFor : (w text : List ℕ) (at : ℕ) → Found → Type 0
-FoundFor w text at f = FoundIs inside text f (nodeFor w (value most-open text at))
+-- what was found for the three keys of the dict at `at`
+abbrev pub ShapeFor : (text : List ℕ) (at : ℕ) → ShapeFound → Type 0
+ShapeFor text at f = ShapeFoundIs inside text f (nodeFor key-shape (value most-open text at))
+
+abbrev pub DescrFor : (text : List ℕ) (at : ℕ) → DescrFound → Type 0
+DescrFor text at f = DescrFoundIs inside text f (nodeFor key-descr (value most-open text at))
 
 abbrev pub KeysIn : (text : List ℕ) (at : ℕ) → Places → Type 0
 KeysIn text at x = KeysAt inside text x (λ w. nodeFor w (value most-open text at))
+
+-- what walking over the value at `at` says of its keys
+abbrev pub KeysSay : (text : List ℕ) (at : ℕ) → KeysRead → Type 0
+KeysSay text at r = KeysAre inside text r (keyedAt (value most-open text at)) (λ w. nodeFor w (value most-open text at))
 
 -- the place is that of the value that counts for the key w in the dict at `at`
 pub record Counts (text : List ℕ) (at : ℕ) (w : List ℕ) (place : ℕ) : Type 0 where
@@ -121,6 +130,23 @@ JudgedIs text at (Judged.Fits p) (gives r) = PlanOf text at p r
 JudgedIs text at (Judged.Fits p) (refused n) = ⊥
 JudgedIs text at (Judged.Refused f) (gives r) = ⊥
 JudgedIs text at (Judged.Refused f) (refused n) = numberOf f ≡ n
+
+-- the shape, and the dtype, by what was found for their keys, whichever dict it was found in
+abbrev pub ShapeIn : ShapeFound → ShapeRead → Type 0
+ShapeIn f r = (text : List ℕ) (at : ℕ) → ShapeFor text at f → ShapeIs text at r (shapeAt text at)
+
+abbrev pub DescrIn : DescrFound → DescrRead → Type 0
+DescrIn f r = (text : List ℕ) (at : ℕ) → DescrFor text at f → DescrIs text at r (dtypeAt text at)
+
+-- the record of a value that has these keys; what is left of it behind the order; and behind the shape
+abbrev pub KeysOf : KeysRead → Judged → Type 0
+KeysOf x r = (text : List ℕ) (at : ℕ) → KeysSay text at x → JudgedIs text at r (then (valueOr 8 (value most-open text at)) recordOf)
+
+abbrev pub OrderOf : Places → Order → Judged → Type 0
+OrderOf x o r = (text : List ℕ) (at : ℕ) → KeysIn text at x → JudgedIs text at r (behindOrder text at o)
+
+abbrev pub BehindOf : DescrFound → Order → Shape → Judged → Type 0
+BehindOf f o p r = (text : List ℕ) (at : ℕ) (s : List ℕ) → DescrFor text at f → ShapeOf text at p s → JudgedIs text at r (behindShape text at o s)
 
 -- 13 for the shape, whichever shape has this outline
 abbrev pub RankedOf : (place : ℕ) → Outline → ShapeRead → Type 0

@@ -1,11 +1,11 @@
 // A header's text judged (document 01, "The refusal numbers", the order of reading): refusals 5 to 22, and where in the text an accepted record stands. No
-// public function here has a `requires`. What each answer stands for is in specs/Judged.antt.
+// function here has a `requires`. What each answer stands for is in specs/Judged.antt.
 use dtype::Order;
-use grammar::OPEN;
 use keys::Declared;
-use keys::Found;
+use keys::DescrFound;
 use keys::KeysRead;
 use keys::Places;
+use keys::ShapeFound;
 use products::Outline;
 use refusal::Refusal;
 use sums::Rule;
@@ -14,16 +14,10 @@ use tokens::Parsed;
 use tokens::bytes::blanks;
 use utf8::Text;
 ghost use mathlib.Core.Path.{_≡_};
-ghost use mathlib.Core.List.{List};
-ghost use Prim.Native.Nat.{ℕ};
-ghost use Rattle.counts.specs.Outcome.{then};
-ghost use Rattle.record.specs.Dict.{key-order, key-shape, key-descr};
-ghost use Rattle.record.specs.FromValue.{recordOf};
 ghost use Rattle.record.specs.Header.{recordIn};
 ghost use Rattle.tokens.specs.Text.{skip};
-ghost use Rattle.literal.specs.Literal.{value, most-open};
-ghost use Rattle.dims.specs.Answer.{valueOr};
-ghost use Rattle.judge.specs.Judged.{reading, orderAt, shapeAt, dtypeAt, behindShape, behindOrder, orderAnswer, FoundFor, KeysIn, ShapeIs, ShapeOf, DescrIs, RankedOf, LimitsOf, JudgedIs};
+ghost use Rattle.keys.specs.Answer.{ordered};
+ghost use Rattle.judge.specs.Judged.{reading, orderAnswer, KeysOf, OrderOf, BehindOf, ShapeIn, DescrIn, RankedOf, LimitsOf, JudgedIs};
 ghost use Rattle.refusal.specs.Numbers.{numberOf};
 ghost use Rattle.sums.specs.Verdict as rules;
 
@@ -73,45 +67,45 @@ pub fn judge(text: &[u8]) -> Judged
     let Text::WellFormed = utf8::check(text) else {
         return Judged::Refused(Refusal::NotUtf8);
     };
-    match literal::literal(text) {
-        Parsed::Value(_) => judge_value(text, blanks(text, 0)),
+    let walked = keys::keys(text, blanks(text, 0));
+    let ended = walked.ended;
+    let read = walked.keys;
+    match literal::whole(text, ended) {
+        Parsed::Value(_) => judge_keys(read),
         Parsed::Fault(_) => Judged::Refused(Refusal::Fault),
         Parsed::Deep(_) => Judged::Refused(Refusal::Depth),
     }
 }
 
-// The record of the value at `at`.
-fn judge_value(text: &[u8], at: usize) -> Judged
-    ensures { λ r. ⌜ JudgedIs (now (text .entry)) at r (then (valueOr 8 (value most-open (now (text .entry)) at)) recordOf) ⌝ }
+// The record of a value that has these keys.
+fn judge_keys(read: KeysRead) -> Judged
+    ensures { λ r. ⌜ KeysOf read r ⌝ }
 {
-    let read = keys::keys(text, at);
     let KeysRead::Read(places) = read else {
         return Judged::Refused(Refusal::NotDict);
     };
     let found = places.order;
-    match order_in(text, at, found) {
-        OrderRead::Is(order) => with_order(text, at, places, order),
+    match order_in(found) {
+        OrderRead::Is(order) => with_order(places, order),
         OrderRead::Refused(r) => Judged::Refused(r),
     }
 }
 
-fn with_order(text: &[u8], at: usize, places: Places, order: Order) -> Judged
-    requires { ⌜ KeysIn (now text) at places ⌝ }
-    ensures { λ r. ⌜ JudgedIs (now (text .entry)) at r (behindOrder (now (text .entry)) at order) ⌝ }
+fn with_order(places: Places, order: Order) -> Judged
+    ensures { λ r. ⌜ OrderOf places order r ⌝ }
 {
     let found = places.shape;
     let descr = places.descr;
-    match shape_in(text, at, found) {
-        ShapeRead::Is(shape) => with_shape(text, at, descr, order, shape),
+    match shape_in(found) {
+        ShapeRead::Is(shape) => with_shape(descr, order, shape),
         ShapeRead::Refused(r) => Judged::Refused(r),
     }
 }
 
-fn with_shape(text: &[u8], at: usize, found: Found, order: Order, shape: Shape) -> Judged
-    requires { ⌜ FoundFor key-descr (now text) at found ⌝ }
-    ensures { λ r. ⌜ ((s : List ℕ) → ShapeOf (now (text .entry)) at shape s → JudgedIs (now (text .entry)) at r (behindShape (now (text .entry)) at order s)) ⌝ }
+fn with_shape(found: DescrFound, order: Order, shape: Shape) -> Judged
+    ensures { λ r. ⌜ BehindOf found order shape r ⌝ }
 {
-    match descr_in(text, at, found) {
+    match descr_in(found) {
         DescrRead::Is(descr) => within_limits(order, shape, descr),
         DescrRead::Refused(r) => Judged::Refused(r),
     }
@@ -142,30 +136,24 @@ fn within_limits(order: Order, shape: Shape, descr: Descr) -> Judged
     })
 }
 
-// The order that the dict at `at` declares, by where it was found: 9, 10.
-fn order_in(text: &[u8], at: usize, found: Found) -> OrderRead
-    requires { ⌜ FoundFor key-order (now text) at found ⌝ }
-    ensures { λ r. ⌜ orderAnswer r ≡ orderAt (now (text .entry)) at ⌝ }
+// 9, 10.
+fn order_in(found: Declared) -> OrderRead
+    ensures { λ r. ⌜ orderAnswer r ≡ ordered found ⌝ }
 {
-    let Found::At(p) = found else {
-        return OrderRead::Refused(Refusal::NoKey);
-    };
-    match keys::order_at(text, p, OPEN - 1) {
+    match found {
         Declared::Is(order) => OrderRead::Is(order),
         Declared::Form => OrderRead::Refused(Refusal::NotBoolean),
+        Declared::Missing => OrderRead::Refused(Refusal::NoKey),
     }
 }
 
-// The shape that the dict at `at` gives, by where it was found: 9, 11, 12, 13.
-fn shape_in(text: &[u8], at: usize, found: Found) -> ShapeRead
-    requires { ⌜ FoundFor key-shape (now text) at found ⌝ }
-    ensures { λ r. ⌜ ShapeIs (now (text .entry)) at r (shapeAt (now (text .entry)) at) ⌝ }
+// 9, 11, 12, 13.
+fn shape_in(found: ShapeFound) -> ShapeRead
+    ensures { λ r. ⌜ ShapeIn found r ⌝ }
 {
-    let Found::At(p) = found else {
+    let ShapeFound::At(p, verdict) = found else {
         return ShapeRead::Refused(Refusal::NoKey);
     };
-    let judged = dims::judge(text, p, OPEN - 1);
-    let verdict = judged.verdict;
     match verdict {
         products::Verdict::Good(outline) => ranked(p, outline),
         products::Verdict::Form => ShapeRead::Refused(Refusal::NotShape),
@@ -186,16 +174,13 @@ fn ranked(at: usize, outline: Outline) -> ShapeRead
     })
 }
 
-// The dtype that the dict at `at` gives, by where it was found: 9, 11, 12, 14 to 19.
-fn descr_in(text: &[u8], at: usize, found: Found) -> DescrRead
-    requires { ⌜ FoundFor key-descr (now text) at found ⌝ }
-    ensures { λ r. ⌜ DescrIs (now (text .entry)) at r (dtypeAt (now (text .entry)) at) ⌝ }
+// 9, 11, 12, 14 to 19.
+fn descr_in(found: DescrFound) -> DescrRead
+    ensures { λ r. ⌜ DescrIn found r ⌝ }
 {
-    let Found::At(p) = found else {
+    let DescrFound::At(p, verdict) = found else {
         return DescrRead::Refused(Refusal::NoKey);
     };
-    let judged = descr::judge(text, p, OPEN - 1);
-    let verdict = judged.verdict;
     match verdict {
         sums::Verdict::Fits(totals) => DescrRead::Is(Descr {
             at: p,

@@ -7,17 +7,16 @@ use lib.Dec.{eqb}
 use borrow.Author.Tests.{eqb-true}
 use denote.Enum.Declared.{tagOf}
 use types.Run.{OneOf, miss}
-use Rattle.counts.specs.Outcome.{Outcome, gives, refused, then}
-use Rattle.counts.proofs.Alike.{true-false}
-use Rattle.dtype.specs.declared.Order.{Order}
+use Rattle.counts.specs.Outcome.{gives, refused}
+use Rattle.counts.proofs.Alike.{true-false, same-equal}
 use Rattle.dtype.specs.declared.Order.the-variants.{C, Fortran}
 use Rattle.record.specs.Parts.{stringOr}
-use Rattle.record.specs.Dict.{isString, isThe}
+use Rattle.record.specs.Dict.{key-order, key-shape, key-descr, isString, isThe}
 use Rattle.record.specs.FromValue.{orderOf}
 use Rattle.grammar.specs.Bytes.{isOpen, isQuote}
 use Rattle.decimal.specs.Decimal.{isDigit}
 use Rattle.tokens.specs.Node.{Node, span, dict, pairs}
-use Rattle.tokens.specs.Got.{Got, got, fault, deep, pos, with}
+use Rattle.tokens.specs.Got.{got, with}
 use Rattle.literal.specs.Forget.{forget}
 use Rattle.tokens.specs.Text.{byteAt, kindOf}
 use Rattle.tokens.specs.Strings.{spelled}
@@ -28,10 +27,11 @@ use Rattle.literal.specs.Rows.{View}
 use Rattle.tokens.specs.declared.bytes.Kind.{Kind}
 use Rattle.tokens.specs.declared.bytes.Kind.the-variants.{Square, Round, Curly, Quote, Minus, Digit, TrueWord, FalseWord, NoneWord, Other}
 use Rattle.tokens.proofs.bytes.Kind.{the-type}
-use Rattle.literal.proofs.Steps.{Stops}
 use Rattle.literal.proofs.View.{view}
-use Rattle.dims.specs.Answer.{valueOr}
-use Rattle.keys.specs.Pairs.{pairsIn, isKey}
+use Rattle.keys.specs.declared.Name as name
+use Rattle.keys.specs.declared.Name.{Name}
+use Rattle.keys.specs.Pairs.{pairsIn}
+use Rattle.keys.specs.Answer.{keyOf, Named}
 
 -- what the `else` of `let Kind::Curly = k else { .. }` knows of k, and that of `Kind::Quote`
 abbrev pub NoCurly : Kind → Type 0
@@ -108,11 +108,24 @@ module _ (k : ℕ) (s : List ℕ) (at e : ℕ) (n : Node) (h : value k s at ≡ 
   unfolding forget
   a-string hk = let v = view k s at h hk in text-of (v .0)
 
-  pub is-string : (c : Kind) → c ≡ kindOf (byteAt s at) → c ≡ Quote → isString (stringOr 8 (forget n)) ≡ true
-  is-string c hk z = ap isString (a-string (sym hk ∙ z))
+  -- which of the three it is
+  pub key-is : (c : Kind) (w : List ℕ) (r : Bool) → c ≡ kindOf (byteAt s at) → c ≡ Quote → r ≡ same (spelled (byteAt s at) s (at + 1) .bytes) w → isThe w (stringOr 8 (forget n)) ≡ r
+  key-is c w r hk z hr = ap (isThe w) (a-string (sym hk ∙ z)) ∙ sym hr
 
-  pub key-is : (c : Kind) (w : List ℕ) (r : Bool) → c ≡ kindOf (byteAt s at) → c ≡ Quote → r ≡ same (spelled (byteAt s at) s (at + 1) .bytes) w → r ≡ isKey w n
-  key-is c w r hk z hr = hr ∙ sym (ap (isThe w) (a-string (sym hk ∙ z)))
+  pub name-is : (c : Kind) (r : Name) (w : List ℕ) (b : Bool) → c ≡ kindOf (byteAt s at) → c ≡ Quote → keyOf r ≡ gives w → b ≡ same (spelled (byteAt s at) s (at + 1) .bytes) w → b ≡ true → Named r (stringOr 8 (forget n))
+  name-is c r w b hk z hw hb ht =
+      let e : stringOr 8 (forget n) ≡ keyOf r = a-string (sym hk ∙ z) ∙ ap gives (same-equal (spelled (byteAt s at) s (at + 1) .bytes) w (sym hb ∙ ht)) ∙ sym hw in
+      record { of-string = ap isString e; of-descr = ap (isThe key-descr) e; of-order = ap (isThe key-order) e; of-shape = ap (isThe key-shape) e }
+
+  pub name-none : (c : Kind) (a b d : Bool) → c ≡ kindOf (byteAt s at) → c ≡ Quote → a ≡ same (spelled (byteAt s at) s (at + 1) .bytes) key-descr → a ≡ false
+      → b ≡ same (spelled (byteAt s at) s (at + 1) .bytes) key-order → b ≡ false → d ≡ same (spelled (byteAt s at) s (at + 1) .bytes) key-shape → d ≡ false → Named name.Name.Extra (stringOr 8 (forget n))
+  name-none c a b d hk z ha fa hb fb hd fd =
+      record {
+        of-string = ap isString (a-string (sym hk ∙ z));
+        of-descr = key-is c key-descr a hk z ha ∙ fa;
+        of-order = key-is c key-order b hk z hb ∙ fb;
+        of-shape = key-is c key-shape d hk z hd ∙ fd;
+      }
 
   no-string-by : (c : Kind) → NoQuote c → View c k s at n e → stringOr 8 (forget n) ≡ refused 8
   unfolding forget
@@ -127,8 +140,10 @@ module _ (k : ℕ) (s : List ℕ) (at e : ℕ) (n : Node) (h : value k s at ≡ 
   no-string-by NoneWord z v = text-of v
   no-string-by Other z v = absurd v
 
-  pub no-string : (c : Kind) → c ≡ kindOf (byteAt s at) → NoQuote c → stringOr 8 (forget n) ≡ refused 8
-  no-string c hk z = no-string-by c z (view k s at h (sym hk))
+  pub no-string : (c : Kind) → c ≡ kindOf (byteAt s at) → NoQuote c → Named name.Name.NoString (stringOr 8 (forget n))
+  no-string c hk z =
+      let e = no-string-by c z (view k s at h (sym hk)) in
+      record { of-string = ap isString e; of-descr = ap (isThe key-descr) e; of-order = ap (isThe key-order) e; of-shape = ap (isThe key-shape) e }
 
   -- an order
   order-of : {m : Node} → n ≡ m → orderOf (forget n) ≡ orderOf (forget m)
@@ -147,21 +162,13 @@ module _ (k : ℕ) (s : List ℕ) (at e : ℕ) (n : Node) (h : value k s at ≡ 
   order-by NoneWord o v = order-of v
   order-by Other o v = absurd v
 
-  read-as : (x : Outcome Order) → orderOf (forget n) ≡ x → x ≡ then (valueOr 10 (value k s at)) orderOf
-  read-as x z = sym z ∙ sym (ap (λ (g : Got Node). then (valueOr 10 g) orderOf) h)
-
-  pub order-true : (c : Kind) → c ≡ kindOf (byteAt s at) → c ≡ TrueWord → gives Fortran ≡ then (valueOr 10 (value k s at)) orderOf
+  pub order-true : (c : Kind) → c ≡ kindOf (byteAt s at) → c ≡ TrueWord → orderOf (forget n) ≡ gives Fortran
   unfolding forget
-  order-true c hk z = read-as (gives Fortran) (order-of (view k s at h (sym hk ∙ z)))
+  order-true c hk z = order-of (view k s at h (sym hk ∙ z))
 
-  pub order-false : (c : Kind) → c ≡ kindOf (byteAt s at) → c ≡ FalseWord → gives C ≡ then (valueOr 10 (value k s at)) orderOf
+  pub order-false : (c : Kind) → c ≡ kindOf (byteAt s at) → c ≡ FalseWord → orderOf (forget n) ≡ gives C
   unfolding forget
-  order-false c hk z = read-as (gives C) (order-of (view k s at h (sym hk ∙ z)))
+  order-false c hk z = order-of (view k s at h (sym hk ∙ z))
 
-  pub order-other : (c : Kind) → c ≡ kindOf (byteAt s at) → OneOf (0 ∷ 1 ∷ 2 ∷ 3 ∷ 4 ∷ 5 ∷ 8 ∷ 9 ∷ []) (tagOf the-type c) → refused 10 ≡ then (valueOr 10 (value k s at)) orderOf
-  order-other c hk o = read-as (refused 10) (order-by c o (view k s at h (sym hk)))
-
-pub order-none : (g : Got Node) → Stops (pos g) → refused 10 ≡ then (valueOr 10 g) orderOf
-order-none (got n e) st = absurd st
-order-none (fault p) st = refl
-order-none (deep p) st = refl
+  pub order-other : (c : Kind) → c ≡ kindOf (byteAt s at) → OneOf (0 ∷ 1 ∷ 2 ∷ 3 ∷ 4 ∷ 5 ∷ 8 ∷ 9 ∷ []) (tagOf the-type c) → orderOf (forget n) ≡ refused 10
+  order-other c hk o = order-by c o (view k s at h (sym hk))

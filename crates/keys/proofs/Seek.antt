@@ -1,38 +1,55 @@
--- The walk over the pairs of a dict. What it keeps: the keys are all strings if those that are left are, and the value that counts for a key is the one
--- found so far, or one that is left. Then the dict around the pairs. Assumes nothing.
+-- The walk over the pairs of a dict. What it keeps: the keys are all strings if those that were met and those that are left are, and the value that counts
+-- for a key is the one found so far, or one that is left. Then the dict around the pairs. Assumes nothing.
 use Prim.Native.Nat.{ℕ, suc, _+_}
 use mathlib.Core.Path.{_≡_, refl, sym, ap, subst, _∙_}
 use mathlib.Core.List.{List, [], _∷_}
-use mathlib.Core.Bool.{Bool, true, false, cond, _&&_}
+use mathlib.Core.Bool.{Bool, true, false, cond, _&&_, and-true, and-assoc}
 use denote.Enum.Declared.{tagOf}
-use types.Run.{OneOf, miss}
-use Rattle.counts.specs.Outcome.{Outcome, gives, refused, each}
+use types.Run.{OneOf}
+use Rattle.counts.specs.Outcome.{Outcome, gives, refused, then, each}
+use Rattle.record.specs.Parts.{stringOr}
+use Rattle.record.specs.Descr.{descrOf}
 use Rattle.record.specs.Dict.{key-order, key-shape, key-descr, isString, allStrings}
 use Rattle.tokens.specs.Node.{Node, Pair, Pairs, span, dict, pairs}
 use Rattle.tokens.specs.Got.{Got, got, fault, deep, pos, with}
 use Rattle.literal.specs.Forget.{forget, forgetPairs}
 use Rattle.tokens.specs.Text.{byteAt, kindOf}
-use Rattle.literal.specs.Brackets.{gapAt, listBy, keyBy, pairBy}
+use Rattle.literal.specs.Brackets.{gapAt, endedAt, listBy, keyBy, pairBy}
 use Rattle.literal.specs.Literal.{value}
-use Rattle.literal.specs.Rows.{Row}
 use Rattle.literal.specs.declared.gaps.Gap.{Gap}
-use Rattle.literal.specs.declared.gaps.Gap.the-variants.{Shut, Item, Stray}
-use Rattle.tokens.specs.declared.Parsed.the-variants.{Value as Ends}
+use Rattle.literal.specs.declared.gaps.Gap.the-variants.{Item}
+use Rattle.tokens.specs.declared.Parsed.{Parsed}
+use Rattle.tokens.specs.declared.Parsed.the-variants.{Value as Ends, Fault, Deep}
 use Rattle.tokens.specs.declared.bytes.Kind.{Kind}
-use Rattle.tokens.specs.declared.bytes.Kind.the-variants.{Curly, Quote}
+use Rattle.tokens.specs.declared.bytes.Kind.the-variants.{Curly}
+use Rattle.tokens.proofs.Parsed.{the-type}
 use Rattle.literal.proofs.gaps.Gap as gap
-use Rattle.literal.proofs.Rows.{RowGot, row-list, row-stray, pair-parts, key-stands}
-use Rattle.literal.proofs.Steps.{Turn, turn-end, thing}
+use Rattle.literal.proofs.Ends.{pos-with}
+use Rattle.literal.proofs.Rows.{RowGot, row-list, pair-parts, key-stands}
+use Rattle.literal.proofs.Steps.{Stops, stops, Turn, turn-end, turn-stop}
 use Rattle.dims.proofs.Goes.{Goes, goes-end}
-use Rattle.keys.specs.declared.Found as found
-use Rattle.keys.specs.declared.Found.{Found}
+use Rattle.dims.specs.Answer.{valueOr, dimensionsAt}
+use Rattle.products.specs.Outline.{outlineOf}
+use Rattle.products.specs.Answer.{outlined}
+use Rattle.products.specs.declared.Verdict as products
+use Rattle.sums.specs.Totals.{totalsOf}
+use Rattle.sums.specs.Verdict.{verdict}
+use Rattle.sums.specs.declared.Verdict as sums
+use Rattle.keys.specs.declared.ShapeFound as shape
+use Rattle.keys.specs.declared.DescrFound as descr
+use Rattle.keys.specs.declared.Declared as declared
+use Rattle.keys.specs.declared.Declared.{Declared}
+use Rattle.keys.specs.declared.PairRead.{PairRead}
 use Rattle.keys.specs.declared.Places.{Places}
 use Rattle.keys.specs.declared.KeysRead.{KeysRead}
 use Rattle.keys.specs.declared.KeysRead.the-variants.{Read, NotDict}
+use Rattle.keys.specs.declared.Walked.{Walked}
+use Rattle.keys.specs.declared.Name as name
+use Rattle.keys.specs.declared.Name.{Name}
 use Rattle.keys.specs.Pairs.{isKey, lastIn, nodeFor, keyed, keyedAt}
-use Rattle.keys.specs.Answer.{FoundIs, KeyAt, KeysAre, KeysOf, keysEnd, PairAt}
+use Rattle.keys.specs.Answer.{DescrFoundIs, OrderIs, ShapeFoundIs, KeysAre, KeysOf, keyOf, NameAt, WordAt, Takes, PairIs, walkedBy, WalkedOf}
 use Rattle.keys.proofs.Nodes.{items-in}
-use Rattle.keys.proofs.Braces.{NoCurly, NoQuote, dict-at, no-braces, is-string, no-string}
+use Rattle.keys.proofs.Braces.{NoCurly, dict-at, no-braces}
 
 -- ---- a pair that was read, and its parts
 module _ (rd : ℕ → Got Node) (s : List ℕ) (p : ℕ) where
@@ -50,113 +67,127 @@ module _ (rd : ℕ → Got Node) (s : List ℕ) (p : ℕ) where
 abbrev stringsIn : List Pair → Bool
 stringsIn ps = allStrings (forgetPairs (pairs ps))
 
-abbrev Strings : List Pair → List Pair → Type 0
-Strings ps us = stringsIn ps ≡ stringsIn us
+-- those that were met are if b, and those that are left
+abbrev Strings : Bool → List Pair → List Pair → Type 0
+Strings b ps us = stringsIn ps ≡ b && stringsIn us
 
-strings-end : (ps : List Pair) → Strings ps [] → stringsIn ps ≡ true
+strings-end : (b : Bool) (ps : List Pair) → Strings b ps [] → stringsIn ps ≡ b
 unfolding forgetPairs
-strings-end ps h = h
+strings-end b ps h = h ∙ and-true b
 
-module _ (k : ℕ) (s : List ℕ) (p q : ℕ) (u : Pair) (ps us : List Pair) (hu : pairBy (value k s) s p ≡ got u q) (c : Kind) (hk : c ≡ kindOf (byteAt s p)) (h : Strings ps (u ∷ us)) where
-  strings-more : c ≡ Quote → Strings ps us
-  unfolding forgetPairs
-  strings-more z =
-      let x = key-of (value k s) s p u q hu in
-      h ∙ ap (λ (b : Bool). b && stringsIn us) (is-string k s p (x .0) (u .key) (x .1) c hk z)
+strings-more : (b b′ : Bool) (name : Name) (u : Pair) (ps us : List Pair) → b′ ≡ b && isString (keyOf name) → isString (stringOr 8 (forget (u .key))) ≡ isString (keyOf name) → Strings b ps (u ∷ us) → Strings b′ ps us
+unfolding forgetPairs
+strings-more b b′ name u ps us hb hu h = h ∙ ap (λ (x : Bool). b && (x && stringsIn us)) hu ∙ sym (and-assoc b (isString (keyOf name)) (stringsIn us)) ∙ ap (λ (x : Bool). x && stringsIn us) (sym hb)
 
-  strings-not : NoQuote c → stringsIn ps ≡ false
-  unfolding forgetPairs
-  strings-not z =
-      let x = key-of (value k s) s p u q hu in
-      h ∙ ap (λ (o : Outcome (List ℕ)). isString o && stringsIn us) (no-string k s p (x .0) (u .key) (x .1) c hk z)
+-- ---- the value that counts, by what an answer says of it
+module _ {F : Type 0} (Is : F → Outcome Node → Type 0) (w : List ℕ) where
+  abbrev Counts : F → List Pair → List Pair → Type 0
+  Counts f ps us = (was : Outcome Node) × Is f was × (lastIn w (refused 9) (pairs ps) ≡ lastIn w was (pairs us))
 
--- ---- the value that counts
-module _ (k : ℕ) (s w : List ℕ) where
-  abbrev Counts : Found → List Pair → List Pair → Type 0
-  Counts f ps us = (was : Outcome Node) × FoundIs k s f was × (lastIn w (refused 9) (pairs ps) ≡ lastIn w was (pairs us))
+  counts-start : (f : F) → Is f (refused 9) → (ps : List Pair) → Counts f ps ps
+  counts-start f h ps = (refused 9, h, refl)
 
-  counts-start : (ps : List Pair) → Counts found.Found.Missing ps ps
-  counts-start ps = (refused 9, refl, refl)
+  counts-end : (f : F) (ps : List Pair) → Counts f ps [] → Is f (lastIn w (refused 9) (pairs ps))
+  counts-end f ps h = subst (Is f) (sym (h .2)) (h .1)
 
-  counts-end : (f : Found) (ps : List Pair) → Counts f ps [] → FoundIs k s f (lastIn w (refused 9) (pairs ps))
-  counts-end f ps h = subst (FoundIs k s f) (sym (h .2)) (h .1)
-
-  counts-more : (f f′ : Found) (p q at : ℕ) (u : Pair) (ps us : List Pair) → pairBy (value k s) s p ≡ got u q → Ends at ≡ pos (keyBy (value k s) s p)
-      → f′ ≡ cond (isKey w (u .key)) (found.Found.At at) f → Counts f ps (u ∷ us) → Counts f′ ps us
-  counts-more f f′ p q at u ps us hu ha hf h =
-      (cond (isKey w (u .key)) (gives (u .value)) (h .0), subst (λ (y : Found). FoundIs k s y (cond (isKey w (u .key)) (gives (u .value)) (h .0))) (sym hf) (by (isKey w (u .key))), h .2)
+  counts-more : (f f′ : F) (b : Bool) (u : Pair) (ps us : List Pair) → isKey w (u .key) ≡ b → Takes b (Is f′ (gives (u .value))) (f′ ≡ f) → Counts f ps (u ∷ us) → Counts f′ ps us
+  counts-more f f′ b u ps us hb t h =
+      (cond (isKey w (u .key)) (gives (u .value)) (h .0), by (isKey w (u .key)) (subst (λ (z : Bool). Takes z (Is f′ (gives (u .value))) (f′ ≡ f)) (sym hb) t), h .2)
     where
-      by : (z : Bool) → FoundIs k s (cond z (found.Found.At at) f) (cond z (gives (u .value)) (h .0))
-      by true = (q, value-of (value k s) s p u q at hu ha)
-      by false = h .1
+      by : (z : Bool) → Takes z (Is f′ (gives (u .value))) (f′ ≡ f) → Is f′ (cond z (gives (u .value)) (h .0))
+      by true t = t
+      by false t = subst (λ (y : F). Is y (h .0)) (sym t) (h .1)
 
 -- ---- one more pair
-pub places-eq : {a b c d e f : Found} → a ≡ b → c ≡ d → e ≡ f → _≡_ {A = Places} (record { descr = a; order = c; shape = e }) (record { descr = b; order = d; shape = f })
-places-eq hd ho hs = cc
+module _ (k : ℕ) (s : List ℕ) (at : ℕ) (was : Places) where
+  pub pair-descr : (end : Parsed) (x : sums.Verdict) → end ≡ pos (value k s at) → verdict x ≡ then (valueOr 14 (value k s at)) (λ v. each totalsOf (descrOf v))
+      → PairIs k s at name.Name.Descr was (record { ended = end; places = record { descr = descr.DescrFound.At at x; order = was .order; shape = was .shape } })
+  pair-descr end x he hx =
+      record { ended = he; found = λ v e h. record { of-descr = (e, h, hx ∙ ap (λ (g : Got Node). then (valueOr 14 g) (λ v. each totalsOf (descrOf v))) h); of-order = refl; of-shape = refl } }
 
-module _ (s : List ℕ) (p at : ℕ) (was : Places) where
-  chosen-by : (w : List ℕ) (f f′ : Found) (b : Bool) → KeyAt s p w b → f′ ≡ cond b (found.Found.At at) f → (k : ℕ) (n : Node) (e : ℕ) → value k s p ≡ got n e → f′ ≡ cond (isKey w n) (found.Found.At at) f
-  chosen-by w f f′ b hb hf k n e h = hf ∙ ap (λ (x : Bool). cond x (found.Found.At at) f) (hb k n e h)
+  pub pair-order : (end : Parsed) (x : Declared) → end ≡ pos (value k s at) → WordAt s at x → PairIs k s at name.Name.Order was (record { ended = end; places = record { descr = was .descr; order = x; shape = was .shape } })
+  pair-order end x he hx = record { ended = he; found = λ v e h. record { of-descr = refl; of-order = hx k v e h; of-shape = refl } }
 
-  pub with-pair : (a b c : Bool) (d o h : Found) → KeyAt s p key-descr a → d ≡ cond a (found.Found.At at) (was .descr) → KeyAt s p key-order b → o ≡ cond b (found.Found.At at) (was .order)
-      → KeyAt s p key-shape c → h ≡ cond c (found.Found.At at) (was .shape) → PairAt s p at was (record { descr = d; order = o; shape = h })
-  with-pair a b c d o h ha hd hb ho hc hh k n e r =
-      places-eq (chosen-by key-descr (was .descr) d a ha hd k n e r) (chosen-by key-order (was .order) o b hb ho k n e r)
-      (chosen-by key-shape (was .shape) h c hc hh k n e r)
+  pub pair-shape : (end : Parsed) (x : products.Verdict) → end ≡ pos (value k s at) → outlined x ≡ each outlineOf (dimensionsAt (value k s at))
+      → PairIs k s at name.Name.Shape was (record { ended = end; places = record { descr = was .descr; order = was .order; shape = shape.ShapeFound.At at x } })
+  pair-shape end x he hx =
+      record { ended = he; found = λ v e h. record { of-descr = refl; of-order = refl; of-shape = (e, h, hx ∙ ap (λ (g : Got Node). each outlineOf (dimensionsAt g)) h) } }
 
--- ---- the pairs from the gap on, behind those that gave x
+  pub pair-extra : (end : Parsed) → end ≡ pos (value k s at) → PairIs k s at name.Name.Extra was (record { ended = end; places = was })
+  pair-extra end he = record { ended = he; found = λ v e h. record { of-descr = refl; of-order = refl; of-shape = refl } }
+
+  pub pair-no-string : (end : Parsed) → end ≡ pos (value k s at) → PairIs k s at name.Name.NoString was (record { ended = end; places = was })
+  pair-no-string end he = record { ended = he; found = λ v e h. record { of-descr = refl; of-order = refl; of-shape = refl } }
+
+  -- by its name
+  pub pair-named : (n m : Name) (r : PairRead) → n ≡ m → PairIs k s at m was r → PairIs k s at n was r
+  pair-named n m r z h = subst (λ (x : Name). PairIs k s at x was r) (sym z) h
+
+-- ---- the answer for a fault
+pub walk-stop : (end : Parsed) (b : Bool) (x : Places) → Stops end → _≡_ {A = Walked} (record { ended = end; keys = NotDict }) (walkedBy end b x)
+walk-stop (Ends e) b x st = absurd st
+walk-stop (Fault p) b x st = refl
+walk-stop (Deep p) b x st = refl
+
+-- ---- the pairs from the gap on, behind those that gave b and x
 module _ (k : ℕ) (s : List ℕ) where
-  pub record Seen (x : Places) (ps us : List Pair) : Type 0 where
-    pub strings : Strings ps us
-    pub descr : Counts k s key-descr (x .descr) ps us
-    pub order : Counts k s key-order (x .order) ps us
-    pub shape : Counts k s key-shape (x .shape) ps us
+  pub record Seen (b : Bool) (x : Places) (ps us : List Pair) : Type 0 where
+    pub strings : Strings b ps us
+    pub descr : Counts (DescrFoundIs k s) key-descr (x .descr) ps us
+    pub order : Counts OrderIs key-order (x .order) ps us
+    pub shape : Counts (ShapeFoundIs k s) key-shape (x .shape) ps us
 
-  pub seen-start : (ps : List Pair) → Seen (record { descr = found.Found.Missing; order = found.Found.Missing; shape = found.Found.Missing }) ps ps
-  seen-start ps = record { strings = refl; descr = counts-start k s key-descr ps; order = counts-start k s key-order ps; shape = counts-start k s key-shape ps }
-
-  pub seen-more : (x x′ : Places) (p q at : ℕ) (u : Pair) (ps us : List Pair) → pairBy (value k s) s p ≡ got u q → Ends at ≡ pos (keyBy (value k s) s p) → (c : Kind) → c ≡ kindOf (byteAt s p) → c ≡ Quote
-      → PairAt s p at x x′ → Seen x ps (u ∷ us) → Seen x′ ps us
-  seen-more x x′ p q at u ps us hu ha c hk z hx h =
-      let y = key-of (value k s) s p u q hu in
-      let e = hx k (u .key) (y .0) (y .1) in
+  pub seen-start : (ps : List Pair) → Seen true (record { descr = descr.DescrFound.Missing; order = declared.Declared.Missing; shape = shape.ShapeFound.Missing }) ps ps
+  seen-start ps =
       record {
-        strings = strings-more k s p q u ps us hu c hk (h .strings) z;
-        descr = counts-more k s key-descr (x .descr) (x′ .descr) p q at u ps us hu ha (ap (λ (i : Places). i .descr) e) (h .descr);
-        order = counts-more k s key-order (x .order) (x′ .order) p q at u ps us hu ha (ap (λ (i : Places). i .order) e) (h .order);
-        shape = counts-more k s key-shape (x .shape) (x′ .shape) p q at u ps us hu ha (ap (λ (i : Places). i .shape) e) (h .shape);
+        strings = refl;
+        descr = counts-start (DescrFoundIs k s) key-descr descr.DescrFound.Missing refl ps;
+        order = counts-start OrderIs key-order declared.Declared.Missing refl ps;
+        shape = counts-start (ShapeFoundIs k s) key-shape shape.ShapeFound.Missing refl ps;
+      }
+
+  pub seen-more : (b b′ : Bool) (x : Places) (r : PairRead) (name : Name) (p q at : ℕ) (u : Pair) (ps us : List Pair) → pairBy (value k s) s p ≡ got u q → Ends at ≡ pos (keyBy (value k s) s p)
+      → NameAt s p name → PairIs k s at name x r → b′ ≡ b && isString (keyOf name) → Seen b x ps (u ∷ us) → Seen b′ (r .places) ps us
+  seen-more b b′ x r name p q at u ps us hu ha hn hx hb h =
+      let y = key-of (value k s) s p u q hu in
+      let n = hn k (u .key) (y .0) (y .1) in
+      let z = hx .found (u .value) q (value-of (value k s) s p u q at hu ha) in
+      record {
+        strings = strings-more b b′ name u ps us hb (n .of-string) (h .strings);
+        descr = counts-more (DescrFoundIs k s) key-descr (x .descr) (r .places .descr) _ u ps us (n .of-descr) (z .of-descr) (h .descr);
+        order = counts-more OrderIs key-order (x .order) (r .places .order) _ u ps us (n .of-order) (z .of-order) (h .order);
+        shape = counts-more (ShapeFoundIs k s) key-shape (x .shape) (r .places .shape) _ u ps us (n .of-shape) (z .of-shape) (h .shape);
       }
 
   module _ (from : ℕ) where
     abbrev pub read : Got (List Pair)
     read = listBy (pairBy (value k s) s) s from 125
 
-    -- 8, where no row of pairs stands or its keys are not all strings
-    pub keys-none : ((ps : List Pair) (e : ℕ) → Row (pairBy (value k s) s) s 125 ps (gapAt s from 125) e → stringsIn ps ≡ false) → KeysOf k s NotDict read
-    keys-none f = go read (row-list (pairBy (value k s) s) s 125 from)
-      where
-        go : (g : Got (List Pair)) → RowGot (pairBy (value k s) s) s 125 (gapAt s from 125) g → KeysOf k s NotDict g
-        go (got ps e) r = f ps e r
-        go (fault p) r = refl
-        go (deep p) r = refl
+    -- the answer, where the walk ends as the pairs do and has seen them all
+    keys-by : (b : Bool) (x : Places) (ps : List Pair) (e : ℕ) → Seen b x ps [] → KeysOf k s (cond b (Read x) NotDict) (got ps e)
+    keys-by true x ps e v =
+        (strings-end true ps (v .strings), record { of-descr = counts-end (DescrFoundIs k s) key-descr (x .descr) ps (v .descr); of-order = counts-end OrderIs key-order (x .order) ps (v .order); of-shape = counts-end (ShapeFoundIs k s) key-shape (x .shape) ps (v .shape) })
+    keys-by false x ps e v = strings-end false ps (v .strings)
 
-    pub keys-not : (p q : ℕ) (u : Pair) (x : Places) (ps us : List Pair) → pairBy (value k s) s p ≡ got u q → (c : Kind) → c ≡ kindOf (byteAt s p) → NoQuote c → Seen x ps (u ∷ us) → stringsIn ps ≡ false
-    keys-not p q u x ps us hu c hk z h = strings-not k s p q u ps us hu c hk (h .strings) z
+    walked-by : (b : Bool) (x : Places) (g : Got (List Pair)) → ((ps : List Pair) (e : ℕ) → g ≡ got ps e → Seen b x ps []) → WalkedOf k s (walkedBy (pos g) b x) g
+    walked-by b x (got ps e) f = record { ended = refl; keys = keys-by b x ps e (f ps e refl) }
+    walked-by b x (fault p) f = record { ended = refl; keys = refl }
+    walked-by b x (deep p) f = record { ended = refl; keys = refl }
 
-    -- the brace, or a fault
-    shut-by : (x : Places) (e : ℕ) → Goes (pairBy (value k s) s) s 125 from (Seen x) (Shut e) → OneOf (0 ∷ 2 ∷ []) (tagOf gap.the-type (Shut e)) → (g : Got (List Pair)) → RowGot (pairBy (value k s) s) s 125 (gapAt s from 125) g → Ends e ≡ pos g → KeysOf k s (Read x) g
-    shut-by x e w o g r h =
-        let t = thing g e h in
-        let v = goes-end (pairBy (value k s) s) s 125 from (Seen x) (Shut e) w o (t .0) e (subst (RowGot (pairBy (value k s) s) s 125 (gapAt s from 125)) (t .1) r) in
-        subst (KeysOf k s (Read x)) (sym (t .1)) (strings-end (t .0) (v .strings), record { of-descr = counts-end k s key-descr (x .descr) (t .0) (v .descr); of-order = counts-end k s key-order (x .order) (t .0) (v .order); of-shape = counts-end k s key-shape (x .shape) (t .0) (v .shape) })
+    walked : (b : Bool) (x : Places) (end : Parsed) (r : Walked) → r ≡ walkedBy end b x → end ≡ pos read → ((ps : List Pair) (e : ℕ) → read ≡ got ps e → Seen b x ps []) → WalkedOf k s r read
+    walked b x end r hr he f = subst (λ (y : Walked). WalkedOf k s y read) (sym (hr ∙ ap (λ (y : Parsed). walkedBy y b x) he)) (walked-by b x read f)
 
-    end-by : (g : Gap) (x : Places) → Turn (pairBy (value k s) s) s 125 from g → Goes (pairBy (value k s) s) s 125 from (Seen x) g → OneOf (0 ∷ 2 ∷ []) (tagOf gap.the-type g) → KeysOf k s (keysEnd g x) read
-    end-by (Shut e) x t w o = shut-by x e w o read (row-list (pairBy (value k s) s) s 125 from) (turn-end (pairBy (value k s) s) s 125 from (Shut e) (Ends e) t refl o)
-    end-by (Stray p) x t w o = keys-none (λ ps e r. let i = w ps e r in absurd (row-stray (pairBy (value k s) s) s 125 (i .0) p e (i .1)))
-    end-by (Item p) x t w o = absurd (miss (0 ∷ 2 ∷ []) 1 tt o)
+    -- the brace, or a stray byte
+    pub walked-end : (b : Bool) (x : Places) (g : Gap) (end : Parsed) (r : Walked) → Turn (pairBy (value k s) s) s 125 from g → Goes (pairBy (value k s) s) s 125 from (Seen b x) g → OneOf (0 ∷ 2 ∷ []) (tagOf gap.the-type g) → end ≡ endedAt g → r ≡ walkedBy end b x → WalkedOf k s r read
+    walked-end b x g end r t w o he hr =
+        walked b x end r hr (turn-end (pairBy (value k s) s) s 125 from g end t he o)
+        (λ ps e h. goes-end (pairBy (value k s) s) s 125 from (Seen b x) g w o ps e (subst (RowGot (pairBy (value k s) s) s 125 (gapAt s from 125)) h (row-list (pairBy (value k s) s) s 125 from)))
 
-    pub keys-end : (g : Gap) (x : Places) (r : KeysRead) → Turn (pairBy (value k s) s) s 125 from g → Goes (pairBy (value k s) s) s 125 from (Seen x) g → OneOf (0 ∷ 2 ∷ []) (tagOf gap.the-type g) → r ≡ keysEnd g x → KeysOf k s r read
-    keys-end g x r t w o h = subst (λ (y : KeysRead). KeysOf k s y read) (sym h) (end-by g x t w o)
+    -- a pair with a fault
+    pub walked-stop : (b : Bool) (x : Places) (g : Gap) (p : ℕ) (end : Parsed) (r : Walked) → Turn (pairBy (value k s) s) s 125 from g → g ≡ Item p → end ≡ pos (pairBy (value k s) s p) → OneOf (1 ∷ 2 ∷ []) (tagOf the-type end) → r ≡ walkedBy end b x → WalkedOf k s r read
+    walked-stop b x g p end r t hg he o hr =
+        let h = turn-stop (pairBy (value k s) s) s 125 from g p end t hg he o in
+        walked b x end r hr h (λ ps e z. absurd (subst Stops (h ∙ ap pos z) (stops end o)))
 
 -- ---- the dict
 module _ (k : ℕ) (s : List ℕ) (at : ℕ) (c : Kind) (hk : c ≡ kindOf (byteAt s at)) where
@@ -170,6 +201,9 @@ module _ (k : ℕ) (s : List ℕ) (at : ℕ) (c : Kind) (hk : c ≡ kindOf (byte
       go r (got ps e) h = h
       go r (fault p) h = subst (λ (x : KeysRead). KeysAre k s x false (λ w. refused 9)) (sym h) refl
       go r (deep p) h = subst (λ (x : KeysRead). KeysAre k s x false (λ w. refused 9)) (sym h) refl
+
+  pub dict-walked : c ≡ Curly → (r : Walked) → WalkedOf k s r (listBy (pairBy (value k s) s) s (at + 1) 125) → r .ended ≡ pos (value (suc k) s at)
+  dict-walked z r h = h .ended ∙ sym (pos-with _ (listBy (pairBy (value k s) s) s (at + 1) 125)) ∙ ap pos (sym (dict-at k s at c hk z))
 
   pub no-dict : NoCurly c → keyedAt (value (suc k) s at) ≡ false
   no-dict z = go (value (suc k) s at) refl

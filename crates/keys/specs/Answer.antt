@@ -1,46 +1,72 @@
 -- What each answer of this crate stands for. Refusal 8: "not a dict, or a key not a string". Refusal 9: "key missing". Refusal 10: "`fortran_order`
--- not boolean". Definitions only. Assumes nothing.
-use Prim.Native.Nat.{ℕ}
+-- not boolean". What the verdicts on a shape and on a descr stand for is in crates products and sums. Definitions only. Assumes nothing.
+use Prim.Native.Nat.{ℕ, _-_}
 use mathlib.Core.Path.{_≡_}
-use mathlib.Core.List.{List}
+use mathlib.Core.List.{List, []}
 use mathlib.Core.Bool.{Bool, true, false, cond}
-use Rattle.counts.specs.Outcome.{Outcome, gives, refused}
+use Rattle.counts.specs.Outcome.{Outcome, gives, refused, then, each}
 use Rattle.dtype.specs.declared.Order.{Order}
-use Rattle.record.specs.Dict.{key-order, key-shape, key-descr, allStrings}
+use Rattle.record.specs.Parts.{stringOr}
+use Rattle.record.specs.Dimensions.{subShape}
+use Rattle.record.specs.Descr.{descrOf}
+use Rattle.record.specs.FromValue.{orderOf}
+use Rattle.record.specs.Dict.{key-order, key-shape, key-descr, isString, isThe, allStrings}
 use Rattle.tokens.specs.Node.{Node, Pair, pairs}
-use Rattle.tokens.specs.Got.{Got, got, fault, deep}
-use Rattle.literal.specs.Forget.{forgetPairs}
-use Rattle.literal.specs.Literal.{value}
-use Rattle.literal.specs.declared.gaps.Gap.{Gap}
-use Rattle.literal.specs.declared.gaps.Gap.the-variants.{Shut, Item, Stray}
-use Rattle.keys.specs.declared.Found as found
-use Rattle.keys.specs.declared.Found.{Found}
+use Rattle.tokens.specs.Got.{Got, got, fault, deep, pos}
+use Rattle.tokens.specs.declared.Parsed.{Parsed}
+use Rattle.tokens.specs.declared.Parsed.the-variants.{Value, Fault, Deep}
+use Rattle.literal.specs.Forget.{forget, forgetPairs}
+use Rattle.literal.specs.Literal.{value, most-open}
+use Rattle.products.specs.Outline.{outlineOf}
+use Rattle.products.specs.Answer.{outlined}
+use Rattle.sums.specs.Totals.{totalsOf}
+use Rattle.sums.specs.Verdict.{verdict}
+use Rattle.keys.specs.declared.ShapeFound as shape
+use Rattle.keys.specs.declared.ShapeFound.{ShapeFound}
+use Rattle.keys.specs.declared.DescrFound as descr
+use Rattle.keys.specs.declared.DescrFound.{DescrFound}
+use Rattle.keys.specs.declared.PairRead.{PairRead}
 use Rattle.keys.specs.declared.Places.{Places}
 use Rattle.keys.specs.declared.KeysRead.{KeysRead}
 use Rattle.keys.specs.declared.KeysRead.the-variants.{Read, NotDict}
+use Rattle.keys.specs.declared.Walked.{Walked}
+use Rattle.keys.specs.declared.Name as name
+use Rattle.keys.specs.declared.Name.{Name}
 use Rattle.keys.specs.declared.Declared as declared
 use Rattle.keys.specs.declared.Declared.{Declared}
-use Rattle.keys.specs.Pairs.{isKey, lastIn}
+use Rattle.keys.specs.Pairs.{lastIn, nodeFor, keyedAt}
 
--- the value that counts stands at the position, where k brackets more may open; or the key is missing
-abbrev pub FoundIs : ℕ → List ℕ → Found → Outcome Node → Type 0
-FoundIs k s (found.Found.At p) (gives n) = (e : ℕ) × (value k s p ≡ got n e)
-FoundIs k s (found.Found.At p) (refused m) = ⊥
-FoundIs k s found.Found.Missing (gives n) = ⊥
-FoundIs k s found.Found.Missing (refused m) = m ≡ 9
-
--- the declared order, or 10
+-- the declared order, or 9, 10
 abbrev pub ordered : Declared → Outcome Order
 ordered (declared.Declared.Is o) = gives o
 ordered declared.Declared.Form = refused 10
+ordered declared.Declared.Missing = refused 9
 
--- where the values of the three keys stand, by which value each key has
+-- the order that the value of a key declares, or the key is missing
+abbrev pub OrderIs : Declared → Outcome Node → Type 0
+OrderIs x o = ordered x ≡ then o (λ n. orderOf (forget n))
+
+-- the value that counts stands at the position, where k brackets more may open, and comes to this as a shape; or the key is missing
+abbrev pub ShapeFoundIs : ℕ → List ℕ → ShapeFound → Outcome Node → Type 0
+ShapeFoundIs k s (shape.ShapeFound.At p x) (gives n) = (e : ℕ) × (value k s p ≡ got n e) × (outlined x ≡ each outlineOf (subShape (forget n)))
+ShapeFoundIs k s (shape.ShapeFound.At p x) (refused m) = ⊥
+ShapeFoundIs k s shape.ShapeFound.Missing (gives n) = ⊥
+ShapeFoundIs k s shape.ShapeFound.Missing (refused m) = m ≡ 9
+
+-- the same of a descr
+abbrev pub DescrFoundIs : ℕ → List ℕ → DescrFound → Outcome Node → Type 0
+DescrFoundIs k s (descr.DescrFound.At p x) (gives n) = (e : ℕ) × (value k s p ≡ got n e) × (verdict x ≡ each totalsOf (descrOf (forget n)))
+DescrFoundIs k s (descr.DescrFound.At p x) (refused m) = ⊥
+DescrFoundIs k s descr.DescrFound.Missing (gives n) = ⊥
+DescrFoundIs k s descr.DescrFound.Missing (refused m) = m ≡ 9
+
+-- what was found for the three keys, by which value each key has
 pub record KeysAt (k : ℕ) (s : List ℕ) (x : Places) (node : List ℕ → Outcome Node) : Type 0 where
-  pub of-descr : FoundIs k s (x .descr) (node key-descr)
-  pub of-order : FoundIs k s (x .order) (node key-order)
-  pub of-shape : FoundIs k s (x .shape) (node key-shape)
+  pub of-descr : DescrFoundIs k s (x .descr) (node key-descr)
+  pub of-order : OrderIs (x .order) (node key-order)
+  pub of-shape : ShapeFoundIs k s (x .shape) (node key-shape)
 
--- the places of the three keys, or 8
+-- what was found for the three keys, or 8
 abbrev pub keysAnswer : KeysRead → Outcome Places
 keysAnswer (Read x) = gives x
 keysAnswer NotDict = refused 8
@@ -59,25 +85,57 @@ KeysOf k s r (got ps e) = KeysAre k s r (allStrings (forgetPairs (pairs ps))) (�
 KeysOf k s r (fault p) = r ≡ NotDict
 KeysOf k s r (deep p) = r ≡ NotDict
 
--- how the pairs end at a gap where none stands
-abbrev pub keysEnd : Gap → Places → KeysRead
-keysEnd (Shut e) x = Read x
-keysEnd (Item p) x = NotDict
-keysEnd (Stray p) x = NotDict
+-- what walking over the value at a position owes: how it ended, and its keys
+pub record Walks (s : List ℕ) (at : ℕ) (r : Walked) : Type 0 where
+  pub ended : r .ended ≡ pos (value most-open s at)
+  pub keys : KeysAre (most-open - 1) s (r .keys) (keyedAt (value most-open s at)) (λ w. nodeFor w (value most-open s at))
 
--- the keys behind one more pair, whose key is n and whose value stands at `at`
-abbrev pub keysWith : Node → ℕ → Places → Places
-keysWith n at x =
-    record {
-      descr = cond (isKey key-descr n) (found.Found.At at) (x .descr);
-      order = cond (isKey key-order n) (found.Found.At at) (x .order);
-      shape = cond (isKey key-shape n) (found.Found.At at) (x .shape);
-    }
+-- the same of the pairs that were read up to the brace
+pub record WalkedOf (k : ℕ) (s : List ℕ) (r : Walked) (g : Got (List Pair)) : Type 0 where
+  pub ended : r .ended ≡ pos g
+  pub keys : KeysOf k s (r .keys) g
 
--- the same, whichever key stands at p
-abbrev pub PairAt : List ℕ → (p at : ℕ) (was r : Places) → Type 0
-PairAt s p at was r = (k : ℕ) (n : Node) (e : ℕ) → value k s p ≡ got n e → r ≡ keysWith n at was
+-- the answer of a walk that ended so, by whether the keys are all strings and what was found for the three
+abbrev pub walkedBy : Parsed → Bool → Places → Walked
+walkedBy (Value e) strings x = record { ended = Value e; keys = cond strings (Read x) NotDict }
+walkedBy (Fault p) strings x = record { ended = Fault p; keys = NotDict }
+walkedBy (Deep p) strings x = record { ended = Deep p; keys = NotDict }
 
--- whether the value at a position is the key w, whichever value stands there
-abbrev pub KeyAt : List ℕ → ℕ → List ℕ → Bool → Type 0
-KeyAt s at w r = (k : ℕ) (n : Node) (e : ℕ) → value k s at ≡ got n e → r ≡ isKey w n
+-- a key that a name is the name of; another string stands for all that are none of the three
+abbrev pub keyOf : Name → Outcome (List ℕ)
+keyOf name.Name.Descr = gives key-descr
+keyOf name.Name.Order = gives key-order
+keyOf name.Name.Shape = gives key-shape
+keyOf name.Name.Extra = gives []
+keyOf name.Name.NoString = refused 8
+
+-- the name tells of a key whether it is a string, and whether it is one of the three
+pub record Named (r : Name) (key : Outcome (List ℕ)) : Type 0 where
+  pub of-string : isString key ≡ isString (keyOf r)
+  pub of-descr : isThe key-descr key ≡ isThe key-descr (keyOf r)
+  pub of-order : isThe key-order key ≡ isThe key-order (keyOf r)
+  pub of-shape : isThe key-shape key ≡ isThe key-shape (keyOf r)
+
+-- the same of the key at a position, whichever value stands there
+abbrev pub NameAt : List ℕ → ℕ → Name → Type 0
+NameAt s at r = (k : ℕ) (n : Node) (e : ℕ) → value k s at ≡ got n e → Named r (stringOr 8 (forget n))
+
+-- what one more pair changes, and what it leaves
+abbrev pub Takes : Bool → Type 0 → Type 0 → Type 0
+Takes true A B = A
+Takes false A B = B
+
+-- what is found behind one more pair of this name, whose value is v
+pub record PairOf (k : ℕ) (s : List ℕ) (v : Node) (name : Name) (was r : Places) : Type 0 where
+  pub of-descr : Takes (isThe key-descr (keyOf name)) (DescrFoundIs k s (r .descr) (gives v)) (r .descr ≡ was .descr)
+  pub of-order : Takes (isThe key-order (keyOf name)) (OrderIs (r .order) (gives v)) (r .order ≡ was .order)
+  pub of-shape : Takes (isThe key-shape (keyOf name)) (ShapeFoundIs k s (r .shape) (gives v)) (r .shape ≡ was .shape)
+
+-- how the value at the position ended, and the same, whichever value stands there
+pub record PairIs (k : ℕ) (s : List ℕ) (at : ℕ) (name : Name) (was : Places) (r : PairRead) : Type 0 where
+  pub ended : r .ended ≡ pos (value k s at)
+  pub found : (v : Node) (e : ℕ) → value k s at ≡ got v e → PairOf k s v name was (r .places)
+
+-- the order that the value at a position declares, whichever value stands there
+abbrev pub WordAt : List ℕ → ℕ → Declared → Type 0
+WordAt s at r = (k : ℕ) (n : Node) (e : ℕ) → value k s at ≡ got n e → OrderIs r (gives n)

@@ -15,11 +15,11 @@ use Rattle.type_str.specs.Text.{typeText}
 use Rattle.type_str.specs.declared.TypeStr.{TypeStr}
 use Rattle.dtype.specs.declared.Entry.{Entry}
 use Rattle.dtype.specs.declared.Order.{Order}
-use Rattle.table.specs.declared.ItemSize.{ItemSize}
+use Rattle.limits.specs.declared.ItemSize.{ItemSize}
 use Rattle.dtype.specs.Agrees.{entryAt}
-use Rattle.table.specs.Answer.{typeAnswer}
-use Rattle.table.specs.EntryType.{typeOf}
-use Rattle.table.specs.declared.EntryType.{EntryType}
+use Rattle.entries.specs.Answer.{typeAnswer}
+use Rattle.entries.specs.EntryType.{typeOf}
+use Rattle.entries.specs.declared.EntryType.{EntryType}
 use Rattle.lines.specs.Listing.{orderLine, itemLine, parentText, typeIn, kindText, isField, nameText, entryLine}
 
 -- three pieces in turn

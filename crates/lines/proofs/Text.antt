@@ -24,9 +24,9 @@ use Rattle.dtype.proofs.Seen.{table-length}
 use Rattle.shape.specs.Count.{stridesCount, left, front, Writes}
 use Rattle.shape.specs.declared.StridesWritten.{StridesWritten}
 use Rattle.record.specs.Version.{Version}
-use Rattle.table.specs.Answer.{itemSize}
+use Rattle.limits.specs.Answer.{itemSize}
 use Rattle.table.specs.Valid.{made}
-use Rattle.table.specs.declared.ItemSize.{ItemSize}
+use Rattle.limits.specs.declared.ItemSize.{ItemSize}
 use Rattle.places.specs.Walk.{Accepted}
 use Rattle.lines.specs.Listing.{versionLine, orderLine, shapeLine, stridesLine, countLine, itemLine, dataLine, entryLines, listing}
 use Rattle.lines.specs.Strided.{Strided}

@@ -19,10 +19,10 @@ use Rattle.dtype.specs.Record.{Record, table, names}
 use Rattle.dtype.specs.Agrees.{entryAt}
 use Rattle.dtype.specs.Seen.{nameAt}
 use Rattle.record.specs.Version.{Version, major}
-use Rattle.table.specs.Answer.{itemSize}
-use Rattle.table.specs.EntryType.{typeOf}
-use Rattle.table.specs.declared.ItemSize.{ItemSize}
-use Rattle.table.specs.declared.ItemSize.the-variants.{Sized, Unsized}
+use Rattle.limits.specs.Answer.{itemSize}
+use Rattle.entries.specs.EntryType.{typeOf}
+use Rattle.limits.specs.declared.ItemSize.{ItemSize}
+use Rattle.limits.specs.declared.ItemSize.the-variants.{Sized, Unsized}
 
 -- numbers, each behind a space
 abbrev pub numbers : List ℕ → List ℕ → List ℕ

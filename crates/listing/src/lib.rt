@@ -10,11 +10,11 @@ use dtype::RECORD;
 use emit::put;
 use emit::put_bytes;
 use emit::put_count;
+use entries::EntryType;
+use limits::ItemSize;
 use prefix::Version;
 use refusal::Refusal;
 use table::Checked;
-use table::EntryType;
-use table::ItemSize;
 ghost use mathlib.Core.Path.{_≡_};
 ghost use mathlib.Core.List.{List, _∷_};
 ghost use Prim.Native.Nat.{ℕ, _+_, _/_, _≤_, min};
@@ -26,7 +26,7 @@ ghost use Rattle.dtype.specs.Agrees.{entryAt};
 ghost use Rattle.dtype.specs.Shape as shapes;
 ghost use Rattle.dtype.specs.Flat.{entry-width};
 ghost use Rattle.prefix.specs.Answer.{versionIs};
-ghost use Rattle.table.specs.EntryType.{typeOf};
+ghost use Rattle.entries.specs.EntryType.{typeOf};
 ghost use Rattle.table.specs.Valid.{made};
 ghost use Rattle.places.specs.Walk.{Accepted};
 ghost use Rattle.lines.specs.Listing.{numbers, versionLine, orderLine, shapeLine, stridesLine, countLine, itemLine, dataLine, typeIn, kindText, isField, nameText, entryLine, entryLines, listing};
@@ -217,7 +217,7 @@ fn put_entries(out: &mut [u8], at: usize, table: &[u64], names: &[u8]) -> usize
     let mut start: usize = 0;
     let mut e: usize = 0;
     while e < n {
-        let entry = table::entry_at(table, e);
+        let entry = entries::entry_at(table, e);
         let end = past(start, entry.name, names.len());
         p = put_entry(out, p, table, e, &names[start..end]);
         start = end;
@@ -241,7 +241,7 @@ fn past(start: usize, len: u64, limit: usize) -> usize
 fn put_entry(out: &mut [u8], at: usize, table: &[u64], e: usize, name: &[u8]) -> usize
     ensures { λ r. ⌜ Emits (entryLine (now (table .entry)) e (now (name .entry))) (now (out .entry)) at (now (out .exit)) r ⌝ }
 {
-    let entry = table::entry_at(table, e);
+    let entry = entries::entry_at(table, e);
     let p1 = put_count(out, at, e as u64);
     let p2 = put(out, p1, 32);
     let p3 = lines::put_parent(out, p2, e, entry.parent);
@@ -269,10 +269,10 @@ fn put_kind(out: &mut [u8], at: usize, entry: Entry) -> usize
 fn put_type(out: &mut [u8], at: usize, entry: Entry) -> usize
     ensures { λ r. ⌜ Emits (typeIn (typeOf entry)) (now (out .entry)) at (now (out .exit)) r ⌝ }
 {
-    let EntryType::Type(t) = table::type_of(entry) else {
+    let EntryType::Type(t) = entries::type_of(entry) else {
         return at;
     };
-    t.put(out, at)
+    type_print::put(t, out, at)
 }
 
 // Whether entry e, which is not the outermost, stands right below a record.
@@ -282,7 +282,7 @@ fn is_field(table: &[u64], e: usize, parent: u64) -> bool
     if e == 0 {
         return false;
     }
-    let above = table::entry_at(table, parent as usize);
+    let above = entries::entry_at(table, parent as usize);
     above.kind == RECORD
 }
 

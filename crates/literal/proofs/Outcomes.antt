@@ -6,7 +6,7 @@ use Rattle.counts.specs.OneOutcome.{OneOutcome}
 use Rattle.counts.proofs.OneOutcome.{by-equation}
 use Rattle.tokens.specs.Got.{pos}
 use Rattle.literal.specs.Brackets.{gapAt, thenAt, needAt, endedAt, keyBy, listBy}
-use Rattle.literal.specs.Literal.{value, literalOf}
+use Rattle.literal.specs.Literal.{value, aloneAt, literalOf}
 use Rattle.literal.specs.Answer.{Keeps}
 use Rattle.literal.specs.Walks.{countOf, integerAt}
 use Rattle.tokens.specs.declared.Parsed.{Parsed}
@@ -20,6 +20,9 @@ literal-one-outcome text x y p q = p .0 ∙ sym (q .0)
 
 pub value-one : (text : List ℕ) (at room : ℕ) → OneOutcome {A = Parsed} (λ r. r ≡ pos (value room text at))
 value-one text at room = by-equation (pos (value room text at))
+
+pub whole-one : (text : List ℕ) (r : Parsed) → OneOutcome {A = Parsed} (λ x. x ≡ aloneAt text r)
+whole-one text r = by-equation (aloneAt text r)
 
 pub key-one : (text : List ℕ) (at room : ℕ) → OneOutcome {A = Parsed} (λ r. r ≡ pos (keyBy (value room text) text at))
 key-one text at room = by-equation (pos (keyBy (value room text) text at))

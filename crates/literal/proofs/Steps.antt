@@ -5,8 +5,9 @@ use native.Mathlib.Nat.{not-suc-le-zero}
 use native.Mathlib.Omega.{arith}
 use mathlib.Core.Path.{_≡_, refl, sym, ap, subst, _∙_}
 use mathlib.Core.List.{List, [], _∷_}
-use mathlib.Core.Bool.{true, false}
+use mathlib.Core.Bool.{Bool, true, false, cond}
 use lib.ListN.{length}
+use lib.Dec.{eqb}
 use borrow.Author.Tests.{eq-eqb, ne-eqb}
 use denote.Enum.Declared.{tagOf}
 use types.Run.{OneOf, miss}
@@ -19,7 +20,7 @@ use Rattle.tokens.specs.Got.{Got, got, fault, deep, pos}
 use Rattle.tokens.specs.Text.{byteAt, skip}
 use Rattle.tokens.specs.Tokens.{tokenAt}
 use Rattle.literal.specs.Brackets.{gapAt, thenAt, needAt, endedAt, items, listBy, tupleBy, keyBy, pairBy}
-use Rattle.literal.specs.Literal.{bracketBy, value, alone, literalOf, most-open}
+use Rattle.literal.specs.Literal.{bracketBy, value, alone, aloneAt, literalOf, most-open}
 use Rattle.tokens.specs.declared.Parsed.{Parsed}
 use Rattle.tokens.specs.declared.Parsed.the-variants.{Value, Fault, Deep}
 use Rattle.literal.specs.declared.gaps.Gap.{Gap}
@@ -206,20 +207,26 @@ module _ (s : List ℕ) (at : ℕ) where
       value-dict no-square no-round = dict-by (k - 1) no-square no-round ∙ above
 
 -- ---- the whole text
-module _ (s : List ℕ) (g : Got Node) where
-  pub alone-done : (q e : ℕ) → Value q ≡ pos g → e ≡ skip s q → e ≡ length s → Value e ≡ pos (alone s g)
-  unfolding alone
-  alone-done q e hg he h = rw (thing g q hg .1, alone, ← he, eq-eqb _ _ h) (ap Value h)
-
-  pub alone-more : (q e : ℕ) → Value q ≡ pos g → e ≡ skip s q → (e ≡ length s → ⊥) → Fault e ≡ pos (alone s g)
-  unfolding alone
-  alone-more q e hg he h = rw (thing g q hg .1, alone, ← he, ne-eqb _ _ h) (ap Fault he)
-
-pub alone-stop : (s : List ℕ) (g : Got Node) → Stops (pos g) → pos g ≡ pos (alone s g)
+pub alone-at : (s : List ℕ) (g : Got Node) → aloneAt s (pos g) ≡ pos (alone s g)
 unfolding alone
-alone-stop s (got v q) st = absurd st
-alone-stop s (fault e) st = refl
-alone-stop s (deep e) st = refl
+alone-at s (got n q) = go (eqb (skip s q) (length s))
+  where
+    go : (b : Bool) → cond b (Value (length s)) (Fault (skip s q)) ≡ pos {A = Node} (elim b [ true ↦ got n (length s) | false ↦ fault (skip s q) ])
+    go true = refl
+    go false = refl
+alone-at s (fault p) = refl
+alone-at s (deep p) = refl
+
+pub whole-done : (s : List ℕ) (r : Parsed) (q e : ℕ) → r ≡ Value q → e ≡ skip s q → e ≡ length s → Value e ≡ aloneAt s r
+whole-done s r q e hr he h = rw (hr, ← he, eq-eqb _ _ h) (ap Value h)
+
+pub whole-more : (s : List ℕ) (r : Parsed) (q e : ℕ) → r ≡ Value q → e ≡ skip s q → (e ≡ length s → ⊥) → Fault e ≡ aloneAt s r
+whole-more s r q e hr he h = rw (hr, ← he, ne-eqb _ _ h)
+
+pub whole-stop : (s : List ℕ) (r : Parsed) → Stops r → r ≡ aloneAt s r
+whole-stop s (Value q) st = absurd st
+whole-stop s (Fault p) st = refl
+whole-stop s (Deep p) st = refl
 
 pub literal-is : (s : List ℕ) (p : ℕ) → p ≡ skip s 0 → alone s (value most-open s p) ≡ literalOf s
 unfolding literalOf

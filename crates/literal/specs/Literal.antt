@@ -3,7 +3,7 @@
 -- proved against crate grammar. Definitions only. Assumes nothing.
 use Prim.Native.Nat.{ℕ, zero, suc, _+_}
 use mathlib.Core.List.{List}
-use mathlib.Core.Bool.{true, false}
+use mathlib.Core.Bool.{true, false, cond}
 use lib.ListN.{length}
 use lib.Dec.{eqb}
 use Rattle.grammar.specs.Bytes.{isOpen}
@@ -11,6 +11,8 @@ use Rattle.tokens.specs.Node.{Node, span, list, tuple, dict, nodes, pairs}
 use Rattle.tokens.specs.Got.{Got, got, fault, deep, with}
 use Rattle.tokens.specs.Text.{byteAt, skip}
 use Rattle.tokens.specs.Tokens.{tokenAt}
+use Rattle.tokens.specs.declared.Parsed.{Parsed}
+use Rattle.tokens.specs.declared.Parsed.the-variants.{Value, Fault, Deep}
 use Rattle.literal.specs.Brackets.{listBy, tupleBy, pairBy}
 
 -- a bracket at `at`, by a reader of the values in it
@@ -33,6 +35,12 @@ unfoldable pub alone : List ℕ → Got Node → Got Node
 alone s (got n q) = elim (eqb (skip s q) (length s)) [ true ↦ got n (length s) | false ↦ fault (skip s q) ]
 alone s (fault p) = fault p
 alone s (deep p) = deep p
+
+-- the same of an answer, which has only how the value ended (`alone-at` in proofs/Steps.antt)
+abbrev pub aloneAt : List ℕ → Parsed → Parsed
+aloneAt s (Value q) = cond (eqb (skip s q) (length s)) (Value (length s)) (Fault (skip s q))
+aloneAt s (Fault p) = Fault p
+aloneAt s (Deep p) = Deep p
 
 -- how many brackets may be open at once: the 33rd is refused
 abbrev pub most-open : ℕ

@@ -6,7 +6,7 @@ ghost use mathlib.Core.Path.{_≡_};
 ghost use Rattle.tokens.specs.Got.{pos};
 ghost use Rattle.literal.specs.Answer.{Reads};
 ghost use Rattle.literal.specs.Brackets.{listBy, tupleBy, keyBy, pairBy};
-ghost use Rattle.literal.specs.Literal.{value as valueOf};
+ghost use Rattle.literal.specs.Literal.{value as valueOf, aloneAt};
 use gaps::Gap;
 use gaps::ended;
 use gaps::gap_at;
@@ -123,6 +123,13 @@ pub fn literal(text: &[u8]) -> Parsed
     ensures { λ r. ⌜ Reads (now (text .entry)) r ⌝ }
 {
     let r = value(text, blanks(text, 0), OPEN);
+    whole(text, r)
+}
+
+// The same of a text whose value was read already, with the answer r.
+pub fn whole(text: &[u8], r: Parsed) -> Parsed
+    ensures { λ x. ⌜ x ≡ aloneAt (now (text .entry)) r ⌝ }
+{
     let Parsed::Value(q) = r else {
         return r;
     };

@@ -20,7 +20,8 @@ use Rattle.write.specs.Writes.{headerWritten, headerPlaced}
 use Rattle.listing.specs.Answer.{listed, roomBy}
 use Rattle.strings.specs.Rooms.{after}
 use Rattle.codes.specs.Codes.{left, Tells, alone}
-use Rattle.codes.specs.Values.{orderFor, typeFor, textValues, headerValues}
+use Rattle.codes.specs.Numbers.{orderFor, typeFor}
+use Rattle.told_read.specs.Values.{textValues, headerValues}
 
 -- ---- reading: the three lent rooms, and what is said beside them
 pub record Reads (file : List ℕ) (l : Lent) (said : List ℕ) (r : ℕ) (l′ : Lent) (said′ : List ℕ) : Type 0 where

@@ -3,7 +3,7 @@
 use codes::OrderGiven;
 use codes::VersionGiven;
 use counts::Bytes;
-use table::EntryType;
+use entries::EntryType;
 ghost use lib.ListN.{length};
 ghost use Rattle.counts.specs.Outcome.{then, each};
 ghost use Rattle.type_str.specs.TypeString.{typeString};
@@ -16,7 +16,8 @@ ghost use Rattle.strings.specs.Rooms.{readBytes, readPoints, writeBytes, writeP
 ghost use Rattle.element.specs.Element.{elementBytes, elementPoints};
 ghost use Rattle.header.specs.Answer.{lent};
 ghost use Rattle.codes.specs.Codes.{Tells, alone};
-ghost use Rattle.codes.specs.Values.{orderFor, typeFor, typeValues, summaryValues, runValues};
+ghost use Rattle.codes.specs.Numbers.{orderFor, typeFor, typeValues};
+ghost use Rattle.told_place.specs.Values.{summaryValues, runValues};
 ghost use Rattle.npy.specs.Calls.{Reads, ReadsHeld, ReadsText, Writes, Lists, Strides, Prints, Puts};
 
 // The header of a file. Its record goes to the three lent rooms; `said` is its version, order, rank, entries, name bytes and where the data starts.
@@ -30,7 +31,7 @@ pub extern "C" fn npy_read(
 ) -> u8
     ensures { λ r. ⌜ Reads (now (file .entry)) (lent (now (table .entry)) (now (names .entry)) (now (shape .entry))) (now (said .entry)) r (lent (now (table .exit)) (now (names .exit)) (now (shape .exit))) (now (said .exit)) ⌝ }
 {
-    codes::tell_header(header::read(file, table, names, shape), said)
+    told_read::tell_header(header::read(file, table, names, shape), said)
 }
 
 // The same of a file of which only the first bytes are held, at least the 12 before any text or the whole file, and which is longer or is not.
@@ -45,7 +46,7 @@ pub extern "C" fn npy_read_held(
 ) -> u8
     ensures { λ r. ⌜ ReadsHeld longer (now (file .entry)) (lent (now (table .entry)) (now (names .entry)) (now (shape .entry))) (now (said .entry)) r (lent (now (table .exit)) (now (names .exit)) (now (shape .exit))) (now (said .exit)) ⌝ }
 {
-    codes::tell_header(header::read_held(file, longer, table, names, shape), said)
+    told_read::tell_header(header::read_held(file, longer, table, names, shape), said)
 }
 
 // The record of a header's text, of any length; `said` is its order, rank, entries and name bytes.
@@ -59,7 +60,7 @@ pub extern "C" fn npy_read_text(
 ) -> u8
     ensures { λ r. ⌜ ReadsText (now (text .entry)) (lent (now (table .entry)) (now (names .entry)) (now (shape .entry))) (now (said .entry)) r (lent (now (table .exit)) (now (names .exit)) (now (shape .exit))) (now (said .exit)) ⌝ }
 {
-    codes::tell_text(header::read_text(text, table, names, shape), said)
+    told_read::tell_text(header::read_text(text, table, names, shape), said)
 }
 
 // Whether a record is one that some reading gives, 7 and 4 aside; `said` is its rank, entries, 1 and its item size or 0 and 0, and its item count.
@@ -76,7 +77,7 @@ pub extern "C" fn npy_check(
     let OrderGiven::Is(o) = codes::order_for(order) else {
         return 27;
     };
-    codes::tell_checked(table::check(table, names, shape, o), said)
+    told_place::tell_checked(table::check(table, names, shape, o), said)
 }
 
 // The header of a record, at the front of `out`; `count` is its length.
@@ -94,7 +95,7 @@ pub extern "C" fn npy_write_header(
     let OrderGiven::Is(o) = codes::order_for(order) else {
         return 27;
     };
-    codes::tell_written(write::write_header(table, names, shape, o, out), count)
+    told_write::tell_written(write::write_header(table, names, shape, o, out), count)
 }
 
 // The listing of a record, as document 01 prints it, at the front of `out`; `count` is its length.
@@ -117,7 +118,7 @@ pub extern "C" fn npy_list(
     let OrderGiven::Is(o) = codes::order_for(order) else {
         return 27;
     };
-    codes::tell_listed(
+    told_write::tell_listed(
         listing::list(v, Bytes(start), table, names, shape, o, out),
         count,
     )
@@ -131,7 +132,7 @@ pub extern "C" fn npy_count(shape: &[u64], order: u64, count: &mut [u64; 1]) -> 
     let OrderGiven::Is(o) = codes::order_for(order) else {
         return 27;
     };
-    codes::tell_count(shape::count(shape, o), count)
+    told_place::tell_count(shape::count(shape, o), count)
 }
 
 // The strides of a shape, in items, at the front of `out`; `count` is the item count.
@@ -147,7 +148,7 @@ pub extern "C" fn npy_strides(
     let OrderGiven::Is(o) = codes::order_for(order) else {
         return 27;
     };
-    codes::tell_strides(shape::strides(shape, o, out), count)
+    told_place::tell_strides(shape::strides(shape, o, out), count)
 }
 
 // The number of the item that an index names.
@@ -163,7 +164,7 @@ pub extern "C" fn npy_item_number(
     let OrderGiven::Is(o) = codes::order_for(order) else {
         return 27;
     };
-    codes::tell_item(items::item_number(shape, o, index), item)
+    told_place::tell_item(items::item_number(shape, o, index), item)
 }
 
 // The place of an index and a path in a file of so many bytes; `run` is its first byte, how many, and the type's four numbers.
@@ -184,7 +185,7 @@ pub extern "C" fn npy_place(
     let OrderGiven::Is(o) = codes::order_for(order) else {
         return 27;
     };
-    codes::tell_place(
+    told_place::tell_place(
         places::place(
             Bytes(file),
             Bytes(start),
@@ -218,7 +219,7 @@ pub extern "C" fn npy_element_bytes(
     let OrderGiven::Is(o) = codes::order_for(order) else {
         return 27;
     };
-    codes::tell_bytes_element(
+    told_element::tell_bytes_element(
         element::read_bytes(file, Bytes(start), table, names, shape, o, index, path, out),
         count,
     )
@@ -243,7 +244,7 @@ pub extern "C" fn npy_element_points(
     let OrderGiven::Is(o) = codes::order_for(order) else {
         return 27;
     };
-    codes::tell_points_element(
+    told_element::tell_points_element(
         element::read_points(file, Bytes(start), table, names, shape, o, index, path, out),
         count,
     )
@@ -265,7 +266,7 @@ pub extern "C" fn npy_read_bytes(
     let EntryType::Type(t) = codes::type_for(order, letter, size, units) else {
         return 27;
     };
-    codes::tell_bytes(slice::read_bytes(run, t, out), count)
+    told_element::tell_bytes(slice::read_bytes(run, t, out), count)
 }
 
 #[no_mangle]
@@ -283,7 +284,7 @@ pub extern "C" fn npy_read_points(
     let EntryType::Type(t) = codes::type_for(order, letter, size, units) else {
         return 27;
     };
-    codes::tell_points(slice::read_points(run, t, out), count)
+    told_element::tell_points(slice::read_points(run, t, out), count)
 }
 
 // The run of an element S or V, and of an element U, at the front of `out`; `count` is its length in bytes.
@@ -302,7 +303,7 @@ pub extern "C" fn npy_write_bytes(
     let EntryType::Type(t) = codes::type_for(order, letter, size, units) else {
         return 27;
     };
-    codes::tell_wrote(slice::write_bytes(t, value, out), count)
+    told_write::tell_wrote(slice::write_bytes(t, value, out), count)
 }
 
 #[no_mangle]
@@ -320,7 +321,7 @@ pub extern "C" fn npy_write_points(
     let EntryType::Type(t) = codes::type_for(order, letter, size, units) else {
         return 27;
     };
-    codes::tell_wrote(slice::write_points(t, value, out), count)
+    told_write::tell_wrote(slice::write_points(t, value, out), count)
 }
 
 // The type that a type string gives, as its four numbers.
@@ -346,5 +347,5 @@ pub extern "C" fn npy_type_print(
     let EntryType::Type(t) = codes::type_for(order, letter, size, units) else {
         return 27;
     };
-    codes::tell_print(t.print(out), count)
+    told_write::tell_print(type_print::print(t, out), count)
 }

@@ -1,6 +1,6 @@
 // String elements in a place (document 01, "String elements"): a file and what the place function answered in; what the element there stands for out to lent room, how
 // many bytes or code points that is, or the first refusal: the place's own, then 26 for another type, 29 of U, 23. A refusal leaves the room as it was. These serve our
-// own crates, element and codes. What each answer stands for is in specs/Answer.antt. No public function has a `requires`.
+// own crates, element and told_element. What each answer stands for is in specs/Answer.antt. No public function has a `requires`.
 use counts::Bytes;
 use counts::Points;
 use places::Placed;

@@ -31,8 +31,8 @@ use Rattle.dtype.proofs.Seen.{or-left}
 use Rattle.dtype.proofs.Places.{run-inside}
 use Rattle.table.specs.Checked.{checkedRecord}
 use Rattle.table.specs.Answer.{summary}
-use Rattle.table.specs.declared.ItemSize.{ItemSize}
-use Rattle.table.specs.declared.ItemSize.the-variants.{Sized, Unsized}
+use Rattle.limits.specs.declared.ItemSize.{ItemSize}
+use Rattle.limits.specs.declared.ItemSize.the-variants.{Sized, Unsized}
 use Rattle.table.specs.declared.Summary.{Summary}
 use Rattle.table.specs.Valid.{made}
 use Rattle.table.proofs.Accepts.{accepts-valid}

@@ -26,9 +26,9 @@ use Rattle.dtype.proofs.Stands.{stands-entry}
 use Rattle.dtype.proofs.Seen.{or-left, or-right, size-fits, bytes-exact}
 use Rattle.dtype.specs.Leads.{Leads}
 use Rattle.dtype.proofs.Steps.{array-leads, record-leads, plain-leads-nowhere, past-leads-nowhere}
-use Rattle.table.specs.Checked.{untyped}
-use Rattle.table.specs.EntryType.{typeOf}
-use Rattle.table.proofs.Types.{type-of-written}
+use Rattle.whole.specs.Reading.{untyped}
+use Rattle.entries.specs.EntryType.{typeOf}
+use Rattle.entries.proofs.Types.{type-of-written}
 use Rattle.spelling.specs.Spelling.{orderByte, letterByte, orderOf}
 use Rattle.dtype.specs.TypeNumbers.{unitsNumber}
 use Rattle.dtype.specs.PlainBytes.{plainBytes}

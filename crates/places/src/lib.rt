@@ -5,10 +5,10 @@ use counts::ByteCount;
 use counts::Bytes;
 use counts::Items;
 use dtype::Order;
+use entries::EntryType;
 use items::ItemNumber;
+use limits::ItemSize;
 use table::Checked;
-use table::EntryType;
-use table::ItemSize;
 ghost use mathlib.Core.Path.{_≡_};
 ghost use mathlib.Core.Bool.{false};
 ghost use mathlib.Core.List.{List};
@@ -18,7 +18,7 @@ ghost use Rattle.dtype.specs.Entries.{fieldCount};
 ghost use Rattle.dtype.specs.Record.{table as tableFor};
 ghost use Rattle.dtype.specs.Limits.{someOver};
 ghost use Rattle.dtype.specs.Seen.{fieldAt, fieldBytes};
-ghost use Rattle.table.specs.Checked.{untyped};
+ghost use Rattle.whole.specs.Reading.{untyped};
 ghost use Rattle.places.specs.Place.{placed, placeOf};
 ghost use Rattle.places.specs.Answer.{answer};
 ghost use Rattle.places.specs.Walk.{Stands, Steps, Finds, Accepted};
@@ -63,7 +63,7 @@ fn skip(table: &[u64], e: usize, i: u64) -> Spot
     let mut bytes: u64 = 0;
     let mut k: u64 = 0;
     while k < i {
-        let field = table::entry_at(table, c);
+        let field = entries::entry_at(table, c);
         bytes += field.bytes;
         c += field.extent as usize;
         k += 1;
@@ -79,7 +79,7 @@ fn step(table: &[u64], e: usize, i: u64) -> Led
     requires { ⌜ ((d : Dtype) × Stands (now table) e d) ⌝ }
     ensures { λ r. ⌜ ((d : Dtype) → Stands (now (table .entry)) e d → Steps (now (table .entry)) e d i r) ⌝ }
 {
-    let entry = table::entry_at(table, e);
+    let entry = entries::entry_at(table, e);
     if entry.kind == dtype::PLAIN {
         return Led::Nowhere;
     }
@@ -88,7 +88,7 @@ fn step(table: &[u64], e: usize, i: u64) -> Led
     }
     if entry.kind == dtype::ARRAY {
         let c = e + 1;
-        let inner = table::entry_at(table, c);
+        let inner = entries::entry_at(table, c);
         return Led::To(Spot {
             entry: c,
             before: Bytes(i * inner.bytes),
@@ -114,8 +114,8 @@ fn follow(table: &[u64], path: &[u64]) -> Found
         before += further.0;
         k += 1;
     }
-    let entry = table::entry_at(table, e);
-    let EntryType::Type(kind) = table::type_of(entry) else {
+    let entry = entries::entry_at(table, e);
+    let EntryType::Type(kind) = entries::type_of(entry) else {
         return Found::Nowhere;
     };
     Found::At(Run {

@@ -1,7 +1,6 @@
 pub mod Types
 pub mod Listing
 pub mod Walking
-pub mod Nesting
 pub mod Texts
 pub mod Prints
 pub mod Outcomes

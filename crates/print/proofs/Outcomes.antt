@@ -12,8 +12,9 @@ use Rattle.grammar.specs.Print.{print}
 use Rattle.dtype.specs.declared.Order.{Order}
 use Rattle.dtype.specs.Record.{Record}
 use Rattle.record.specs.Layout.{headerLayout}
+use Rattle.depth.specs.Printable.{printable}
 use Rattle.print.specs.declared.Printed.{Printed}
-use Rattle.print.specs.Prints.{printable, answer, Prints}
+use Rattle.print.specs.Prints.{answer, Prints}
 
 back : Outcome ℕ → Printed
 back (gives p) = Printed.Behind p

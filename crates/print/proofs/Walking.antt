@@ -23,12 +23,14 @@ use Rattle.dtype.specs.Agrees.{entryAt}
 use Rattle.dtype.proofs.Flat.{some-entry, names-drop, names-length}
 use Rattle.dtype.proofs.Seen.{or-left, or-right}
 use Rattle.record.specs.Layout.{dimensionRow, levelsOf, fieldLayout, descrLayout, fieldRow}
-use Rattle.table.specs.Checked.{untyped}
-use Rattle.table.specs.EntryType.{typeOf}
-use Rattle.table.proofs.Types.{type-of-written}
+use Rattle.whole.specs.Reading.{untyped}
+use Rattle.entries.specs.EntryType.{typeOf}
+use Rattle.entries.proofs.Types.{type-of-written}
 use Rattle.print.specs.declared.inner.Spot.{Spot}
-use Rattle.print.specs.Walk.{subText, Listed, innermostOf, Innermost, Stands, StandsIn, Walked}
-use Rattle.print.proofs.Listing.{listed-entry, listed-room, listed-fields, listed-first, listed-later, innermost-descr, innermost-names, innermost-bytes, innermost-typed, innermost-entries, under-record}
+use Rattle.depth.specs.Listed.{Listed, innermostOf, Innermost}
+use Rattle.depth.proofs.Listing.{listed-entry, listed-room, listed-fields, listed-first, listed-later, innermost-descr, under-record}
+use Rattle.print.specs.Walk.{subText, Stands, StandsIn, Walked}
+use Rattle.print.proofs.Listing.{innermost-names, innermost-bytes, innermost-typed, innermost-entries}
 
 -- ---- `close_field`
 module _ (t : List ℕ) (e : ℕ) (x : Entry) (q : x ≡ entryAt t e) (old : List ℕ) (at : ℕ) (out : List ℕ) (p : ℕ) where

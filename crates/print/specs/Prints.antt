@@ -1,28 +1,15 @@
--- What printing the dict's text of a caller's record answers, and what the room then holds. Document 01, "The refusal numbers": "Writing a header: 27 (bad tree,
--- type, order or UTF-8 name), 13, 20, 21, 22, 7, 4, 28." The record's own refusals are crate table's, and 7 is asked as `writing` of crate record asks it; 4 and 28
--- are of the whole header, crate write's. "Each returns its number only; every lent buffer stays unchanged." By proofs/Outcomes.antt no two answers stand for
--- the same. Definitions only. Assumes nothing.
+-- What printing the dict's text of a caller's record answers, and what the room then holds. Which record can be printed, or the first of 27, 13, 20, 21, 22 and 7 that
+-- applies, is `printable` of crate depth. Document 01, "The refusal numbers": "Each returns its number only; every lent buffer stays unchanged." By
+-- proofs/Outcomes.antt no two answers stand for the same. Definitions only. Assumes nothing.
 use Prim.Native.Nat.{ℕ}
 use mathlib.Core.Path.{_≡_}
-use mathlib.Core.Bool.{not}
 use mathlib.Core.List.{List}
-use Rattle.counts.specs.Outcome.{Outcome, gives, refused, then, unless}
+use Rattle.counts.specs.Outcome.{Outcome, gives, refused}
 use Rattle.emit.specs.Emits.{Emits}
-use Rattle.grammar.specs.Print.{print, valueOf}
-use Rattle.dtype.specs.declared.Order.{Order}
+use Rattle.grammar.specs.Print.{print}
 use Rattle.dtype.specs.Record.{Record}
 use Rattle.record.specs.Layout.{headerLayout}
-use Rattle.record.specs.Within.{within}
-use Rattle.table.specs.Checked.{checkedRecord}
 use Rattle.print.specs.declared.Printed.{Printed}
-
--- a record, or 7 where its text would open a 33rd bracket
-abbrev pub shallow : Record → Outcome Record
-shallow r = unless (not (within (valueOf (headerLayout r)) 32)) 7 (gives r)
-
--- a caller's record whose text can be printed, or the first refusal that applies
-unfoldable pub printable : (table names shape : List ℕ) → Order → Outcome Record
-printable t ns s o = then (checkedRecord t ns s o) shallow
 
 abbrev pub answer : Printed → Outcome ℕ
 answer (Printed.Behind p) = gives p

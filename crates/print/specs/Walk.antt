@@ -1,7 +1,7 @@
 -- A dtype that stands in a table and its names, and what a walk over it writes and where it ends. Document 01, "The record": "The dtype table is listed depth
 -- first, left to right, parent first" and "Names are stored decoded, end to end in table order": so a walk that prints meets both in their order.
 -- Definitions only. Assumes nothing.
-use Prim.Native.Nat.{ℕ, _+_, _*_, _≤_}
+use Prim.Native.Nat.{ℕ, _+_, _≤_}
 use mathlib.Core.Path.{_≡_}
 use mathlib.Core.Bool.{false, not}
 use mathlib.Core.List.{List, [], _∷_}
@@ -9,42 +9,18 @@ use lib.ListN.{length, drop}
 use Rattle.emit.specs.Emits.{Emits}
 use Rattle.grammar.specs.Print.{print}
 use Rattle.type_str.specs.Text.{isType}
-use Rattle.dtype.specs.Dtype.{Dtype, Fields, plain, array, record-of}
-use Rattle.dtype.specs.Entries.{levels, someEntryIn, plainOnly}
+use Rattle.dtype.specs.Dtype.{Dtype, Fields}
+use Rattle.dtype.specs.Entries.{someEntryIn, plainOnly}
 use Rattle.dtype.specs.Names.{namesOf, namesIn}
-use Rattle.dtype.specs.Flat.{entry-width, flat, flats}
 use Rattle.record.specs.Layout.{shapeLayout}
-use Rattle.table.specs.Checked.{untyped}
+use Rattle.whole.specs.Reading.{untyped}
+use Rattle.depth.specs.Listed.{Listed, ListedIn}
 use Rattle.print.specs.declared.inner.Spot.{Spot}
 
 -- a field's sub-shape behind its type, in front of r: nothing where it has none
 abbrev pub subText : (levels : List ℕ) → List ℕ → List ℕ
 subText [] r = r
 subText (n ∷ ns) r = 44 ∷ 32 ∷ print (shapeLayout 0 (n ∷ ns)) r
-
--- d is listed in a table from entry e on
-pub record Listed (t : List ℕ) (e : ℕ) (d : Dtype) : Type 0 where
-  pub up : ℕ
-  pub name : ℕ
-  pub rest : List ℕ
-  pub is : drop (entry-width * e) t ≡ flat d e up name rest
-
--- and so are fields
-pub record ListedIn (t : List ℕ) (e : ℕ) (fs : Fields) : Type 0 where
-  pub up : ℕ
-  pub rest : List ℕ
-  pub is : drop (entry-width * e) t ≡ flats fs e up rest
-
--- the type under the array levels that a dtype begins with
-abbrev pub innermostOf : Dtype → Dtype
-innermostOf (plain t) = plain t
-innermostOf (array n d) = innermostOf d
-innermostOf (record-of fs) = record-of fs
-
--- where d is listed from entry e on, that type is listed from entry r on, one entry further for each level
-pub record Innermost (t : List ℕ) (e : ℕ) (d : Dtype) (r : ℕ) : Type 0 where
-  pub listed : Listed t r (innermostOf d)
-  pub passed : r ≡ e + levels d
 
 -- d is listed from entry e on and its names from byte b on, and type strings give its types
 pub record Stands (t ns : List ℕ) (e b : ℕ) (d : Dtype) : Type 0 where

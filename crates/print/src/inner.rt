@@ -1,30 +1,26 @@
-// The text of a record whose table and names the check of crate table has accepted. The walk over a table: `put_descr` and `put_fields` call each other in a
-// cycle, and so do `within` and `fields_within`, once for each record; array levels are passed in a loop, `innermost`. Entries and names are met in their
-// order. What stands between the names and types of the text is written by small functions, `open_field`, `close_field` and `put_type`.
-use super::Printed;
+// The text of a record whose table and names the check of crate depth has accepted. The walk over a table: `put_descr` and `put_fields` call each other in a cycle,
+// once for each record; array levels are passed by `depth::innermost`. Entries and names are met in their order. What stands between the names and types of the text
+// is written by small functions, `open_field`, `close_field` and `put_type`.
 use dtype::ARRAY;
 use dtype::Entry;
 use dtype::Order;
 use dtype::PLAIN;
-use table::EntryType;
+use entries::EntryType;
 ghost use mathlib.Core.Path.{_≡_};
-ghost use mathlib.Core.Bool.{cond};
 ghost use mathlib.Core.List.{[], _∷_};
-ghost use lib.Dec.{eqb};
 ghost use Rattle.counts.specs.Outcome.{gives};
 ghost use Rattle.emit.specs.Emits.{Emits};
-ghost use Rattle.grammar.specs.Print.{quote, print, printRow, wordText, valueOf, valuesOf};
+ghost use Rattle.grammar.specs.Print.{quote, print, printRow, wordText};
 ghost use Rattle.type_str.specs.Text.{typeText};
 ghost use Rattle.type_str.specs.declared.TypeStr.{TypeStr};
 ghost use Rattle.dtype.specs.Dtype.{Dtype, Fields};
 ghost use Rattle.dtype.specs.Entries.{entriesOf, entriesIn, fieldCount};
 ghost use Rattle.dtype.specs.Names.{nameBytes, nameBytesIn};
 ghost use Rattle.record.specs.Layout.{dimensionRow, levelsOf, descrLayout, fieldRow, isFortran, headerLayout};
-ghost use Rattle.record.specs.Within.{within as isWithin, allWithin};
-ghost use Rattle.table.specs.EntryType.{typeOf};
-ghost use Rattle.table.specs.Valid.{made, Valid};
-ghost use Rattle.print.specs.Walk.{subText, Listed, ListedIn, Innermost, Stands, StandsIn, Walked};
-ghost use Rattle.print.specs.Prints.{shallow, Prints};
+ghost use Rattle.entries.specs.EntryType.{typeOf};
+ghost use Rattle.table.specs.Valid.{made};
+ghost use Rattle.depth.specs.Listed.{Listed};
+ghost use Rattle.print.specs.Walk.{subText, Stands, StandsIn, Walked};
 
 // The entry and the name byte that come behind a dtype's own, and the place behind its text.
 struct Spot {
@@ -37,11 +33,11 @@ struct Spot {
 fn put_type(out: &mut [u8], at: usize, entry: Entry) -> usize
     ensures { λ r. ⌜ ((t : TypeStr) → typeOf entry ≡ gives t → Emits (print (quote (typeText t []))) (now (out .entry)) at (now (out .exit)) r) ⌝ }
 {
-    let EntryType::Type(t) = table::type_of(entry) else {
+    let EntryType::Type(t) = entries::type_of(entry) else {
         return at;
     };
     let inside = emit::put(out, at, 39);
-    let behind = t.put(out, inside);
+    let behind = type_print::put(t, out, inside);
     emit::put(out, behind, 39)
 }
 
@@ -61,13 +57,13 @@ fn put_levels(out: &mut [u8], at: usize, table: &[u64], e: usize) -> usize
 {
     let mut p = at;
     let mut c = e;
-    let first = table::entry_at(table, e);
+    let first = entries::entry_at(table, e);
     let mut kind = first.kind;
     let mut number = first.number;
     while kind == ARRAY {
         p = quote::put_dimension(out, p, number);
         c += 1;
-        let next = table::entry_at(table, c);
+        let next = entries::entry_at(table, c);
         kind = next.kind;
         number = next.number;
     }
@@ -79,7 +75,7 @@ fn close_field(out: &mut [u8], at: usize, table: &[u64], e: usize) -> usize
     requires { ⌜ ((d : Dtype) × Listed (now table) e d) ⌝ }
     ensures { λ r. ⌜ ((d : Dtype) → Listed (now (table .entry)) e d → Emits (λ x. subText (levelsOf d) (41 ∷ 44 ∷ 32 ∷ x)) (now (out .entry)) at (now (out .exit)) r) ⌝ }
 {
-    let entry = table::entry_at(table, e);
+    let entry = entries::entry_at(table, e);
     if entry.kind == ARRAY {
         let inside = emit::put_bytes(out, at, b", (");
         let behind = put_levels(out, inside, table, e);
@@ -88,29 +84,13 @@ fn close_field(out: &mut [u8], at: usize, table: &[u64], e: usize) -> usize
     emit::put_bytes(out, at, b"), ")
 }
 
-// The entry of the type under the array levels from entry e on: e itself where there is none.
-fn innermost(table: &[u64], e: usize) -> usize
-    requires { ⌜ ((d : Dtype) × Listed (now table) e d) ⌝ }
-    ensures { λ r. ⌜ ((d : Dtype) → Listed (now (table .entry)) e d → Innermost (now (table .entry)) e d r) ⌝ }
-{
-    let mut c = e;
-    let first = table::entry_at(table, e);
-    let mut kind = first.kind;
-    while kind == ARRAY {
-        c += 1;
-        let next = table::entry_at(table, c);
-        kind = next.kind;
-    }
-    c
-}
-
 // The text of the dtype at entry e, its names from byte b on. Array levels are their field's to write.
 fn put_descr(table: &[u64], names: &[u8], e: usize, b: usize, out: &mut [u8], at: usize) -> Spot
     requires { ⌜ ((d : Dtype) × Stands (now table) (now names) e b d) ⌝ }
     ensures { λ r. ⌜ ((d : Dtype) → Stands (now (table .entry)) (now (names .entry)) e b d → Walked (print (descrLayout d)) (entriesOf d) (nameBytes d) (now (out .entry)) e b at (now (out .exit)) r) ⌝ }
 {
-    let under = innermost(table, e);
-    let entry = table::entry_at(table, under);
+    let under = depth::innermost(table, e);
+    let entry = entries::entry_at(table, under);
     if entry.kind == PLAIN {
         let behind = put_type(out, at, entry);
         return Spot {
@@ -147,7 +127,7 @@ fn put_fields(
     let mut p = at;
     let mut left = count;
     while 0 < left {
-        let field = table::entry_at(table, c);
+        let field = entries::entry_at(table, c);
         let end = start + field.name as usize;
         let opened = open_field(out, p, &names[start..end]);
         let inner = put_descr(table, names, c, end, out, opened);
@@ -163,50 +143,6 @@ fn put_fields(
     }
 }
 
-// Whether at most k brackets are open at once in the text of the dtype at entry e.
-fn within(table: &[u64], e: usize, k: u64) -> bool
-    requires { ⌜ ((d : Dtype) × Listed (now table) e d) ⌝ }
-    ensures { λ r. ⌜ ((d : Dtype) → Listed (now (table .entry)) e d → r ≡ isWithin (valueOf (descrLayout d)) k) ⌝ }
-{
-    let under = innermost(table, e);
-    let entry = table::entry_at(table, under);
-    if entry.kind == PLAIN {
-        return true;
-    }
-    if k == 0 {
-        return false;
-    }
-    fields_within(table, entry.number, under + 1, k - 1)
-}
-
-// The same of so many fields, the first at entry e.
-fn fields_within(table: &[u64], count: u64, e: usize, k: u64) -> bool
-    requires { ⌜ ((fs : Fields) × (count ≡ fieldCount fs) × ListedIn (now table) e fs) ⌝ }
-    ensures { λ r. ⌜ ((fs : Fields) → count ≡ fieldCount fs → ListedIn (now (table .entry)) e fs → r ≡ allWithin (valuesOf (fieldRow fs)) k) ⌝ }
-{
-    let mut c = e;
-    let mut left = count;
-    while 0 < left {
-        let field = table::entry_at(table, c);
-        if k < brackets(field.kind) {
-            return false;
-        }
-        if !within(table, c, k - 1) {
-            return false;
-        }
-        c += field.extent as usize;
-        left -= 1;
-    }
-    true
-}
-
-// How many brackets a field opens beside those of its type: one, and one in it for a sub-shape.
-fn brackets(kind: u64) -> u64
-    ensures { λ r. ⌜ r ≡ cond (eqb kind 1) 2 1 ⌝ }
-{
-    if kind == ARRAY { 2 } else { 1 }
-}
-
 // `True` for Fortran order.
 fn put_order(out: &mut [u8], at: usize, order: Order) -> usize
     ensures { λ r. ⌜ Emits (wordText (isFortran order)) (now (out .entry)) at (now (out .exit)) r ⌝ }
@@ -218,7 +154,7 @@ fn put_order(out: &mut [u8], at: usize, order: Order) -> usize
 }
 
 // The dict's text, of a dtype that stands in the table and the names.
-fn put_dict(
+pub(crate) fn put_dict(
     table: &[u64],
     names: &[u8],
     shape: &[u64],
@@ -236,23 +172,4 @@ fn put_dict(
     let before_shape = emit::put_bytes(out, behind_order, b", 'shape': ");
     let behind_shape = quote::put_shape(out, before_shape, shape);
     emit::put_bytes(out, behind_shape, b", }")
-}
-
-// The text of a record that the check has accepted, or 7.
-pub fn put_text(
-    table: &[u64],
-    names: &[u8],
-    shape: &[u64],
-    order: Order,
-    out: &mut [u8],
-    at: usize,
-) -> Printed
-    requires { ⌜ ((d : Dtype) × Valid (now table) (now names) (now shape) order d) ⌝ }
-    ensures { λ r. ⌜ ((d : Dtype) → Valid (now (table .entry)) (now (names .entry)) (now (shape .entry)) order d → Prints (shallow (made d (now (shape .entry)) order)) (now (out .entry)) at r (now (out .exit))) ⌝ }
-{
-    if !within(table, 0, 31) {
-        return Printed::Deep;
-    }
-    let behind = put_dict(table, names, shape, order, out, at);
-    Printed::Behind(behind)
 }

@@ -1,11 +1,12 @@
 // The dict's text of a caller's record, printed from its flat table, its names, its shape and its order (document 01, "Header bytes out"): the record's own
-// refusals 27, 13, 20, 21, 22 first, then 7, and a refusal stores nothing. What each answer stands for is in specs/Prints.antt. No public function here has a
-// `requires`: the walks over a table that was checked are in `inner`.
+// refusals 27, 13, 20, 21, 22 first, then 7, all of crate depth, and a refusal stores nothing. What each answer stands for is in specs/Prints.antt. No public function
+// here has a `requires`: the walks over a table that was checked are in `inner`.
 mod inner;
 
+use depth::Printable;
 use dtype::Order;
-use table::Checked;
-ghost use Rattle.print.specs.Prints.{printable, Prints};
+ghost use Rattle.depth.specs.Printable.{printable};
+ghost use Rattle.print.specs.Prints.{Prints};
 
 // The place behind the text; or 27, 13, 20, 21, 22, 7.
 pub enum Printed {
@@ -29,12 +30,16 @@ pub fn put_text(
 ) -> Printed
     ensures { λ r. ⌜ Prints (printable (now (table .entry)) (now (names .entry)) (now (shape .entry)) order) (now (out .entry)) at r (now (out .exit)) ⌝ }
 {
-    match table::check(table, names, shape, order) {
-        Checked::Accepted(found) => inner::put_text(table, names, shape, order, out, at),
-        Checked::NoReading => Printed::NoReading,
-        Checked::Dimensions => Printed::Dimensions,
-        Checked::Entries => Printed::Entries,
-        Checked::Size => Printed::Size,
-        Checked::Shape => Printed::Shape,
+    match depth::check(table, names, shape, order) {
+        Printable::Accepted(found) => {
+            let behind = inner::put_dict(table, names, shape, order, out, at);
+            Printed::Behind(behind)
+        }
+        Printable::NoReading => Printed::NoReading,
+        Printable::Dimensions => Printed::Dimensions,
+        Printable::Entries => Printed::Entries,
+        Printable::Size => Printed::Size,
+        Printable::Shape => Printed::Shape,
+        Printable::Deep => Printed::Deep,
     }
 }

@@ -23,7 +23,7 @@ use Rattle.products.specs.declared.Verdict.the-variants.{Good, Form, Lar
 use Rattle.products.specs.declared.Member as member
 use Rattle.products.specs.declared.Member.{Member}
 use Rattle.products.specs.Answer.{sized, outlined, rankOf}
-use Rattle.products.specs.Outline.{hasZero, beforeZero, behindZero, outlineOf, scaledBy, extendedTo, extendedBy, capped, heldBy, isOver}
+use Rattle.products.specs.Outline.{hasZero, beforeZero, behindZero, outlineOf, scaledBy, extendedTo, extendedBy, extends, capped, heldBy, isOver}
 
 -- a product of numbers that fit or are over, where the new factor is not 0
 pub number-scaled : (a n : ℕ) → eqb n 0 ≡ false → number (a * n) ≡ scaledBy (number a) n
@@ -117,11 +117,7 @@ module _ (k : ℕ) (o : Outline) (n : ℕ) where
   unfolding extendedTo
   extended-more a b h e ha hb = rw (ne-eqb n 0 h, e, ha, hb)
 
--- the outline of dimensions that are behind those of the outline o
-abbrev pub extends : Outline → List ℕ → Outline
-extends o [] = o
-extends o (n ∷ ns) = extends (extendedBy o n) ns
-
+-- ---- dimension after dimension
 extends-from : (us ns : List ℕ) → extends (outlineOf us) ns ≡ outlineOf (us ++ ns)
 extends-from us [] = ap outlineOf (sym (append-nil us))
 extends-from us (n ∷ ns) =

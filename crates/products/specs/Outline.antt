@@ -52,6 +52,11 @@ extendedTo k o n =
 abbrev pub extendedBy : Outline → ℕ → Outline
 extendedBy o n = extendedTo (o .rank + 1) o n
 
+-- with the dimensions ns behind the others
+abbrev pub extends : Outline → List ℕ → Outline
+extends o [] = o
+extends o (n ∷ ns) = extends (extendedBy o n) ns
+
 -- the same as it is held: a rank is at most 2^64-1. No text has so many dimensions (`joined-below`, proofs/Outlines.antt)
 abbrev pub capped : ℕ → ℕ
 capped n = min n (2 ^ 64 - 1)

@@ -27,7 +27,9 @@ use Rattle.record.specs.Rooms.{Rooms}
 use Rattle.record.specs.Header.{Header, Reading, Keeps, headerBy}
 use Rattle.record.specs.Sound.{Small, Good, AllGood, Sound}
 use Rattle.record.proofs.RoundTrips.{read-readable}
-use Rattle.table.specs.Checked.{refuses, untyped, illNamed, isArray, readDtype, checkedRecord}
+use Rattle.agrees.specs.Decides.{refuses}
+use Rattle.whole.specs.Reading.{untyped, illNamed, isArray, readDtype}
+use Rattle.table.specs.Checked.{checkedRecord}
 use Rattle.table.specs.Valid.{made, Valid}
 
 or-both : (a b : Bool) → a ≡ false → b ≡ false → (a || b) ≡ false

@@ -4,13 +4,10 @@
 // looked at afterwards: a line ends in ` changed` where a refusal changed a room, or an answer the room beyond what was needed.
 use counts::Number;
 use frames::Frame;
-use header::Header;
-use header::HeaderRead;
 use libc::STDOUT_FILENO;
-use listing::Listed;
-use refusal::Refusal;
 use spelling::Endianness;
-ghost use Prim.Native.Nat.{_≤_};
+ghost use Prim.Native.Nat.{_≤_, _<_, _+_};
+ghost use lib.ListN.{length};
 
 fn main() {
     let mut room = [0u8; 147456];
@@ -65,6 +62,12 @@ fn at_most(run: &[u8], most: usize) -> usize
     let Number::Is(n) = numbers::read(run, Endianness::Little) else {
         return most;
     };
+    least(n, most)
+}
+
+fn least(n: u64, most: usize) -> usize
+    ensures { λ r. ⌜ r ≤ most ⌝ }
+{
     if n < most as u64 { n as usize } else { most }
 }
 
@@ -73,95 +76,83 @@ fn say(text: &[u8]) {
 }
 
 fn read_case(file: &[u8], longer: bool, table: &mut [u64], names: &mut [u8], shape: &mut [u64]) {
-    let r = header::read_held(file, longer, table, names, shape);
-    match r {
-        HeaderRead::Read(h) => {
-            list_header(h, table, names, shape);
-        }
-        HeaderRead::Refused(why) => {
-            tell(why);
-            look(table, names, shape);
-        }
+    let mut said = [0u64; 6];
+    let r = npy::npy_read_held(file, longer, table, names, shape, &mut said);
+    if r == 0 {
+        list_record(&said, table, names, shape);
+    } else {
+        refuse(r);
+        look(table, names, shape);
     }
 }
 
-fn tell(why: Refusal) {
+fn refuse(r: u8) {
     say(b"refused ");
-    io::print_decimal(STDOUT_FILENO, why.number() as u64);
+    io::print_decimal(STDOUT_FILENO, r as u64);
 }
 
-fn list_header(h: Header, table: &[u64], names: &[u8], shape: &[u64]) {
-    let said = h.said;
-    let version = h.version;
-    let start = h.start;
-    let order = said.order;
-    let written = header::table_of(table, said.entries);
-    let spelled = header::names_of(names, said.names);
-    let dimensions = header::shape_of(shape, said.rank);
+// The record at the front of the rooms, and a look at what is behind it.
+fn list_record(said: &[u64; 6], table: &[u64], names: &[u8], shape: &[u64]) {
+    let numbers = dtype::ENTRY * least(said[3], table.len() / dtype::ENTRY);
+    let bytes = least(said[4], names.len());
+    let rank = least(said[2], shape.len());
+    list(said, &table[..numbers], &names[..bytes], &shape[..rank]);
+    look(&table[numbers..], &names[bytes..], &shape[rank..]);
+}
+
+fn list(said: &[u64; 6], table: &[u64], names: &[u8], shape: &[u64]) {
     let mut out = [0u8; 262144];
-    let r = listing::list(
-        version,
-        start,
-        written,
-        spelled,
-        dimensions,
-        order,
+    let mut length = [0u64; 1];
+    let r = npy::npy_list(
+        said[0],
+        said[5],
+        table,
+        names,
+        shape,
+        said[1],
         &mut out,
+        &mut length,
     );
-    match r {
-        Listed::Written(n) => {
-            show(&out, n);
-        }
-        Listed::Refused(why) => {
-            tell(why);
-        }
+    if r == 0 {
+        show(&out, length[0]);
+    } else {
+        refuse(r);
     }
-    look(
-        behind64(table, written.len()),
-        behind8(names, spelled.len()),
-        behind64(shape, dimensions.len()),
-    );
-}
-
-fn behind64(s: &[u64], n: usize) -> &[u64] {
-    if n <= s.len() {
-        return &s[n..];
-    }
-    s
-}
-
-fn behind8(s: &[u8], n: usize) -> &[u8] {
-    if n <= s.len() {
-        return &s[n..];
-    }
-    s
 }
 
 // The listing in one line.
-fn show(out: &[u8], n: usize) {
-    if n == 0 {
-        return;
-    }
-    if n <= out.len() {
-        show_lines(&out[..n - 1]);
-    }
+fn show(room: &[u8], length: u64) {
+    let end = least(length, room.len());
+    show_lines(&room[..end]);
 }
 
 fn show_lines(text: &[u8]) {
+    let mut from: usize = 0;
     let mut i: usize = 0;
     while i < text.len() {
-        show_byte(text[i]);
+        from = show_line(text, from, i);
         i += 1;
     }
 }
 
-fn show_byte(b: u8) {
-    if b == 10 {
-        say(b"; ");
-        return;
+// Shows the line that began at `from` where it ends at `i`, and answers where the next begins.
+fn show_line(text: &[u8], from: usize, i: usize) -> usize
+    requires { ⌜ (from ≤ i) × (i < length (now text)) ⌝ }
+    ensures { λ r. ⌜ r ≤ i + 1 ⌝ }
+{
+    if text[i] != 10 {
+        return from;
     }
-    let one = [b; 1];
-    say(&one);
+    say(&text[from..i]);
+    part_from(text, i + 1);
+    i + 1
+}
+
+// What parts a line of the listing from the next: nothing behind the last.
+fn part_from(text: &[u8], at: usize) {
+    if at < text.len() {
+        say(b"; ");
+    }
 }
 
 // Whether all that was not to be written is as it was.

@@ -4,7 +4,7 @@ use counts::Number;
 use frames::Frame;
 use libc::STDOUT_FILENO;
 use spelling::Endianness;
-ghost use Prim.Native.Nat.{_≤_};
+ghost use Prim.Native.Nat.{_≤_, _<_};
 ghost use lib.ListN.{length};
 
 fn main() {
@@ -64,8 +64,8 @@ fn at_most(n: u64, most: usize) -> usize
     if n < most as u64 { n as usize } else { most }
 }
 
-fn number(bytes: &[u8]) -> u64 {
-    match numbers::read(bytes, Endianness::Little) {
+fn number(bytes: &[u8], order: Endianness) -> u64 {
+    match numbers::read(bytes, order) {
         Number::Is(n) => n,
         Number::Over => u64::MAX,
     }
@@ -78,7 +78,7 @@ fn part_end(parts: &[u8]) -> usize
     if parts.len() < 4 {
         return parts.len();
     }
-    4 + at_most(number(&parts[0..4]), parts.len() - 4)
+    4 + at_most(number(&parts[0..4], Endianness::Little), parts.len() - 4)
 }
 
 fn part(parts: &[u8], k: usize) -> &[u8] {
@@ -102,7 +102,7 @@ fn store(bytes: &[u8], room: &mut [u64]) -> usize {
     if bytes.len() == 0 {
         return 0;
     }
-    let width = at_most(number(&bytes[0..1]), 8);
+    let width = at_most(number(&bytes[0..1], Endianness::Little), 8);
     let mut at: usize = 1;
     let mut i: usize = 0;
     while i < room.len() {
@@ -110,7 +110,7 @@ fn store(bytes: &[u8], room: &mut [u64]) -> usize {
             return i;
         }
         let end = at + width;
-        room[i] = number(&bytes[at..end]);
+        room[i] = number(&bytes[at..end], Endianness::Little);
         at = end;
         i += 1;
     }
@@ -389,15 +389,29 @@ fn show(room: &[u64]) {
 fn show_bytes(room: &[u8]) {
     say(b";");
     let end = changed_bytes(room);
-    let mut i: usize = 0;
-    while i < end {
-        say_byte(room[i]);
-        i += 1;
+    show_run(&room[..end]);
+}
+
+// Eight bytes at a time.
+fn show_run(run: &[u8]) {
+    let mut at: usize = 0;
+    while at < run.len() {
+        let to = next_eight(at, run.len());
+        say_hex(&run[at..to]);
+        at = to;
     }
 }
 
-fn say_byte(b: u8) {
-    io::print_hex(STDOUT_FILENO, b as u64, 2);
+fn next_eight(at: usize, end: usize) -> usize
+    requires { ⌜ at < end ⌝ }
+    ensures { λ r. ⌜ (at < r) × (r ≤ end) ⌝ }
+{
+    if end - at < 8 { end } else { at + 8 }
+}
+
+fn say_hex(run: &[u8]) {
+    let n = number(run, Endianness::Big);
+    io::print_hex(STDOUT_FILENO, n, 2 * at_most(run.len() as u64, 8));
 }
 
 fn changed(room: &[u64]) -> usize {

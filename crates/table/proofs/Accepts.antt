@@ -12,7 +12,8 @@ use Rattle.dtype.specs.Record.{Record, tableOf}
 use Rattle.dtype.specs.Limits.{overDimensions, overLevels, overEntries, overSize, overShape, limited}
 use Rattle.dtype.proofs.Record.{tableOf-right, tableOf-these}
 use Rattle.dtype.proofs.Seen.{or-left, or-right}
-use Rattle.table.specs.Checked.{untyped, illNamed, isArray, unread, readDtype, checkedRecord}
+use Rattle.whole.specs.Reading.{untyped, illNamed, isArray, unread, readDtype}
+use Rattle.table.specs.Checked.{checkedRecord}
 use Rattle.table.specs.Valid.{made, Valid}
 
 limits-by : (r r′ : Record) (a b c e : Bool) → unless a 13 (unless b 20 (unless c 21 (unless e 22 (gives r)))) ≡ gives r′

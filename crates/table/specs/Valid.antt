@@ -8,7 +8,7 @@ use Rattle.dtype.specs.declared.Order.{Order}
 use Rattle.dtype.specs.Dtype.{Dtype}
 use Rattle.dtype.specs.Record.{Record, table, names}
 use Rattle.dtype.specs.Limits.{overDimensions, overLevels, overEntries, overSize, overShape}
-use Rattle.table.specs.Checked.{untyped, illNamed, isArray}
+use Rattle.whole.specs.Reading.{untyped, illNamed, isArray}
 
 abbrev pub made : Dtype → List ℕ → Order → Record
 made d s o = record { dtype = d; shape = s; order = o }

@@ -11,7 +11,7 @@ use denote.Enum.Declared.{tagOf}
 use types.Run.{OneOf, miss}
 use Rattle.decimal.specs.Decimal.{isDigit}
 use Rattle.tokens.proofs.bytes.Kind.{the-type}
-use Rattle.tokens.proofs.Positions.{byte-in, class-in, past-from}
+use Rattle.tokens.proofs.Positions.{byte-in, digit-in, past-from}
 use Rattle.tokens.proofs.Spelling.{PieceAhead, piece-ahead}
 use Rattle.tokens.specs.Got.{Got, got, fault, deep, pos, with, giving}
 use Rattle.tokens.specs.Text.{byteAt, kindOf, run, past}
@@ -19,7 +19,6 @@ use Rattle.tokens.specs.Strings.{pieceAt, Spelled, ends, heard, pieces, 
 use Rattle.tokens.specs.Tokens.{naturalAt, wordAt, word-true, word-false, word-none, tokenAt}
 use Rattle.tokens.specs.declared.Parsed.{Parsed}
 use Rattle.tokens.specs.declared.Parsed.the-variants.{Value, Fault, Deep}
-use Rattle.tokens.specs.declared.bytes.Class.the-variants.{Digits}
 use Rattle.tokens.specs.declared.bytes.Kind.{Kind}
 use Rattle.tokens.specs.declared.bytes.Kind.the-variants.{Square, Round, Curly, Quote, Minus, Digit, TrueWord, FalseWord, NoneWord, Other}
 use Rattle.tokens.specs.declared.strings.Piece.{Piece}
@@ -69,7 +68,7 @@ natural-ahead s at = first (eqb (byteAt s at) 48) refl
   where
     more : (t : Bool) → isDigit (byteAt s at) ≡ t → Ahead at (length s) (elim t [ true ↦ Value (past isDigit s (at + 1)) | false ↦ Fault at ])
     more true h =
-        let lt = class-in Digits s at h in
+        let lt = digit-in s at h in
         omega (arith, past-from isDigit s (at + 1), past-within isDigit s (at + 1) (omega arith))
     more false h = tt
 

@@ -4,4 +4,5 @@ pub mod Matching
 pub mod Words
 pub mod Ends
 pub mod Plain
+mod Numerals
 pub mod Outcomes

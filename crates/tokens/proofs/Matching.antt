@@ -1,15 +1,16 @@
 -- A list of bytes told apart from a given one byte by byte, and stored byte by byte. Assumes nothing.
-use Prim.Native.Nat.{ℕ, suc, _+_, _<_, _≤_}
+use Prim.Native.Nat.{ℕ, suc, _+_, _-_, _<_, _≤_}
 use native.Mathlib.Omega.{arith}
 use native.Mathlib.Decide.{decLt}
 use native.Mathlib.Numerals.{add-one}
 use mathlib.Core.Path.{_≡_, refl, sym, ap, _∙_}
 use mathlib.Core.List.{List, [], _∷_, _++_, append-assoc, append-nil}
-use mathlib.Core.Bool.{false, and-true, and-false}
+use mathlib.Core.Bool.{false, cond, and-true, and-false}
 use lib.ListN.{length, getD, drop, set, drop-of-length-le}
 use lib.Seq.{drop-cons, set-out, sets}
-use lib.Dec.{eqb}
-use borrow.Author.Tests.{eq-eqb, ne-eqb}
+use lib.Dec.{eqb, ltb}
+use borrow.Author.Tests.{eq-eqb, ne-eqb, ltb-true, ltb-false}
+use Rattle.tokens.proofs.Positions.{by-test}
 use Rattle.counts.specs.Same.{same}
 
 -- the bytes us are the first i of the key
@@ -50,6 +51,17 @@ stored-next out run at i lt = rw (add-one at, add-one i, drop-cons run i 0 lt)
 pub stored-outside : (out vs : List ℕ) (at : ℕ) → length out ≤ at → out ≡ sets out at vs
 stored-outside out [] at le = refl
 stored-outside out (v ∷ vs) at le = stored-outside out vs (suc at) (omega arith) ∙ ap (λ (l : List ℕ). sets l (suc at) vs) (sym (set-out out at v le))
+
+-- ---- the lesser of two numbers, as the code takes it
+pub least-first : (a b : ℕ) → cond (ltb a b) a b ≤ a
+least-first a b = by-test (λ (x : ℕ). x ≤ a) (ltb a b) (λ h. omega arith) (λ h. ltb-false a b h)
+
+pub least-second : (a b : ℕ) → cond (ltb a b) a b ≤ b
+least-second a b = by-test (λ (x : ℕ). x ≤ b) (ltb a b) (λ h. let lt = ltb-true a b h in omega arith) (λ h. omega arith)
+
+-- as many stored as there are, or as have room: what is left of the run is not stored
+pub stored-fit : (out run : List ℕ) (from room i : ℕ) → room ≡ length out → cond (ltb (length run) (room - from)) (length run) (room - from) ≤ i → out ≡ sets out (from + i) (drop i run)
+stored-fit out run from room i hr = by-test (λ (x : ℕ). x ≤ i → out ≡ sets out (from + i) (drop i run)) (ltb (length run) (room - from)) (λ t h. rw (drop-of-length-le run h)) (λ t h. stored-outside out (drop i run) (from + i) (omega arith))
 
 sets-append : (old us run : List ℕ) (i : ℕ) → sets old i (us ++ run) ≡ sets (sets old i us) (i + length us) run
 sets-append old [] run i = ap (λ (k : ℕ). sets old k run) (omega arith)

@@ -16,7 +16,8 @@ use Rattle.tokens.proofs.Positions.{past-from}
 use Rattle.tokens.proofs.Ends.{run-within, past-within}
 use Rattle.tokens.proofs.Spelling.{byte-ahead, Along, along-start, along-bad, along-byte}
 use Rattle.tokens.specs.Text.{byteAt, part, run, past}
-use Rattle.tokens.specs.Strings.{escapeAt, pieceBy, pieceAt, isPlain, Spelled, spelled}
+use Rattle.tokens.specs.Strings.{escapeAt, pieceBy, pieceAt, isPlain, ends, spelled}
+use Rattle.tokens.specs.declared.Parsed.the-variants.{Fault}
 use Rattle.tokens.specs.declared.strings.Piece.{Piece}
 use Rattle.tokens.specs.declared.strings.Piece.the-variants.{Close, Byte, Bad}
 
@@ -115,8 +116,8 @@ module _ (q : ℕ) (s : List ℕ) where
     pub along-plain : (at to : ℕ) (us : List ℕ) (e : Bool) → to ≡ past (isPlain q) s at → Along q s from at us e → Along q s from to (us ++ part s at to) e
     along-plain at to us e h w = along-as (omega (arith, plain-from at to h)) refl refl (along-run (to - at) at us e (run-is at to h) w)
 
-  -- a string that begins past the end has no bytes
-  pub spelled-outside : (from : ℕ) → length s ≤ from → spelled q s from .bytes ≡ []
+  -- a string that begins past the end has no bytes, and a fault there
+  pub spelled-outside : (from : ℕ) → length s ≤ from → spelled q s from ≡ ends (Fault from)
   unfolding pieceAt
   spelled-outside from le =
-      ap (λ (r : Spelled). r .bytes) (along-bad q s from from [] false from (along-start q s from) (ap (λ (t : Bool). cond t (pieceBy q s from) (Bad from)) (le-ltb from (length s) le)))
+      along-bad q s from from [] false from (along-start q s from) (ap (λ (t : Bool). cond t (pieceBy q s from) (Bad from)) (le-ltb from (length s) le))

@@ -5,14 +5,13 @@ use native.Mathlib.Omega.{arith}
 use native.Mathlib.Numerals.{add-one}
 use mathlib.Core.Path.{_≡_, refl, sym, ap, _∙_}
 use mathlib.Core.List.{List, [], _∷_}
-use mathlib.Core.Bool.{Bool, true, false, cond}
+use mathlib.Core.Bool.{Bool, true, false, not, cond}
 use lib.ListN.{length, getD, drop, drop-of-length-le}
-use Rattle.grammar.specs.Bytes.{isBlank, isQuote, isOpen}
+use borrow.Author.Tests.{not-true, not-false}
+use Rattle.grammar.specs.Bytes.{isQuote, isOpen}
 use Rattle.grammar.proofs.Texts.{true-false}
 use Rattle.decimal.specs.Decimal.{isDigit}
-use Rattle.tokens.specs.Text.{byteAt, kindOf, isIn, run, past}
-use Rattle.tokens.specs.declared.bytes.Class.{Class}
-use Rattle.tokens.specs.declared.bytes.Class.the-variants.{Blank, Digits}
+use Rattle.tokens.specs.Text.{byteAt, kindOf, run, past}
 use Rattle.tokens.specs.declared.bytes.Kind.{Kind}
 use Rattle.tokens.specs.declared.bytes.Kind.the-variants.{Square, Round, Curly, Quote, Minus, Digit, TrueWord, FalseWord, NoneWord, Other}
 
@@ -39,16 +38,9 @@ pass-in f [] i no-end h = true-false (sym h ∙ no-end)
 pass-in f (x ∷ s) zero no-end h = suc-le-suc zero-le
 pass-in f (x ∷ s) (suc i) no-end h = suc-le-suc (pass-in f s i no-end h)
 
-class-ends : (k : Class) → isIn k 256 ≡ false
-unfolding isBlank isDigit
-class-ends Blank = refl
-class-ends Digits = refl
-
-pub class-in : (k : Class) (s : List ℕ) (i : ℕ) → isIn k (byteAt s i) ≡ true → i < length s
-class-in k s i h = pass-in (isIn k) s i (class-ends k) h
-
 pub digit-in : (s : List ℕ) (i : ℕ) → isDigit (byteAt s i) ≡ true → i < length s
-digit-in s i h = class-in Digits s i h
+unfolding isDigit
+digit-in s i h = pass-in isDigit s i refl h
 
 pub open-in : (s : List ℕ) (i : ℕ) → isOpen (byteAt s i) ≡ true → i < length s
 unfolding isOpen
@@ -100,3 +92,18 @@ past-more f s at lt h = rw add-one (omega (arith, run-more f s at lt h))
 pub past-from : (f : ℕ → Bool) (s : List ℕ) (at : ℕ) → at ≤ past f s at
 unfolding past
 past-from f s at = omega arith
+
+-- a loop that passes over a run is at `at`, and its test says t of the byte there: it stops where the byte fails, and goes on behind it otherwise
+module _ (f : ℕ → Bool) (s : List ℕ) (from at : ℕ) (so-far : past f s from ≡ past f s at) where
+  module _ (lt : at < length s) (t : Bool) (said : t ≡ f (getD s at 0)) where
+    of-byte : f (byteAt s at) ≡ t
+    of-byte = ap f (getD-any s at 256 0 lt) ∙ sym said
+
+    pub run-stops : not t ≡ true → at ≡ past f s from
+    run-stops h = sym (so-far ∙ past-stop f s at (of-byte ∙ not-true t h))
+
+    pub run-goes-on : not t ≡ false → past f s from ≡ past f s (at + 1)
+    run-goes-on h = so-far ∙ past-more f s at lt (of-byte ∙ not-false t h)
+
+  pub run-over : length s ≤ at → at ≡ past f s from
+  run-over le = sym (so-far ∙ past-end f s at le)

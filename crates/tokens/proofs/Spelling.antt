@@ -15,7 +15,7 @@ use Rattle.grammar.specs.Bytes.{isBreak, isEscape}
 use Rattle.tokens.proofs.strings.Piece.{the-type}
 use Rattle.tokens.proofs.Positions.{by-test, pass-in}
 use Rattle.tokens.specs.Text.{byteAt}
-use Rattle.tokens.specs.Strings.{escapeAt, pieceBy, pieceAt, Spelled, ends, heard, pieces, spelled}
+use Rattle.tokens.specs.Strings.{escapeAt, pieceBy, pieceAt, endBy, Spelled, ends, heard, pieces, spelled}
 use Rattle.tokens.specs.declared.Parsed.{Parsed}
 use Rattle.tokens.specs.declared.Parsed.the-variants.{Value, Fault}
 use Rattle.tokens.specs.declared.strings.Piece.{Piece}
@@ -109,8 +109,8 @@ module _ (q : ℕ) (s : List ℕ) (from : ℕ) where
     pub along-byte : (b p : ℕ) → Along q s from at us e → pieceAt q s at ≡ Byte b p → Along q s from p (us ++ b ∷ []) (e || eqb (byteAt s at) 92)
     along-byte b p w h = byte-by (w .bound) b p (w .enough) (w .rest) (w .far) h (byte-ahead q s at b p h)
 
-    -- what the `else` of `let Piece::Byte(b, e) = p else { .. }` knows: the string has no more bytes
-    pub along-stop : (p : Piece) → Along q s from at us e → pieceAt q s at ≡ p → OneOf (0 ∷ 2 ∷ []) (tagOf the-type p) → spelled q s from .bytes ≡ us
-    along-stop (Close p) w h o = ap (λ (r : Spelled). r .bytes) (along-close p w h)
+    -- what the `else` of `let Piece::Byte(b, e) = p else { .. }` knows: the string has no more bytes, and ends there
+    pub along-stop : (p : Piece) → Along q s from at us e → pieceAt q s at ≡ p → OneOf (0 ∷ 2 ∷ []) (tagOf the-type p) → spelled q s from ≡ record { bytes = us; escape = e; ended = endBy p }
+    along-stop (Close p) w h o = along-close p w h
     along-stop (Byte b p) w h o = absurd (miss (0 ∷ 2 ∷ []) 1 tt o)
-    along-stop (Bad p) w h o = ap (λ (r : Spelled). r .bytes) (along-bad p w h)
+    along-stop (Bad p) w h o = along-bad p w h

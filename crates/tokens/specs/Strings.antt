@@ -30,6 +30,12 @@ isPlain q b = not (eqb b q || isBreak b || eqb b 92)
 unfoldable pub pieceAt : ℕ → List ℕ → ℕ → Piece
 pieceAt q s at = cond (ltb at (length s)) (pieceBy q s at) (Bad at)
 
+-- how a string ends at a piece that is no byte of it
+abbrev pub endBy : Piece → Parsed
+endBy (Close e) = Value e
+endBy (Byte b e) = Value e
+endBy (Bad e) = Fault e
+
 -- what was read of a string: the bytes that its pieces stand for, whether one of them is an escape, and how it ended
 pub record Spelled : Type 0 where
   pub bytes : List ℕ

@@ -7,8 +7,6 @@ use lib.ListN.{getD, take, drop}
 use lib.Dec.{eqb}
 use Rattle.grammar.specs.Bytes.{isBlank, isQuote}
 use Rattle.decimal.specs.Decimal.{isDigit}
-use Rattle.tokens.specs.declared.bytes.Class.{Class}
-use Rattle.tokens.specs.declared.bytes.Class.the-variants.{Blank, Digits}
 use Rattle.tokens.specs.declared.bytes.Kind.{Kind}
 use Rattle.tokens.specs.declared.bytes.Kind.the-variants.{Square, Round, Curly, Quote, Minus, Digit, TrueWord, FalseWord, NoneWord, Other}
 
@@ -42,11 +40,6 @@ run f (b ∷ s) = elim (f b) [ true ↦ suc (run f s) | false ↦ 0 ]
 -- the first position from `at` on whose byte fails a test
 unfoldable pub past : (ℕ → Bool) → List ℕ → ℕ → ℕ
 past f s at = at + run f (drop at s)
-
--- the two tests that bytes are passed over by
-abbrev pub isIn : Class → ℕ → Bool
-isIn Blank = isBlank
-isIn Digits = isDigit
 
 -- "Blanks are space, tab, LF, CR, allowed around any token"
 abbrev pub skip : List ℕ → ℕ → ℕ

@@ -5,13 +5,17 @@ use Prim.Native.Nat.{ℕ, _+_}
 use mathlib.Core.List.{List, [], _∷_}
 use mathlib.Core.Bool.{true, false}
 use lib.Dec.{eqb}
+use Rattle.counts.specs.Number.{number}
+use Rattle.counts.specs.declared.Number.{Number}
+use Rattle.counts.specs.declared.Number.the-variants.{Over}
 use Rattle.decimal.specs.Decimal.{isDigit, decimal}
 use Rattle.tokens.specs.Node.{Node, span, string, integer, True, False, None}
 use Rattle.tokens.specs.Got.{Got, fault, with, giving}
 use Rattle.tokens.specs.Text.{byteAt, part, kindOf, past}
 use Rattle.tokens.specs.Strings.{stringAt}
 use Rattle.tokens.specs.declared.Parsed.{Parsed}
-use Rattle.tokens.specs.declared.Parsed.the-variants.{Value, Fault}
+use Rattle.tokens.specs.declared.Parsed.the-variants.{Value, Fault, Deep}
+use Rattle.tokens.specs.declared.tokens.Numeral.{Numeral}
 use Rattle.tokens.specs.declared.bytes.Kind.the-variants.{Square, Round, Curly, Quote, Minus, Digit, TrueWord, FalseWord, NoneWord, Other}
 
 -- "`0` or a nonzero digit with more digits"
@@ -20,6 +24,16 @@ naturalAt s at = elim (eqb (byteAt s at) 48) [
   | true ↦ Value (at + 1)
   | false ↦ elim (isDigit (byteAt s at)) [ true ↦ Value (past isDigit s (at + 1)) | false ↦ Fault at ]
 ]
+
+-- the number that the digits from a position up to their end write, or over; over where they have a fault
+abbrev pub numberBy : List ℕ → ℕ → Parsed → Number
+numberBy s at (Value e) = number (decimal (part s at e))
+numberBy s at (Fault p) = Over
+numberBy s at (Deep p) = Over
+
+-- how the digits at a position end, and their number
+abbrev pub numeralAt : List ℕ → ℕ → Numeral
+numeralAt s at = record { ended = naturalAt s at; number = numberBy s at (naturalAt s at) }
 
 -- a given word: the position behind it, or a fault at the first byte that differs
 unfoldable pub wordAt : List ℕ → List ℕ → ℕ → Parsed

@@ -3,13 +3,7 @@
 ghost use mathlib.Core.Path.{_≡_};
 ghost use Rattle.grammar.specs.Bytes.{isBlank, isQuote, isOpen, isBreak, isEscape, unescape as unescapeOf};
 ghost use Rattle.decimal.specs.Decimal.{isDigit};
-ghost use Rattle.tokens.specs.Text.{byteAt, kindOf, isIn, past, skip};
-
-// The two classes that are passed over in runs.
-enum Class {
-    Blank,
-    Digits,
-}
+ghost use Rattle.tokens.specs.Text.{byteAt, kindOf, past, skip};
 
 // What a byte can begin.
 pub enum Kind {
@@ -36,9 +30,13 @@ pub fn peek(text: &[u8], at: usize) -> u16
     }
 }
 
-pub fn is_blank(b: u16) -> bool
+// Above the space, where nearly every byte is, one test is enough.
+pub fn is_blank(b: u8) -> bool
     ensures { λ r. ⌜ r ≡ isBlank b ⌝ }
 {
+    if 32 < b {
+        return false;
+    }
     (b == 32) | (b == 9) | (b == 10) | (b == 13)
 }
 
@@ -110,36 +108,30 @@ pub fn kind_of(b: u16) -> Kind
     }
 }
 
-fn is_in(b: u16, class: Class) -> bool
-    ensures { λ r. ⌜ r ≡ isIn class b ⌝ }
-{
-    match class {
-        Class::Blank => is_blank(b),
-        Class::Digits => is_digit(b),
-    }
-}
-
-// The first position from `from` on whose byte is not of the class.
-fn pass(text: &[u8], from: usize, class: Class) -> usize
-    ensures { λ r. ⌜ r ≡ past (isIn class) (now (text .entry)) from ⌝ }
-{
-    let mut at = from;
-    while is_in(peek(text, at), class) {
-        at += 1;
-    }
-    at
-}
-
 // The first position from `from` on that holds no blank.
 pub fn blanks(text: &[u8], from: usize) -> usize
     ensures { λ r. ⌜ r ≡ skip (now (text .entry)) from ⌝ }
 {
-    pass(text, from, Class::Blank)
+    let mut at = from;
+    while at < text.len() {
+        if !is_blank(text[at]) {
+            return at;
+        }
+        at += 1;
+    }
+    at
 }
 
 // The first position from `from` on that holds no digit.
 pub fn digits(text: &[u8], from: usize) -> usize
     ensures { λ r. ⌜ r ≡ past isDigit (now (text .entry)) from ⌝ }
 {
-    pass(text, from, Class::Digits)
+    let mut at = from;
+    while at < text.len() {
+        if !decimal::is_digit(text[at]) {
+            return at;
+        }
+        at += 1;
+    }
+    at
 }

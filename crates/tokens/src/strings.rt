@@ -1,9 +1,11 @@
 // Strings, decoded in one place: `piece_at`, behind the bytes that stand for themselves (`plain_to`). No function here has a `requires`. A string's `from` is the position behind its opening quote, and
 // `quote` is that quote.
 ghost use mathlib.Core.Path.{_≡_};
-ghost use lib.ListN.{length, set};
+ghost use mathlib.Core.Bool.{cond};
+ghost use lib.Dec.{ltb};
+ghost use lib.ListN.{set};
 ghost use lib.Seq.{sets};
-ghost use Rattle.tokens.specs.Strings.{escapeAt, pieceAt, isPlain, spelled, scanned};
+ghost use Rattle.tokens.specs.Strings.{escapeAt, pieceAt, isPlain, endBy, spelled, scanned};
 ghost use Rattle.tokens.specs.Text.{past};
 ghost use Rattle.counts.specs.Same.{same};
 use super::Parsed;
@@ -61,11 +63,14 @@ pub fn piece_at(text: &[u8], at: usize, quote: u8) -> Piece
     Piece::Byte(b, at + 1)
 }
 
-// Whether a byte of a string stands for itself.
+// Whether a byte of a string stands for itself. Above CR, where nearly every byte is, two tests are enough.
 fn is_plain(b: u8, quote: u8) -> bool
     ensures { λ r. ⌜ r ≡ isPlain quote b ⌝ }
 {
-    !((b == quote) | is_break(b) | (b == 92))
+    if 13 < b {
+        return (b != quote) & (b != 92);
+    }
+    !((b == quote) | is_break(b))
 }
 
 // The first position from `from` on where no byte stands that stands for itself.
@@ -126,42 +131,69 @@ fn put(out: &mut [u8], at: usize, b: u8)
     }
 }
 
-// Stores in a row, as many as have room.
+// The lesser of two numbers.
+fn least(a: usize, b: usize) -> usize
+    ensures { λ r. ⌜ r ≡ cond (ltb a b) a b ⌝ }
+{
+    if a < b { a } else { b }
+}
+
+// Stores in a row, as many as have room: how many that is, is known before the first, so that the compiler takes many bytes at a time.
 fn put_run(out: &mut [u8], from: usize, run: &[u8])
     ensures { λ _. ⌜ now (out .exit) ≡ sets (now (out .entry)) from (now (run .entry)) ⌝ }
 {
-    let mut at = from;
+    if out.len() <= from {
+        return;
+    }
+    let fit = least(run.len(), out.len() - from);
     let mut i: usize = 0;
-    while i < run.len() {
-        if out.len() <= at {
-            return;
-        }
-        out[at] = run[i];
-        at += 1;
+    while i < fit {
+        out[from + i] = run[i];
         i += 1;
     }
 }
 
-// Writes the bytes that the string stands for to the front of `out`, as many as have room there, and answers how many they are.
-pub fn decode(text: &[u8], from: usize, quote: u8, out: &mut [u8]) -> usize
-    ensures { λ r. ⌜ r ≡ length (spelled quote (now (text .entry)) from .bytes) ⌝ }
+// How a string ends at a piece that is no byte of it.
+fn end_by(p: Piece) -> Parsed
+    ensures { λ r. ⌜ r ≡ endBy p ⌝ }
+{
+    match p {
+        Piece::Close(e) => Parsed::Value(e),
+        Piece::Byte(_, e) => Parsed::Value(e),
+        Piece::Bad(e) => Parsed::Fault(e),
+    }
+}
+
+// Writes the bytes that the string stands for to the front of `out`, as many as have room there, and answers what a scan of it tells.
+pub fn decode(text: &[u8], from: usize, quote: u8, out: &mut [u8]) -> Scan
+    ensures { λ r. ⌜ r ≡ scanned (spelled quote (now (text .entry)) from) ⌝ }
     ensures { λ _. ⌜ now (out .exit) ≡ sets (now (out .entry)) 0 (spelled quote (now (text .entry)) from .bytes) ⌝ }
 {
     if text.len() < from {
-        return 0;
+        return Scan {
+            ended: Parsed::Fault(from),
+            len: 0,
+            escape: false,
+        };
     }
     let mut at = from;
-    let mut n: usize = 0;
+    let mut len: usize = 0;
+    let mut escape = false;
     loop {
         let to = plain_to(text, at, quote);
-        put_run(out, n, &text[at..to]);
-        n += to - at;
+        put_run(out, len, &text[at..to]);
+        len += to - at;
         let p = piece_at(text, to, quote);
         let Piece::Byte(b, e) = p else {
-            return n;
+            return Scan {
+                ended: end_by(p),
+                len,
+                escape,
+            };
         };
-        put(out, n, b);
-        n += 1;
+        put(out, len, b);
+        escape = true;
+        len += 1;
         at = e;
     }
 }

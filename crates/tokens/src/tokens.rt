@@ -1,7 +1,7 @@
 // The values that have no bracket. No function here has a `requires`.
 ghost use mathlib.Core.Path.{_≡_};
 ghost use Rattle.tokens.specs.Got.{pos};
-ghost use Rattle.tokens.specs.Tokens.{naturalAt, wordAt, tokenAt};
+ghost use Rattle.tokens.specs.Tokens.{naturalAt, numeralAt, wordAt, tokenAt};
 use super::Parsed;
 use super::bytes::Kind;
 use super::bytes::digits;
@@ -9,6 +9,13 @@ use super::bytes::is_digit;
 use super::bytes::kind_of;
 use super::bytes::peek;
 use super::strings::scan_at;
+use counts::Number;
+
+// How digits end, and the number that they write; `Over` where none stand.
+pub struct Numeral {
+    pub ended: Parsed,
+    pub number: Number,
+}
 
 // `0`, or a nonzero digit with more digits.
 pub fn natural(text: &[u8], at: usize) -> Parsed
@@ -22,6 +29,31 @@ pub fn natural(text: &[u8], at: usize) -> Parsed
         return Parsed::Value(digits(text, at + 1));
     }
     Parsed::Fault(at)
+}
+
+// The digits at a position, as `natural` takes them, in one pass: how they end, and the number that they write.
+pub fn numeral_at(text: &[u8], at: usize) -> Numeral
+    ensures { λ r. ⌜ r ≡ numeralAt (now (text .entry)) at ⌝ }
+{
+    let b = peek(text, at);
+    if b == 48 {
+        return Numeral {
+            ended: Parsed::Value(at + 1),
+            number: Number::Is(0),
+        };
+    }
+    if !is_digit(b) {
+        return Numeral {
+            ended: Parsed::Fault(at),
+            number: Number::Over,
+        };
+    }
+    let read = decimal::read(&text[at..]);
+    let number = read.number;
+    Numeral {
+        ended: Parsed::Value(at + read.count),
+        number,
+    }
 }
 
 // A word that is given: a fault at the first byte that differs.

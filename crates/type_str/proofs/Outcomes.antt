@@ -1,31 +1,22 @@
 -- No second outcome satisfies a statement of this crate's public functions. Each answer can be told from what it stands for. Assumes nothing.
-use Prim.Native.Nat.{ℕ, _^_, _<_}
 use mathlib.Core.Path.{_≡_, refl}
 use mathlib.Core.Bool.{Bool, cond}
-use mathlib.Core.List.{List}
 use lib.Dec.{eqb}
 use Rattle.counts.specs.Outcome.{Outcome, gives, refused}
 use Rattle.counts.specs.OneOutcome.{OneOutcome}
-use Rattle.counts.proofs.OneOutcome.{by-equation, by-inverse, beside}
-use Rattle.emit.specs.Emits.{Emits}
-use Rattle.emit.proofs.Outcomes.{emits-one}
+use Rattle.counts.proofs.OneOutcome.{by-equation, by-inverse}
 use Rattle.type_str.specs.TypeString.{validated}
 use Rattle.type_str.specs.Bytes.{numBytes}
-use Rattle.type_str.specs.Text.{typeText, isType, typePrinted, typePlaced, Prints}
-use Rattle.type_str.specs.Answer.{answer, printAnswer}
+use Rattle.type_str.specs.Text.{isType}
+use Rattle.type_str.specs.Answer.{answer}
 use Rattle.type_str.specs.declared.TypeStr.{TypeStr}
 use Rattle.type_str.specs.declared.TypeRead.{TypeRead}
 use Rattle.type_str.specs.declared.TypeBytes.{TypeBytes}
-use Rattle.type_str.specs.declared.TypePrint.{TypePrint}
 
 -- ---- the answer that stands for an outcome
 type-back : Outcome TypeStr → TypeRead
 type-back (gives t) = TypeRead.Read t
 type-back (refused n) = cond (eqb n 15) TypeRead.Syntax (cond (eqb n 16) TypeRead.TooLarge (cond (eqb n 17) TypeRead.ByteOrder (cond (eqb n 18) TypeRead.Size TypeRead.Units)))
-
-print-back : Outcome ℕ → TypePrint
-print-back (gives n) = TypePrint.Printed n
-print-back (refused n) = cond (eqb n 27) TypePrint.NoType TypePrint.Room
 
 type-same : (r : TypeRead) → type-back (answer r) ≡ r
 unfolding type-back
@@ -35,12 +26,6 @@ type-same TypeRead.TooLarge = refl
 type-same TypeRead.ByteOrder = refl
 type-same TypeRead.Size = refl
 type-same TypeRead.Units = refl
-
-print-same : (r : TypePrint) → print-back (printAnswer r) ≡ r
-unfolding print-back
-print-same (TypePrint.Printed n) = refl
-print-same TypePrint.NoType = refl
-print-same TypePrint.Room = refl
 
 -- ---- one outcome
 pub answer-one : (o : Outcome TypeStr) → OneOutcome (λ r. answer r ≡ o)
@@ -54,11 +39,3 @@ is-type-one t = by-equation (isType t)
 
 pub num-bytes-one : (t : TypeStr) → OneOutcome {A = TypeBytes} (λ r. r ≡ numBytes t)
 num-bytes-one t = by-equation (numBytes t)
-
-pub print-one : (t : TypeStr) (room : List ℕ) → OneOutcome {A = TypePrint × List ℕ} (λ r. Prints t room (r .0) (r .1))
-print-one t room x y p q =
-    beside (by-inverse printAnswer print-back print-same (typePrinted t room)) (by-equation (typePlaced t room)) x y
-    (p .answered, p .room-after) (q .answered, q .room-after)
-
-pub type-put-one : (t : TypeStr) (old : List ℕ) (at : ℕ) → OneOutcome {A = List ℕ × ℕ} (λ r. Emits (typeText t) old at (r .0) (r .1) × (r .1 < 2 ^ 64))
-type-put-one t = emits-one (typeText t)

@@ -3,7 +3,6 @@
 use Prim.Native.Nat.{ℕ}
 use mathlib.Core.List.{List, [], _∷_}
 use mathlib.Core.Bool.{Bool, true, false, cond, _&&_}
-use mathlib.Core.Path.{_≡_}
 use lib.Dec.{eqb}
 use Rattle.counts.specs.Outcome.{Outcome, gives, refused}
 use Rattle.decimal.specs.Decimal.{printed}
@@ -13,9 +12,7 @@ use Rattle.units.specs.Units.{unitText}
 use Rattle.spelling.specs.Classes.{isObject}
 use Rattle.type_str.specs.TypeString.{checked}
 use Rattle.spelling.specs.declared.TypeChar.{TypeChar}
-use Rattle.type_str.specs.Answer.{printAnswer}
 use Rattle.type_str.specs.declared.TypeStr.{TypeStr}
-use Rattle.type_str.specs.declared.TypePrint.{TypePrint}
 
 -- a size without leading zeros, none for `O`, in front of the text r
 abbrev pub sizeText : TypeChar → ℕ → List ℕ → List ℕ
@@ -40,8 +37,3 @@ typePrinted t room = cond (isType t) (written (typeText t []) room) (refused 27)
 -- and what the room then holds
 unfoldable pub typePlaced : TypeStr → (room : List ℕ) → List ℕ
 typePlaced t room = cond (isType t) (placed (typeText t []) room) room
-
--- printing owes the answer and the room
-pub record Prints (t : TypeStr) (room : List ℕ) (r : TypePrint) (room′ : List ℕ) : Type 0 where
-  pub answered : printAnswer r ≡ typePrinted t room
-  pub room-after : room′ ≡ typePlaced t room

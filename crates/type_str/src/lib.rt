@@ -1,4 +1,4 @@
-// The types that type strings give (document 01, "The record"): byte order, size and units judged, 17 to 19; a type's bytes, and its text printed to lent room.
+// The types that type strings give (document 01, "The record"): byte order, size and units judged, 17 to 19, and a type's bytes.
 // What each answer stands for is in specs/Answer.antt. No public function has a `requires`.
 use counts::ByteCount;
 use counts::Bytes;
@@ -7,10 +7,9 @@ use spelling::Endianness;
 use spelling::TypeChar;
 use units::TimeUnits;
 ghost use mathlib.Core.Path.{_≡_};
-ghost use Rattle.emit.specs.Emits.{Emits};
 ghost use Rattle.type_str.specs.TypeString.{lacksOrder, misplacesUnits, validated};
 ghost use Rattle.type_str.specs.Bytes.{countedBytes, numBytes};
-ghost use Rattle.type_str.specs.Text.{passes, isType, typeText, Prints};
+ghost use Rattle.type_str.specs.Text.{passes, isType};
 ghost use Rattle.type_str.specs.Answer.{answer};
 
 // A type as a type string gives it. The size of an object is 0: its string has none.
@@ -126,46 +125,5 @@ fn counted(n: ByteCount) -> TypeBytes
     match n {
         ByteCount::Is(b) => TypeBytes::Sized(b),
         ByteCount::Over => TypeBytes::TooLarge,
-    }
-}
-
-// What printing a type answers: how many bytes, that no type string gives the type, or that the room is too small.
-pub enum TypePrint {
-    Printed(usize),
-    NoType,
-    Room,
-}
-
-impl TypeStr {
-    // The type string behind what was written so far. Any type has a text, also one that no type string gives.
-    pub fn put(self, out: &mut [u8], at: usize) -> usize
-        ensures { λ r. ⌜ Emits (typeText self) (now (out .entry)) at (now (out .exit)) r ⌝ }
-    {
-        let order = self.order;
-        let letter = self.letter;
-        let units = self.units;
-        let behind_order = emit::put(out, at, order.to_byte());
-        let behind_letter = emit::put(out, behind_order, letter.to_byte());
-        if letter.is_object() {
-            return units.put(out, behind_letter);
-        }
-        let behind_size = emit::put_count(out, behind_letter, self.size);
-        units.put(out, behind_size)
-    }
-
-    // The type string at the front of lent room.
-    pub fn print(self, out: &mut [u8]) -> TypePrint
-        ensures { λ r. ⌜ Prints self (now (out .entry)) r (now (out .exit)) ⌝ }
-    {
-        if !self.is_type() {
-            return TypePrint::NoType;
-        }
-        let mut scratch = [0u8; 1];
-        let n = self.put(&mut scratch, 0);
-        if out.len() < n {
-            return TypePrint::Room;
-        }
-        self.put(out, 0);
-        TypePrint::Printed(n)
     }
 }

@@ -28,9 +28,11 @@ use Rattle.record.proofs.RoundTrips.{file-whole}
 use Rattle.table.specs.Checked.{checkedRecord}
 use Rattle.table.specs.Valid.{made, Valid}
 use Rattle.table.proofs.Accepts.{accepts-valid}
+use Rattle.depth.specs.Printable.{printable}
+use Rattle.depth.proofs.Views.{View, unread, too-deep, shown, view}
 use Rattle.print.specs.declared.Printed.{Printed}
-use Rattle.print.specs.Prints.{printable, Prints}
-use Rattle.print.proofs.Prints.{View, unread, too-deep, shown, view, told-behind}
+use Rattle.print.specs.Prints.{Prints}
+use Rattle.print.proofs.Prints.{told-behind}
 use Rattle.padding.specs.declared.Plan.{Plan}
 use Rattle.write.specs.declared.Written.{Written}
 use Rattle.write.specs.Answer.{answer}

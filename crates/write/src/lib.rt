@@ -18,7 +18,7 @@ ghost use Rattle.record.specs.Layout.{headerLayout};
 ghost use Rattle.record.specs.Padding.{isAscii};
 ghost use Rattle.record.specs.File.{bareText, fileBy};
 ghost use Rattle.prefix.specs.Answer.{versionIs};
-ghost use Rattle.print.specs.Prints.{printable};
+ghost use Rattle.depth.specs.Printable.{printable};
 ghost use Rattle.write.specs.Writes.{Writes, WritesRecord};
 
 // How many bytes were written; or 27, 13, 20, 21, 22, 7, 4, 28.

@@ -1,7 +1,7 @@
 -- Case by case. Assumes nothing.
 use Rattle.type_str.specs.Answer.{answer}
 use mathlib.Core.Path.{refl}
-use Rattle.codes.specs.Values.{typeValues}
+use Rattle.codes.specs.Numbers.{typeValues}
 use Rattle.codes.proofs.Told.{gives-told, type-numbers}
 use borrow.Author.Needs.{needs}
 use Rattle.codes.proofs.tell_type.Statement.{statement}

@@ -6,8 +6,10 @@ use mathlib.Core.Path.{refl, sym, ap, _∙_}
 use lib.ListN.{length}
 use Rattle.dtype.proofs.Flat.{some-entry}
 use Rattle.literal.proofs.Steps.{gapLeft}
-use Rattle.fill.proofs.Filling.{text-whole, fields-asked, record-whole, Filling, filling-start, filling-field, filling-more, filling-end, name-fits, inner-due, shape-due, field-whole, filled-long, field-long, field-less}
+use Rattle.fill.proofs.Filling.{text-in, text-whole, fields-asked, record-whole, Filling, filling-start, filling-field, filling-more, filling-end, name-fits, inner-due, shape-due, field-whole, filled-long, field-long, field-less}
 use Rattle.field.specs.Begins.{gapPlace}
+use Rattle.literal.specs.Answer.{place}
+use Rattle.tokens.specs.declared.strings.Scan.{Scan}
 use Rattle.fill.proofs.Parted.{field-bracket, opened}
 use borrow.Author.Needs.{needs}
 use borrow.Fn.Kinds.{In}
@@ -22,7 +24,6 @@ use Rattle.fill.proofs.fill.Reads as fill
 use Rattle.fill.proofs.fill.Kinds as fill-kinds
 use Rattle.fill.proofs.+field+fields+fill.Lts-fill as fill-lts
 use Rattle.field.proofs.closing_at.Reads as closing-at-reads
-use Rattle.field.proofs.end_of.Reads as end-of-reads
 use Rattle.literal.proofs.gaps.gap_at.Reads as gap-at-reads
 use Rattle.held.proofs.held_sum.Reads as held-sum-reads
 use Rattle.field.proofs.place_of.Reads as place-of-reads
@@ -30,9 +31,10 @@ use Rattle.entry.proofs.inner.put_plain.Reads as put-plain-reads
 use Rattle.entry.proofs.inner.put_record.Reads as put-record-reads
 use Rattle.field.proofs.string_at.Reads as string-at-reads
 use Rattle.literal.proofs.gaps.then_at.Reads as then-at-reads
-use Rattle.field.proofs.type_at.Reads as type-at-reads
+use Rattle.field.proofs.typed_at.Reads as typed-at-reads
 use Rattle.entry.proofs.inner.type_of.Reads as type-of-reads
 use Rattle.fill.proofs.name_at.Reads as name-at-reads
+use Rattle.fill.proofs.end_place.Reads as end-place-reads
 use Rattle.fill.proofs.shaped.Reads as shaped-reads
 use Rattle.fill.proofs.+field+fields+fill.{statement}
 use Rattle.fill.proofs.+field+fields+fill.Tie.{close}
@@ -65,13 +67,13 @@ abbrev fill-below : ℕ → In 3 fill-kinds.ps
 fill-below t = and 3 fill-kinds.ps (falls 3 fill-kinds.ps _<_ μ-fill t) fill.Pre
 
 abbrev field-told : ℕ → field-lts.Claims
-field-told t = (closing-at-reads.Asked, closing-at-reads.Learnt, gap-at-reads.Asked, gap-at-reads.Learnt, place-of-reads.Asked, place-of-reads.Learnt, name-at-reads.Asked, name-at-reads.Learnt, end-of-reads.Asked, end-of-reads.Learnt, then-at-reads.Asked, then-at-reads.Learnt, fill-below t, fill.Post, shaped-reads.Asked, shaped-reads.Learnt)
+field-told t = (closing-at-reads.Asked, closing-at-reads.Learnt, gap-at-reads.Asked, gap-at-reads.Learnt, place-of-reads.Asked, place-of-reads.Learnt, name-at-reads.Asked, name-at-reads.Learnt, end-place-reads.Asked, end-place-reads.Learnt, then-at-reads.Asked, then-at-reads.Learnt, fill-below t, fill.Post, shaped-reads.Asked, shaped-reads.Learnt)
 
 abbrev fields-told : ℕ → fields-lts.Claims
 fields-told t = (gap-at-reads.Asked, gap-at-reads.Learnt, place-of-reads.Asked, place-of-reads.Learnt, field-below t, field.Post, held-sum-reads.Asked, held-sum-reads.Learnt, then-at-reads.Asked, then-at-reads.Learnt)
 
 abbrev fill-told : ℕ → fill-lts.Claims
-fill-told t = (string-at-reads.Asked, string-at-reads.Learnt, type-at-reads.Asked, type-at-reads.Learnt, type-of-reads.Asked, type-of-reads.Learnt, put-plain-reads.Asked, put-plain-reads.Learnt, end-of-reads.Asked, end-of-reads.Learnt, fields-below t, fields.Post, put-record-reads.Asked, put-record-reads.Learnt)
+fill-told t = (string-at-reads.Asked, string-at-reads.Learnt, typed-at-reads.Asked, typed-at-reads.Learnt, type-of-reads.Asked, type-of-reads.Learnt, put-plain-reads.Asked, put-plain-reads.Learnt, end-place-reads.Asked, end-place-reads.Learnt, fields-below t, fields.Post, put-record-reads.Asked, put-record-reads.Learnt)
 
 abbrev fields-Inv-loop : fields-lts.InvT-loop
 fields-Inv-loop text from room table₀ entry up names₀ byte g₀ at₀ b₀ size₀ count₀ table names g at b size count = Filling room text from entry up byte table₀ names₀ g at b count size table names
@@ -109,8 +111,8 @@ field-name-at-requires t c κs =
     let w = opened (a .room) (a .text .now) (a .at) (c .before .before .before .closing-at .result) (c .before .place-of .result) _ _ (c .before .before .before .closing-at .ensures) (c .before .place-of .ensures ∙ ap gapPlace (c .before .before .gap-at .ensures)) refl refl (x .0) (x .1) (x .2) (x .3 .one) in
     (w .begins, name-fits (a .room) (a .text .now) (a .at) (a .entry) (a .up) (a .byte) (a .table .now) (a .names .now) (x .0) (x .1) (x .2) (c .before .before .before .closing-at .result) (c .before .place-of .result) _ (x .3) w)
 
-field-end-of-requires : (t : ℕ) → field-lts.Need-end-of-requires (field-told t) (field-at t) field.Post
-field-end-of-requires t c κs = search needs
+field-end-place-requires : (t : ℕ) → field-lts.Need-end-place-requires (field-told t) (field-at t) field.Post
+field-end-place-requires t c κs = search needs
 
 field-then-at-requires : (t : ℕ) → field-lts.Need-then-at-requires (field-told t) (field-at t) field.Post
 field-then-at-requires t c κs = search needs
@@ -122,43 +124,43 @@ field-add-fill : (t : ℕ) → field-lts.Need-add-fill (field-told t) (field-at 
 field-add-fill t c =
     let a = c .before .before .before .before .before .before .before .before .before .before .before .before .before .before .before .args in
     let x = c .before .before .before .before .before .before .before .before .before .before .before .before .before .before .before .pre .1 in
-    let w = opened (a .room) (a .text .now) (a .at) (c .before .before .before .before .before .before .before .before .before .before .before .closing-at .result) (c .before .before .before .before .before .before .before .before .before .place-of .result) (c .before .before .place-of2 .result) (c .before .before .before .before .end-of .result) (c .before .before .before .before .before .before .before .before .before .before .before .closing-at .ensures) (c .before .before .before .before .before .before .before .before .before .place-of .ensures ∙ ap gapPlace (c .before .before .before .before .before .before .before .before .before .before .gap-at .ensures)) (c .before .before .before .before .end-of .ensures) (c .before .before .place-of2 .ensures ∙ ap gapPlace (c .before .before .before .then-at .ensures)) (x .0) (x .1) (x .2) (x .3 .one) in
-    omega (arith, c .before .before .before .before .before .before .before .name-at .ensures .0, name-fits (a .room) (a .text .now) (a .at) (a .entry) (a .up) (a .byte) (a .table .now) (a .names .now) (x .0) (x .1) (x .2) (c .before .before .before .before .before .before .before .before .before .before .before .closing-at .result) (c .before .before .before .before .before .before .before .before .before .place-of .result) (c .before .before .place-of2 .result) (x .3) w, c .before .before .before .before .before .before .before .before .before .before .before .before .before .before .before .good .1 .1 .1 .1 .1 .1 .0 .0)
+    let w = opened (a .room) (a .text .now) (a .at) (c .before .before .before .before .before .before .before .before .before .before .before .closing-at .result) (c .before .before .before .before .before .before .before .before .before .place-of .result) (c .before .before .place-of2 .result) (c .before .before .before .before .end-place .result) (c .before .before .before .before .before .before .before .before .before .before .before .closing-at .ensures) (c .before .before .before .before .before .before .before .before .before .place-of .ensures ∙ ap gapPlace (c .before .before .before .before .before .before .before .before .before .before .gap-at .ensures)) (c .before .before .before .before .end-place .ensures ∙ ap (λ (x : Scan). place (x .ended)) (c .before .before .before .before .before .before .before .name-at .ensures .0)) (c .before .before .place-of2 .ensures ∙ ap gapPlace (c .before .before .before .then-at .ensures)) (x .0) (x .1) (x .2) (x .3 .one) in
+    omega (arith, ap (λ (x : Scan). x .len) (c .before .before .before .before .before .before .before .name-at .ensures .0), name-fits (a .room) (a .text .now) (a .at) (a .entry) (a .up) (a .byte) (a .table .now) (a .names .now) (x .0) (x .1) (x .2) (c .before .before .before .before .before .before .before .before .before .before .before .closing-at .result) (c .before .before .before .before .before .before .before .before .before .place-of .result) (c .before .before .place-of2 .result) (x .3) w, c .before .before .before .before .before .before .before .before .before .before .before .before .before .before .before .good .1 .1 .1 .1 .1 .1 .0 .0)
 
 field-fill-requires : (t : ℕ) → field-lts.Need-fill-requires (field-told t) (field-at t) field.Post
 field-fill-requires t c κs =
     let a = c .before .before .before .before .before .before .before .before .before .before .before .before .before .before .before .args in
     let x = c .before .before .before .before .before .before .before .before .before .before .before .before .before .before .before .pre .1 in
-    let w = opened (a .room) (a .text .now) (a .at) (c .before .before .before .before .before .before .before .before .before .before .before .closing-at .result) (c .before .before .before .before .before .before .before .before .before .place-of .result) (c .before .before .place-of2 .result) (c .before .before .before .before .end-of .result) (c .before .before .before .before .before .before .before .before .before .before .before .closing-at .ensures) (c .before .before .before .before .before .before .before .before .before .place-of .ensures ∙ ap gapPlace (c .before .before .before .before .before .before .before .before .before .before .gap-at .ensures)) (c .before .before .before .before .end-of .ensures) (c .before .before .place-of2 .ensures ∙ ap gapPlace (c .before .before .before .then-at .ensures)) (x .0) (x .1) (x .2) (x .3 .one) in
-    (omega (arith, w .deep), (w .node, w .end-of-node, w .d, inner-due (a .room) (a .text .now) (a .at) (a .entry) (a .up) (a .byte) (a .table .now) (a .names .now) (x .0) (x .1) (x .2) (c .before .before .before .before .before .before .before .before .before .before .before .closing-at .result) (c .before .before .before .before .before .before .before .before .before .place-of .result) (c .before .before .place-of2 .result) (x .3) w (c .before .before .before .before .before .before .before .name-at .result) _ (c .before .before .before .before .before .before .before .name-at .ensures .0) (c .before .before .before .before .before .before .before .name-at .ensures .1)))
+    let w = opened (a .room) (a .text .now) (a .at) (c .before .before .before .before .before .before .before .before .before .before .before .closing-at .result) (c .before .before .before .before .before .before .before .before .before .place-of .result) (c .before .before .place-of2 .result) (c .before .before .before .before .end-place .result) (c .before .before .before .before .before .before .before .before .before .before .before .closing-at .ensures) (c .before .before .before .before .before .before .before .before .before .place-of .ensures ∙ ap gapPlace (c .before .before .before .before .before .before .before .before .before .before .gap-at .ensures)) (c .before .before .before .before .end-place .ensures ∙ ap (λ (x : Scan). place (x .ended)) (c .before .before .before .before .before .before .before .name-at .ensures .0)) (c .before .before .place-of2 .ensures ∙ ap gapPlace (c .before .before .before .then-at .ensures)) (x .0) (x .1) (x .2) (x .3 .one) in
+    (omega (arith, w .deep), (w .node, w .end-of-node, w .d, inner-due (a .room) (a .text .now) (a .at) (a .entry) (a .up) (a .byte) (a .table .now) (a .names .now) (x .0) (x .1) (x .2) (c .before .before .before .before .before .before .before .before .before .before .before .closing-at .result) (c .before .before .before .before .before .before .before .before .before .place-of .result) (c .before .before .place-of2 .result) (x .3) w (c .before .before .before .before .before .before .before .name-at .result .len) _ (ap (λ (x : Scan). x .len) (c .before .before .before .before .before .before .before .name-at .ensures .0)) (c .before .before .before .before .before .before .before .name-at .ensures .1)))
 
 field-shaped-requires : (t : ℕ) → field-lts.Need-shaped-requires (field-told t) (field-at t) field.Post
 field-shaped-requires t c κs =
     let a = c .before .before .before .before .before .before .before .before .before .before .before .before .before .before .before .before .before .before .before .before .before .args in
     let x = c .before .before .before .before .before .before .before .before .before .before .before .before .before .before .before .before .before .before .before .before .before .pre .1 in
-    let w = opened (a .room) (a .text .now) (a .at) (c .before .before .before .before .before .before .before .before .before .before .before .before .before .before .before .before .before .closing-at .result) (c .before .before .before .before .before .before .before .before .before .before .before .before .before .before .before .place-of .result) (c .before .before .before .before .before .before .before .before .place-of2 .result) (c .before .before .before .before .before .before .before .before .before .before .end-of .result) (c .before .before .before .before .before .before .before .before .before .before .before .before .before .before .before .before .before .closing-at .ensures) (c .before .before .before .before .before .before .before .before .before .before .before .before .before .before .before .place-of .ensures ∙ ap gapPlace (c .before .before .before .before .before .before .before .before .before .before .before .before .before .before .before .before .gap-at .ensures)) (c .before .before .before .before .before .before .before .before .before .before .end-of .ensures) (c .before .before .before .before .before .before .before .before .place-of2 .ensures ∙ ap gapPlace (c .before .before .before .before .before .before .before .before .before .then-at .ensures)) (x .0) (x .1) (x .2) (x .3 .one) in
-    (x .1, w .ns, shape-due (a .room) (a .text .now) (a .at) (a .entry) (a .up) (a .byte) (a .table .now) (a .names .now) (x .0) (x .1) (x .2) (c .before .before .before .before .before .before .before .before .before .before .before .before .before .before .before .before .before .closing-at .result) (c .before .before .before .before .before .before .before .before .before .before .before .before .before .before .before .place-of .result) (c .before .before .before .before .before .before .before .before .place-of2 .result) (x .3) w (c .before .before .before .before .before .before .before .before .before .before .before .before .before .name-at .result) _ (c .before .before .before .before .before .before .before .before .before .before .before .before .before .name-at .ensures .0) (c .before .before .before .before .before .before .before .before .before .before .before .before .before .name-at .ensures .1) _ _ (c .before .before .before .before .before .fill .result) (c .before .before .before .before .before .fill .ensures))
+    let w = opened (a .room) (a .text .now) (a .at) (c .before .before .before .before .before .before .before .before .before .before .before .before .before .before .before .before .before .closing-at .result) (c .before .before .before .before .before .before .before .before .before .before .before .before .before .before .before .place-of .result) (c .before .before .before .before .before .before .before .before .place-of2 .result) (c .before .before .before .before .before .before .before .before .before .before .end-place .result) (c .before .before .before .before .before .before .before .before .before .before .before .before .before .before .before .before .before .closing-at .ensures) (c .before .before .before .before .before .before .before .before .before .before .before .before .before .before .before .place-of .ensures ∙ ap gapPlace (c .before .before .before .before .before .before .before .before .before .before .before .before .before .before .before .before .gap-at .ensures)) (c .before .before .before .before .before .before .before .before .before .before .end-place .ensures ∙ ap (λ (x : Scan). place (x .ended)) (c .before .before .before .before .before .before .before .before .before .before .before .before .before .name-at .ensures .0)) (c .before .before .before .before .before .before .before .before .place-of2 .ensures ∙ ap gapPlace (c .before .before .before .before .before .before .before .before .before .then-at .ensures)) (x .0) (x .1) (x .2) (x .3 .one) in
+    (x .1, w .ns, shape-due (a .room) (a .text .now) (a .at) (a .entry) (a .up) (a .byte) (a .table .now) (a .names .now) (x .0) (x .1) (x .2) (c .before .before .before .before .before .before .before .before .before .before .before .before .before .before .before .before .before .closing-at .result) (c .before .before .before .before .before .before .before .before .before .before .before .before .before .before .before .place-of .result) (c .before .before .before .before .before .before .before .before .place-of2 .result) (x .3) w (c .before .before .before .before .before .before .before .before .before .before .before .before .before .name-at .result .len) _ (ap (λ (x : Scan). x .len) (c .before .before .before .before .before .before .before .before .before .before .before .before .before .name-at .ensures .0)) (c .before .before .before .before .before .before .before .before .before .before .before .before .before .name-at .ensures .1) _ _ (c .before .before .before .before .before .fill .result) (c .before .before .before .before .before .fill .ensures))
 
 field-same-length : (t : ℕ) → field-lts.Need-same-length (field-told t) (field-at t) field.Post
 field-same-length t c =
     let a = c .before .before .before .before .before .before .before .before .before .before .before .before .before .before .before .before .before .before .before .before .before .before .before .before .args in
     let x = c .before .before .before .before .before .before .before .before .before .before .before .before .before .before .before .before .before .before .before .before .before .before .before .before .pre .1 in
-    let w = opened (a .room) (a .text .now) (a .at) (c .before .before .before .before .before .before .before .before .before .before .before .before .before .before .before .before .before .before .before .before .closing-at .result) (c .before .before .before .before .before .before .before .before .before .before .before .before .before .before .before .before .before .before .place-of .result) (c .before .before .before .before .before .before .before .before .before .before .before .place-of2 .result) (c .before .before .before .before .before .before .before .before .before .before .before .before .before .end-of .result) (c .before .before .before .before .before .before .before .before .before .before .before .before .before .before .before .before .before .before .before .before .closing-at .ensures) (c .before .before .before .before .before .before .before .before .before .before .before .before .before .before .before .before .before .before .place-of .ensures ∙ ap gapPlace (c .before .before .before .before .before .before .before .before .before .before .before .before .before .before .before .before .before .before .before .gap-at .ensures)) (c .before .before .before .before .before .before .before .before .before .before .before .before .before .end-of .ensures) (c .before .before .before .before .before .before .before .before .before .before .before .place-of2 .ensures ∙ ap gapPlace (c .before .before .before .before .before .before .before .before .before .before .before .before .then-at .ensures)) (x .0) (x .1) (x .2) (x .3 .one) in
-    field-long (field-whole (a .room) (a .text .now) (a .at) (a .entry) (a .up) (a .byte) (a .table .now) (a .names .now) (x .0) (x .1) (x .2) (c .before .before .before .before .before .before .before .before .before .before .before .before .before .before .before .before .before .before .before .before .closing-at .result) (c .before .before .before .before .before .before .before .before .before .before .before .before .before .before .before .before .before .before .place-of .result) (c .before .before .before .before .before .before .before .before .before .before .before .place-of2 .result) (x .3) w (c .before .before .before .before .before .before .before .before .before .before .before .before .before .before .before .before .name-at .result) _ (c .before .before .before .before .before .before .before .before .before .before .before .before .before .before .before .before .name-at .ensures .0) (c .before .before .before .before .before .before .before .before .before .before .before .before .before .before .before .before .name-at .ensures .1) _ _ (c .before .before .before .before .before .before .before .before .fill .result) (c .before .before .before .before .before .before .before .before .fill .ensures) (omega (arith, c .before .before .before .before .before .before .before .before .before .before .before .before .before .before .before .before .before .before .before .before .before .before .before .before .good .1 .1 .1 .0 .0)) _ (c .before .before .shaped .result) (c .before .before .shaped .ensures)) .0
+    let w = opened (a .room) (a .text .now) (a .at) (c .before .before .before .before .before .before .before .before .before .before .before .before .before .before .before .before .before .before .before .before .closing-at .result) (c .before .before .before .before .before .before .before .before .before .before .before .before .before .before .before .before .before .before .place-of .result) (c .before .before .before .before .before .before .before .before .before .before .before .place-of2 .result) (c .before .before .before .before .before .before .before .before .before .before .before .before .before .end-place .result) (c .before .before .before .before .before .before .before .before .before .before .before .before .before .before .before .before .before .before .before .before .closing-at .ensures) (c .before .before .before .before .before .before .before .before .before .before .before .before .before .before .before .before .before .before .place-of .ensures ∙ ap gapPlace (c .before .before .before .before .before .before .before .before .before .before .before .before .before .before .before .before .before .before .before .gap-at .ensures)) (c .before .before .before .before .before .before .before .before .before .before .before .before .before .end-place .ensures ∙ ap (λ (x : Scan). place (x .ended)) (c .before .before .before .before .before .before .before .before .before .before .before .before .before .before .before .before .name-at .ensures .0)) (c .before .before .before .before .before .before .before .before .before .before .before .place-of2 .ensures ∙ ap gapPlace (c .before .before .before .before .before .before .before .before .before .before .before .before .then-at .ensures)) (x .0) (x .1) (x .2) (x .3 .one) in
+    field-long (field-whole (a .room) (a .text .now) (a .at) (a .entry) (a .up) (a .byte) (a .table .now) (a .names .now) (x .0) (x .1) (x .2) (c .before .before .before .before .before .before .before .before .before .before .before .before .before .before .before .before .before .before .before .before .closing-at .result) (c .before .before .before .before .before .before .before .before .before .before .before .before .before .before .before .before .before .before .place-of .result) (c .before .before .before .before .before .before .before .before .before .before .before .place-of2 .result) (x .3) w (c .before .before .before .before .before .before .before .before .before .before .before .before .before .before .before .before .name-at .result .len) _ (ap (λ (x : Scan). x .len) (c .before .before .before .before .before .before .before .before .before .before .before .before .before .before .before .before .name-at .ensures .0)) (c .before .before .before .before .before .before .before .before .before .before .before .before .before .before .before .before .name-at .ensures .1) _ _ (c .before .before .before .before .before .before .before .before .fill .result) (c .before .before .before .before .before .before .before .before .fill .ensures) (omega (arith, c .before .before .before .before .before .before .before .before .before .before .before .before .before .before .before .before .before .before .before .before .before .before .before .before .good .1 .1 .1 .0 .0)) _ (c .before .before .shaped .result) (c .before .before .shaped .ensures)) .0
 
 field-same-length-2 : (t : ℕ) → field-lts.Need-same-length-2 (field-told t) (field-at t) field.Post
 field-same-length-2 t c =
     let a = c .before .before .before .before .before .before .before .before .before .before .before .before .before .before .before .before .before .before .before .before .before .before .before .before .args in
     let x = c .before .before .before .before .before .before .before .before .before .before .before .before .before .before .before .before .before .before .before .before .before .before .before .before .pre .1 in
-    let w = opened (a .room) (a .text .now) (a .at) (c .before .before .before .before .before .before .before .before .before .before .before .before .before .before .before .before .before .before .before .before .closing-at .result) (c .before .before .before .before .before .before .before .before .before .before .before .before .before .before .before .before .before .before .place-of .result) (c .before .before .before .before .before .before .before .before .before .before .before .place-of2 .result) (c .before .before .before .before .before .before .before .before .before .before .before .before .before .end-of .result) (c .before .before .before .before .before .before .before .before .before .before .before .before .before .before .before .before .before .before .before .before .closing-at .ensures) (c .before .before .before .before .before .before .before .before .before .before .before .before .before .before .before .before .before .before .place-of .ensures ∙ ap gapPlace (c .before .before .before .before .before .before .before .before .before .before .before .before .before .before .before .before .before .before .before .gap-at .ensures)) (c .before .before .before .before .before .before .before .before .before .before .before .before .before .end-of .ensures) (c .before .before .before .before .before .before .before .before .before .before .before .place-of2 .ensures ∙ ap gapPlace (c .before .before .before .before .before .before .before .before .before .before .before .before .then-at .ensures)) (x .0) (x .1) (x .2) (x .3 .one) in
-    field-long (field-whole (a .room) (a .text .now) (a .at) (a .entry) (a .up) (a .byte) (a .table .now) (a .names .now) (x .0) (x .1) (x .2) (c .before .before .before .before .before .before .before .before .before .before .before .before .before .before .before .before .before .before .before .before .closing-at .result) (c .before .before .before .before .before .before .before .before .before .before .before .before .before .before .before .before .before .before .place-of .result) (c .before .before .before .before .before .before .before .before .before .before .before .place-of2 .result) (x .3) w (c .before .before .before .before .before .before .before .before .before .before .before .before .before .before .before .before .name-at .result) _ (c .before .before .before .before .before .before .before .before .before .before .before .before .before .before .before .before .name-at .ensures .0) (c .before .before .before .before .before .before .before .before .before .before .before .before .before .before .before .before .name-at .ensures .1) _ _ (c .before .before .before .before .before .before .before .before .fill .result) (c .before .before .before .before .before .before .before .before .fill .ensures) (omega (arith, c .before .before .before .before .before .before .before .before .before .before .before .before .before .before .before .before .before .before .before .before .before .before .before .before .good .1 .1 .1 .0 .0)) _ (c .before .before .shaped .result) (c .before .before .shaped .ensures)) .1
+    let w = opened (a .room) (a .text .now) (a .at) (c .before .before .before .before .before .before .before .before .before .before .before .before .before .before .before .before .before .before .before .before .closing-at .result) (c .before .before .before .before .before .before .before .before .before .before .before .before .before .before .before .before .before .before .place-of .result) (c .before .before .before .before .before .before .before .before .before .before .before .place-of2 .result) (c .before .before .before .before .before .before .before .before .before .before .before .before .before .end-place .result) (c .before .before .before .before .before .before .before .before .before .before .before .before .before .before .before .before .before .before .before .before .closing-at .ensures) (c .before .before .before .before .before .before .before .before .before .before .before .before .before .before .before .before .before .before .place-of .ensures ∙ ap gapPlace (c .before .before .before .before .before .before .before .before .before .before .before .before .before .before .before .before .before .before .before .gap-at .ensures)) (c .before .before .before .before .before .before .before .before .before .before .before .before .before .end-place .ensures ∙ ap (λ (x : Scan). place (x .ended)) (c .before .before .before .before .before .before .before .before .before .before .before .before .before .before .before .before .name-at .ensures .0)) (c .before .before .before .before .before .before .before .before .before .before .before .place-of2 .ensures ∙ ap gapPlace (c .before .before .before .before .before .before .before .before .before .before .before .before .then-at .ensures)) (x .0) (x .1) (x .2) (x .3 .one) in
+    field-long (field-whole (a .room) (a .text .now) (a .at) (a .entry) (a .up) (a .byte) (a .table .now) (a .names .now) (x .0) (x .1) (x .2) (c .before .before .before .before .before .before .before .before .before .before .before .before .before .before .before .before .before .before .before .before .closing-at .result) (c .before .before .before .before .before .before .before .before .before .before .before .before .before .before .before .before .before .before .place-of .result) (c .before .before .before .before .before .before .before .before .before .before .before .place-of2 .result) (x .3) w (c .before .before .before .before .before .before .before .before .before .before .before .before .before .before .before .before .name-at .result .len) _ (ap (λ (x : Scan). x .len) (c .before .before .before .before .before .before .before .before .before .before .before .before .before .before .before .before .name-at .ensures .0)) (c .before .before .before .before .before .before .before .before .before .before .before .before .before .before .before .before .name-at .ensures .1) _ _ (c .before .before .before .before .before .before .before .before .fill .result) (c .before .before .before .before .before .before .before .before .fill .ensures) (omega (arith, c .before .before .before .before .before .before .before .before .before .before .before .before .before .before .before .before .before .before .before .before .before .before .before .before .good .1 .1 .1 .0 .0)) _ (c .before .before .shaped .result) (c .before .before .shaped .ensures)) .1
 
 field-returns : (t : ℕ) → field-lts.Need-returns (field-told t) (field-at t) field.Post
 field-returns t c =
     let a = c .before .before .before .before .before .before .before .before .before .before .before .before .before .before .before .before .before .before .before .before .before .before .before .before .args in
     λ n e f h.
-    let w = opened (a .room) (a .text .now) (a .at) (c .before .before .before .before .before .before .before .before .before .before .before .before .before .before .before .before .before .before .before .before .closing-at .result) (c .before .before .before .before .before .before .before .before .before .before .before .before .before .before .before .before .before .before .place-of .result) (c .before .before .before .before .before .before .before .before .before .before .before .place-of2 .result) (c .before .before .before .before .before .before .before .before .before .before .before .before .before .end-of .result) (c .before .before .before .before .before .before .before .before .before .before .before .before .before .before .before .before .before .before .before .before .closing-at .ensures) (c .before .before .before .before .before .before .before .before .before .before .before .before .before .before .before .before .before .before .place-of .ensures ∙ ap gapPlace (c .before .before .before .before .before .before .before .before .before .before .before .before .before .before .before .before .before .before .before .gap-at .ensures)) (c .before .before .before .before .before .before .before .before .before .before .before .before .before .end-of .ensures) (c .before .before .before .before .before .before .before .before .before .before .before .place-of2 .ensures ∙ ap gapPlace (c .before .before .before .before .before .before .before .before .before .before .before .before .then-at .ensures)) n e f (h .one) in
-    field-whole (a .room) (a .text .now) (a .at) (a .entry) (a .up) (a .byte) (a .table .now) (a .names .now) n e f (c .before .before .before .before .before .before .before .before .before .before .before .before .before .before .before .before .before .before .before .before .closing-at .result) (c .before .before .before .before .before .before .before .before .before .before .before .before .before .before .before .before .before .before .place-of .result) (c .before .before .before .before .before .before .before .before .before .before .before .place-of2 .result) h w (c .before .before .before .before .before .before .before .before .before .before .before .before .before .before .before .before .name-at .result) _ (c .before .before .before .before .before .before .before .before .before .before .before .before .before .before .before .before .name-at .ensures .0) (c .before .before .before .before .before .before .before .before .before .before .before .before .before .before .before .before .name-at .ensures .1) _ _ (c .before .before .before .before .before .before .before .before .fill .result) (c .before .before .before .before .before .before .before .before .fill .ensures) (omega (arith, c .before .before .before .before .before .before .before .before .before .before .before .before .before .before .before .before .before .before .before .before .before .before .before .before .good .1 .1 .1 .0 .0)) _ (c .before .before .shaped .result) (c .before .before .shaped .ensures)
+    let w = opened (a .room) (a .text .now) (a .at) (c .before .before .before .before .before .before .before .before .before .before .before .before .before .before .before .before .before .before .before .before .closing-at .result) (c .before .before .before .before .before .before .before .before .before .before .before .before .before .before .before .before .before .before .place-of .result) (c .before .before .before .before .before .before .before .before .before .before .before .place-of2 .result) (c .before .before .before .before .before .before .before .before .before .before .before .before .before .end-place .result) (c .before .before .before .before .before .before .before .before .before .before .before .before .before .before .before .before .before .before .before .before .closing-at .ensures) (c .before .before .before .before .before .before .before .before .before .before .before .before .before .before .before .before .before .before .place-of .ensures ∙ ap gapPlace (c .before .before .before .before .before .before .before .before .before .before .before .before .before .before .before .before .before .before .before .gap-at .ensures)) (c .before .before .before .before .before .before .before .before .before .before .before .before .before .end-place .ensures ∙ ap (λ (x : Scan). place (x .ended)) (c .before .before .before .before .before .before .before .before .before .before .before .before .before .before .before .before .name-at .ensures .0)) (c .before .before .before .before .before .before .before .before .before .before .before .place-of2 .ensures ∙ ap gapPlace (c .before .before .before .before .before .before .before .before .before .before .before .before .then-at .ensures)) n e f (h .one) in
+    field-whole (a .room) (a .text .now) (a .at) (a .entry) (a .up) (a .byte) (a .table .now) (a .names .now) n e f (c .before .before .before .before .before .before .before .before .before .before .before .before .before .before .before .before .before .before .before .before .closing-at .result) (c .before .before .before .before .before .before .before .before .before .before .before .before .before .before .before .before .before .before .place-of .result) (c .before .before .before .before .before .before .before .before .before .before .before .place-of2 .result) h w (c .before .before .before .before .before .before .before .before .before .before .before .before .before .before .before .before .name-at .result .len) _ (ap (λ (x : Scan). x .len) (c .before .before .before .before .before .before .before .before .before .before .before .before .before .before .before .before .name-at .ensures .0)) (c .before .before .before .before .before .before .before .before .before .before .before .before .before .before .before .before .name-at .ensures .1) _ _ (c .before .before .before .before .before .before .before .before .fill .result) (c .before .before .before .before .before .before .before .before .fill .ensures) (omega (arith, c .before .before .before .before .before .before .before .before .before .before .before .before .before .before .before .before .before .before .before .before .before .before .before .before .good .1 .1 .1 .0 .0)) _ (c .before .before .shaped .result) (c .before .before .shaped .ensures)
 
 fields-gap-at-requires : (t : ℕ) → fields-lts.Need-gap-at-requires (fields-told t) (fields-at t) fields.Post fields-Inv-loop fields-μ-loop
 fields-gap-at-requires t c κs = search needs
@@ -229,8 +231,20 @@ fields-loop-again t c =
 fill-string-at-requires : (t : ℕ) → fill-lts.Need-string-at-requires (fill-told t) (fill-at t) fill.Post
 fill-string-at-requires t c κs = search needs
 
-fill-type-at-requires : (t : ℕ) → fill-lts.Need-type-at-requires (fill-told t) (fill-at t) fill.Post
-fill-type-at-requires t c κs = search needs
+fill-add-typed-at : (t : ℕ) → fill-lts.Need-add-typed-at (fill-told t) (fill-at t) fill.Post
+fill-add-typed-at t c =
+    let a = c .before .before .before .before .before .args in
+    let x = c .before .before .before .before .before .pre .1 in
+    omega (arith, text-in (a .room) (a .text .now) (a .at) (a .entry) (a .up) (a .name) (a .byte) (a .table .now) (a .names .now) (x .0) (x .1) (x .2) (x .3) (sym (c .before .string-at .ensures) ∙ c .if1 .taken))
+
+fill-shared-slice-read-typed-at : (t : ℕ) → fill-lts.Need-shared-slice-read-typed-at (fill-told t) (fill-at t) fill.Post
+fill-shared-slice-read-typed-at t c =
+    let a = c .before .before .before .before .before .before .args in
+    let x = c .before .before .before .before .before .before .pre .1 in
+    omega (arith, text-in (a .room) (a .text .now) (a .at) (a .entry) (a .up) (a .name) (a .byte) (a .table .now) (a .names .now) (x .0) (x .1) (x .2) (x .3) (sym (c .before .before .string-at .ensures) ∙ c .before .if1 .taken))
+
+fill-typed-at-requires : (t : ℕ) → fill-lts.Need-typed-at-requires (fill-told t) (fill-at t) fill.Post
+fill-typed-at-requires t c κs = search needs
 
 fill-type-of-requires : (t : ℕ) → fill-lts.Need-type-of-requires (fill-told t) (fill-at t) fill.Post
 fill-type-of-requires t c κs = search needs
@@ -238,25 +252,24 @@ fill-type-of-requires t c κs = search needs
 fill-put-plain-requires : (t : ℕ) → fill-lts.Need-put-plain-requires (fill-told t) (fill-at t) fill.Post
 fill-put-plain-requires t c κs = search needs
 
-fill-end-of-requires : (t : ℕ) → fill-lts.Need-end-of-requires (fill-told t) (fill-at t) fill.Post
-fill-end-of-requires t c κs = search needs
+fill-end-place-requires : (t : ℕ) → fill-lts.Need-end-place-requires (fill-told t) (fill-at t) fill.Post
+fill-end-place-requires t c κs = search needs
 
-fill-add-t19 : (t : ℕ) → fill-lts.Need-add-t19 (fill-told t) (fill-at t) fill.Post
-fill-add-t19 t c =
-    let a = c .before .before .before .before .before .before .before .before .before .before .before .before .args in
-    let x = c .before .before .before .before .before .before .before .before .before .before .before .before .pre .1 in
-    omega (arith, x .3 .room, some-entry (x .2), c .before .before .before .before .before .before .before .before .before .before .before .before .good .1 .1 .1 .0 .0)
+fill-add-t23 : (t : ℕ) → fill-lts.Need-add-t23 (fill-told t) (fill-at t) fill.Post
+fill-add-t23 t c =
+    let x = c .before .before .before .before .before .before .before .before .before .before .before .before .before .pre .1 in
+    omega (arith, x .3 .room, some-entry (x .2), c .before .before .before .before .before .before .before .before .before .before .before .before .before .good .1 .1 .1 .0 .0)
 
 fill-same-length : (t : ℕ) → fill-lts.Need-same-length (fill-told t) (fill-at t) fill.Post
 fill-same-length t c =
-    let a = c .before .before .before .before .before .before .before .before .before .before .before .before .args in
-    let x = c .before .before .before .before .before .before .before .before .before .before .before .before .pre .1 in
-    filled-long (text-whole (a .room) (a .text .now) (a .at) (a .entry) (a .up) (a .name) (a .byte) (a .table .now) (a .names .now) (x .0) (x .1) (x .2) (x .3) (sym (c .before .before .before .before .before .before .before .before .string-at .ensures) ∙ c .before .before .before .before .before .before .before .if1 .taken) (c .before .before .before .before .before .type-at .result) (c .before .before .before .before .before .type-at .ensures) (c .before .before .before .before .type-of .result) (c .before .before .before .before .type-of .ensures) (c .end-of .result) (c .end-of .ensures) (c .before .before .before .put-plain .result) (c .before .before .before .put-plain .ensures .0) _ (c .before .before .before .put-plain .ensures .1)) .0
+    let a = c .before .before .before .before .before .before .before .before .before .before .before .before .before .args in
+    let x = c .before .before .before .before .before .before .before .before .before .before .before .before .before .pre .1 in
+    filled-long (text-whole (a .room) (a .text .now) (a .at) (a .entry) (a .up) (a .name) (a .byte) (a .table .now) (a .names .now) (x .0) (x .1) (x .2) (x .3) (sym (c .before .before .before .before .before .before .before .before .before .string-at .ensures) ∙ c .before .before .before .before .before .before .before .before .if1 .taken) (c .before .before .before .before .before .before .typed-at .result) (c .before .before .before .before .before .before .typed-at .ensures) (c .before .before .before .before .type-of .result) (c .before .before .before .before .type-of .ensures) (c .end-place .result) (c .end-place .ensures) (c .before .before .before .put-plain .result) (c .before .before .before .put-plain .ensures .0) _ (c .before .before .before .put-plain .ensures .1)) .0
 
 fill-returns : (t : ℕ) → fill-lts.Need-returns (fill-told t) (fill-at t) fill.Post
 fill-returns t c =
-    let a = c .before .before .before .before .before .before .before .before .before .before .before .before .args in
-    λ n e d h. text-whole (a .room) (a .text .now) (a .at) (a .entry) (a .up) (a .name) (a .byte) (a .table .now) (a .names .now) n e d h (sym (c .before .before .before .before .before .before .before .before .string-at .ensures) ∙ c .before .before .before .before .before .before .before .if1 .taken) (c .before .before .before .before .before .type-at .result) (c .before .before .before .before .before .type-at .ensures) (c .before .before .before .before .type-of .result) (c .before .before .before .before .type-of .ensures) (c .end-of .result) (c .end-of .ensures) (c .before .before .before .put-plain .result) (c .before .before .before .put-plain .ensures .0) _ (c .before .before .before .put-plain .ensures .1)
+    let a = c .before .before .before .before .before .before .before .before .before .before .before .before .before .args in
+    λ n e d h. text-whole (a .room) (a .text .now) (a .at) (a .entry) (a .up) (a .name) (a .byte) (a .table .now) (a .names .now) n e d h (sym (c .before .before .before .before .before .before .before .before .before .string-at .ensures) ∙ c .before .before .before .before .before .before .before .before .if1 .taken) (c .before .before .before .before .before .before .typed-at .result) (c .before .before .before .before .before .before .typed-at .ensures) (c .before .before .before .before .type-of .result) (c .before .before .before .before .type-of .ensures) (c .end-place .result) (c .end-place .ensures) (c .before .before .before .put-plain .result) (c .before .before .before .put-plain .ensures .0) _ (c .before .before .before .put-plain .ensures .1)
 
 fill-add-fields : (t : ℕ) → fill-lts.Need-add-fields (fill-told t) (fill-at t) fill.Post
 fill-add-fields t c =
@@ -306,6 +319,6 @@ fill-returns-2 t c =
 pub +field+fields+fill-spec : {M : Type 1} → statement M
 +field+fields+fill-spec =
     close μ-field μ-fields μ-fill
-    (λ t. field-lts.spec (field-told t) (field-at t) field.Post (field-closing-at-requires t) (field-sub-deep t) (field-add-gap-at t) (field-gap-at-requires t) (field-place-of-requires t) (field-name-at-requires t) (field-end-of-requires t) (field-then-at-requires t) (field-place-of-requires-2 t) (field-add-fill t) (field-fill-requires t) (field-shaped-requires t) (field-same-length t) (field-same-length-2 t) (field-returns t))
+    (λ t. field-lts.spec (field-told t) (field-at t) field.Post (field-closing-at-requires t) (field-sub-deep t) (field-add-gap-at t) (field-gap-at-requires t) (field-place-of-requires t) (field-name-at-requires t) (field-end-place-requires t) (field-then-at-requires t) (field-place-of-requires-2 t) (field-add-fill t) (field-fill-requires t) (field-shaped-requires t) (field-same-length t) (field-same-length-2 t) (field-returns t))
     (λ t. fields-lts.spec (fields-told t) (fields-at t) fields.Post fields-Inv-loop fields-μ-loop (fields-gap-at-requires t) (fields-loop-holds t) (fields-enum-known-g t) (fields-place-of-requires t) (fields-same-length t) (fields-same-length-2 t) (fields-returns t) (fields-field-requires t) (fields-held-sum-requires t) (fields-add-count t) (fields-then-at-requires t) (fields-loop-less t) (fields-loop-again t))
-    (λ t. fill-lts.spec (fill-told t) (fill-at t) fill.Post (fill-string-at-requires t) (fill-type-at-requires t) (fill-type-of-requires t) (fill-put-plain-requires t) (fill-end-of-requires t) (fill-add-t19 t) (fill-same-length t) (fill-returns t) (fill-add-fields t) (fill-sub-fields t) (fill-add-fields-2 t) (fill-fields-requires t) (fill-put-record-requires t) (fill-same-length-2 t) (fill-same-length-3 t) (fill-returns-2 t))
+    (λ t. fill-lts.spec (fill-told t) (fill-at t) fill.Post (fill-string-at-requires t) (fill-add-typed-at t) (fill-shared-slice-read-typed-at t) (fill-typed-at-requires t) (fill-type-of-requires t) (fill-put-plain-requires t) (fill-end-place-requires t) (fill-add-t23 t) (fill-same-length t) (fill-returns t) (fill-add-fields t) (fill-sub-fields t) (fill-add-fields-2 t) (fill-fields-requires t) (fill-put-record-requires t) (fill-same-length-2 t) (fill-same-length-3 t) (fill-returns-2 t))

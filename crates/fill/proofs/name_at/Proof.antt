@@ -7,7 +7,7 @@ use borrow.Rule.Slice.PartMut.{putMid}
 use Rattle.entry.proofs.Stores.{part-stored}
 use mathlib.Core.Path.{ap, _∙_}
 use lib.ListN.{length, getD}
-use Rattle.tokens.specs.Strings.{spelled}
+use Rattle.tokens.specs.Strings.{spelled, scanned}
 use Rattle.tokens.proofs.Positions.{getD-any}
 use borrow.Author.Needs.{needs}
 use Rattle.fill.proofs.name_at.Statement.{statement}
@@ -38,7 +38,7 @@ returns : tie.Need-returns
 returns c =
     let a = c .before .before .before .before .before .before .before .args in
     let q = getD-any (a .text .now) (a .at) 0 256 (c .before .before .before .before .before .before .before .pre .0) in (
-      c .before .before .decode .ensures .0 ∙ ap (λ (b : ℕ). length (spelled b (a .text .now) (a .at + 1) .bytes)) q,
+      c .before .before .decode .ensures .0 ∙ ap (λ (b : ℕ). scanned (spelled b (a .text .now) (a .at + 1))) q,
       ap (λ (l : List ℕ). putMid (a .byte) (length (a .names .now) - a .byte) (a .names .now) l) (c .before .before .decode .ensures .1) ∙ part-stored (a .names .now) (a .byte) (spelled (getD (a .text .now) (a .at) 0) (a .text .now) (a .at + 1) .bytes) (omega (arith, c .before .before .before .before .before .before .before .pre .1))
           ∙ ap (λ (b : ℕ). sets (a .names .now) (a .byte) (spelled b (a .text .now) (a .at + 1) .bytes)) q,
     )

@@ -41,22 +41,22 @@ slice-aggregate-put-over c =
     let a = c .before .before .before .before .before .before .before .before .before .before .before .args in
     let x = c .before .before .before .before .before .before .before .before .before .before .before .pre in
     let st = stored-shape (a .room) (a .text .now) _ _ _ _ (c .before .before .before .fill .ensures) (x .1) (shape-stands (a .room) (a .text .now) (a .close) (a .table .now) (a .r) (x .0) (x .1) (x .2) (c .before .before .before .before .before .before .before .before .then-at .result) (c .before .before .before .before .before .before .before .before .then-at .ensures) _ (c .before .before .before .before .before .before .g .given .1)) in
-    st .counted ∙ sym (ap length (shape-front (x .1) _ _ _ _ st (x .2 .behind .low) refl))
+    st .counted ∙ sym (ap length (shape-front (x .1) _ _ _ _ _ st (x .2 .behind .low) refl))
 
 put-over-requires : tie.Need-put-over-requires
 put-over-requires c κs = search needs
 
-end-of-requires : tie.Need-end-of-requires
-end-of-requires c κs = search needs
+place-of-requires-2 : tie.Need-place-of-requires-2
+place-of-requires-2 c κs = search needs
 
 then-at-requires-2 : tie.Need-then-at-requires-2
 then-at-requires-2 c κs = search needs
 
-place-of-requires-2 : tie.Need-place-of-requires-2
-place-of-requires-2 c κs = search needs
+place-of-requires-3 : tie.Need-place-of-requires-3
+place-of-requires-3 c κs = search needs
 
-add-t24 : tie.Need-add-t24
-add-t24 c =
+add-t26 : tie.Need-add-t26
+add-t26 c =
     let a = c .before .before .before .before .before .before .before .before .before .before .before .before .before .before .before .before .before .before .args in
     let x = c .before .before .before .before .before .before .before .before .before .before .before .before .before .before .before .before .before .before .pre in
     let st = stored-shape (a .room) (a .text .now) _ _ _ _ (c .before .before .before .before .before .before .before .before .before .before .fill .ensures) (x .1) (shape-stands (a .room) (a .text .now) (a .close) (a .table .now) (a .r) (x .0) (x .1) (x .2) (c .before .before .before .before .before .before .before .before .before .before .before .before .before .before .before .then-at .result) (c .before .before .before .before .before .before .before .before .before .before .before .before .before .before .before .then-at .ensures) _ (c .before .before .before .before .before .before .before .before .before .before .before .before .before .g .given .1)) in
@@ -70,8 +70,8 @@ returns-2 c =
     let a = c .before .before .before .before .before .before .before .before .before .before .before .before .before .before .before .before .before .before .args in
     λ e ns h.
     let st = stored-shape (a .room) (a .text .now) _ _ _ _ (c .before .before .before .before .before .before .before .before .before .before .fill .ensures) ns (shape-stands (a .room) (a .text .now) (a .close) (a .table .now) (a .r) e ns h (c .before .before .before .before .before .before .before .before .before .before .before .before .before .before .before .then-at .result) (c .before .before .before .before .before .before .before .before .before .before .before .before .before .before .before .then-at .ensures) _ (c .before .before .before .before .before .before .before .before .before .before .before .before .before .g .given .1)) in
-    shaped-some (a .room) (a .text .now) (a .close) (a .table .now) (a .r) e ns h (c .before .before .before .before .before .before .before .before .before .before .before .before .before .before .before .then-at .result) (c .before .before .before .before .before .before .before .before .before .before .before .before .before .before .before .then-at .ensures) _ (c .before .before .before .before .before .before .before .before .before .before .before .before .before .g .given .1) (a .entry) (a .up) (a .name) (c .before .before .before .before .before .before .before .before .before .before .fill .result) (c .before .before .before .end-of .result) (c .before .place-of2 .result) (c .before .before .before .before .before .before .put-over .result) _ _ (st .counted)
-    (shape-front ns _ _ _ _ st (h .behind .low) refl) (c .before .before .before .end-of .ensures) (c .before .place-of2 .ensures ∙ ap gapPlace (c .before .before .then-at2 .ensures)) (c .before .before .before .before .before .before .put-over .ensures .0) (c .before .before .before .before .before .before .put-over .ensures .1)
+    shaped-some (a .room) (a .text .now) (a .close) (a .table .now) (a .r) e ns h (c .before .before .before .before .before .before .before .before .before .before .before .before .before .before .before .then-at .result) (c .before .before .before .before .before .before .before .before .before .before .before .before .before .before .before .then-at .ensures) _ (c .before .before .before .before .before .before .before .before .before .before .before .before .before .g .given .1) (a .entry) (a .up) (a .name) (c .before .before .before .before .before .before .before .before .before .before .fill .result .rank) (c .before .before .before .place-of2 .result) (c .before .place-of3 .result) (c .before .before .before .before .before .before .put-over .result) _ _ (st .counted)
+    (shape-front ns _ _ _ _ _ st (h .behind .low) refl) (c .before .before .before .place-of2 .ensures ∙ ap gapPlace (st .stopped)) (c .before .place-of3 .ensures ∙ ap gapPlace (c .before .before .then-at2 .ensures)) (c .before .before .before .before .before .before .put-over .ensures .0) (c .before .before .before .before .before .before .put-over .ensures .1)
 
 pub shaped-spec : {M : Type 1} → statement M
 shaped-spec =
@@ -86,9 +86,9 @@ shaped-spec =
     array-share-prefix-shape
     slice-aggregate-put-over
     put-over-requires
-    end-of-requires
-    then-at-requires-2
     place-of-requires-2
-    add-t24
+    then-at-requires-2
+    place-of-requires-3
+    add-t26
     same-length
     returns-2)

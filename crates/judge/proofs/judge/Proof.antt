@@ -1,11 +1,11 @@
 -- 5, then 6 or 7, then the value. Assumes nothing.
-use Rattle.tokens.specs.Text.{skip}
-use Rattle.refusal.specs.declared.Refusal.{Refusal}
 use mathlib.Core.Path.{sym, _∙_}
 use Rattle.counts.proofs.OneOutcome.{told}
+use Rattle.refusal.specs.declared.Refusal.{Refusal}
+use Rattle.tokens.specs.Text.{skip}
 use Rattle.utf8.specs.Answer.{answer}
 use Rattle.judge.proofs.Tests.{refused-by}
-use Rattle.judge.proofs.Top.{ill-record, fault-record, deep-record, value-judged}
+use Rattle.judge.proofs.Top.{ill-record, ended-so, fault-record, deep-record, value-judged}
 use borrow.Author.Needs.{needs}
 use Rattle.judge.proofs.judge.Statement.{statement}
 use Rattle.judge.proofs.judge.Tie as tie
@@ -20,19 +20,24 @@ enum-told-2 : tie.Need-enum-told-2
 enum-told-2 c = search needs
 
 returns : tie.Need-returns
-returns c = refused-by (c .before .before .before .before .args .text .now) (skip (c .before .before .before .before .args .text .now) 0) Refusal.NotUtf8 _ (ill-record _ (told answer (c .before .before .check .ensures .answered) (c .enum-told2 .given .1)))
-
-literal-requires : tie.Need-literal-requires
-literal-requires c κs = search needs
-
-enum-told-3 : tie.Need-enum-told-3
-enum-told-3 c = search needs
+returns c =
+    let s = c .before .before .before .before .args .text .now in
+    refused-by s (skip s 0) Refusal.NotUtf8 _ (ill-record s (told answer (c .before .before .check .ensures .answered) (c .enum-told2 .given .1)))
 
 blanks-requires : tie.Need-blanks-requires
 blanks-requires c κs = search needs
 
-judge-value-requires : tie.Need-judge-value-requires
-judge-value-requires c κs = search needs
+keys-requires : tie.Need-keys-requires
+keys-requires c κs = search needs
+
+whole-requires : tie.Need-whole-requires
+whole-requires c κs = search needs
+
+enum-told-3 : tie.Need-enum-told-3
+enum-told-3 c = search needs
+
+judge-keys-requires : tie.Need-judge-keys-requires
+judge-keys-requires c κs = search needs
 
 enum-told-4 : tie.Need-enum-told-4
 enum-told-4 c = search needs
@@ -42,14 +47,28 @@ enum-told-5 c = search needs
 
 returns-2 : tie.Need-returns-2
 returns-2 c =
-    let s = c .before .before .before .before .before .before .before .before .before .args .text .now in
-    value-judged s (told answer (c .before .before .before .before .before .before .before .check .ensures .answered) (c .before .before .before .before .before .enum-told .given .1)) (c .before .blanks .result) (c .judge-value .result) _ (sym (c .before .before .enum-told3 .given .1) ∙ c .before .before .before .before .literal .ensures .parsed) (c .before .blanks .ensures) (c .judge-value .ensures)
+    let s = c .before .before .before .before .before .before .before .before .before .before .args .text .now in
+    let well = told answer (c .before .before .before .before .before .before .before .before .check .ensures .answered) (c .before .before .before .before .before .before .enum-told .given .1) in
+    let at = c .before .before .before .before .before .blanks in
+    let w = c .before .before .before .before .keys in
+    let e = ended-so s well _ _ (at .result) (at .ensures) (w .ensures .ended) (c .before .before .before .whole .ensures) in
+    value-judged s well (at .result) (c .judge-keys .result) _ (sym (c .before .enum-told3 .given .1) ∙ e) (at .ensures) (c .judge-keys .ensures s (at .result) (w .ensures .keys))
 
 returns-3 : tie.Need-returns-3
-returns-3 c = refused-by (c .before .before .before .before .before .before .before .args .text .now) (skip (c .before .before .before .before .before .before .before .args .text .now) 0) Refusal.Fault _ (fault-record _ (told answer (c .before .before .before .before .before .check .ensures .answered) (c .before .before .before .enum-told .given .1)) _ (sym (c .enum-told4 .given .1) ∙ c .before .before .literal .ensures .parsed))
+returns-3 c =
+    let s = c .before .before .before .before .before .before .before .before .before .args .text .now in
+    let well = told answer (c .before .before .before .before .before .before .before .check .ensures .answered) (c .before .before .before .before .before .enum-told .given .1) in
+    let at = c .before .before .before .before .blanks in
+    let e = ended-so s well _ _ (at .result) (at .ensures) (c .before .before .before .keys .ensures .ended) (c .before .before .whole .ensures) in
+    refused-by s (skip s 0) Refusal.Fault _ (fault-record s well _ (sym (c .enum-told4 .given .1) ∙ e))
 
 returns-4 : tie.Need-returns-4
-returns-4 c = refused-by (c .before .before .before .before .before .before .before .args .text .now) (skip (c .before .before .before .before .before .before .before .args .text .now) 0) Refusal.Depth _ (deep-record _ (told answer (c .before .before .before .before .before .check .ensures .answered) (c .before .before .before .enum-told .given .1)) _ (sym (c .enum-told5 .given .1) ∙ c .before .before .literal .ensures .parsed))
+returns-4 c =
+    let s = c .before .before .before .before .before .before .before .before .before .args .text .now in
+    let well = told answer (c .before .before .before .before .before .before .before .check .ensures .answered) (c .before .before .before .before .before .enum-told .given .1) in
+    let at = c .before .before .before .before .blanks in
+    let e = ended-so s well _ _ (at .result) (at .ensures) (c .before .before .before .keys .ensures .ended) (c .before .before .whole .ensures) in
+    refused-by s (skip s 0) Refusal.Depth _ (deep-record s well _ (sym (c .enum-told5 .given .1) ∙ e))
 
 pub judge-spec : {M : Type 1} → statement M
 judge-spec =
@@ -59,10 +78,11 @@ judge-spec =
     enum-told
     enum-told-2
     returns
-    literal-requires
-    enum-told-3
     blanks-requires
-    judge-value-requires
+    keys-requires
+    whole-requires
+    enum-told-3
+    judge-keys-requires
     enum-told-4
     enum-told-5
     returns-2

@@ -17,14 +17,10 @@ enum-known-r : tie.Need-enum-known-r
 enum-known-r c = search needs
 
 returns : tie.Need-returns
-returns c =
-    let a = c .before .before .before .before .before .before .args in
-    with-shape (a .text .now) (a .at) (a .order) (c .with-shape .result) _ _ (c .before .before .before .before .shape-in .ensures) (c .before .before .shape .given .1) (λ s hs. c .with-shape .ensures s hs)
+returns c = λ text at h. with-shape text at (c .before .before .before .before .before .args .order) (c .with-shape .result) _ _ (c .before .before .before .before .shape-in .ensures text at (h .of-shape)) (c .before .before .shape .given .1) (λ s hs. c .with-shape .ensures text at s (h .of-descr) hs)
 
 returns-2 : tie.Need-returns-2
-returns-2 c =
-    let a = c .before .before .before .before .before .args in
-    no-shape (a .text .now) (a .at) (a .order) _ _ (c .before .before .before .shape-in .ensures) (c .before .r .given .1)
+returns-2 c = λ text at h. no-shape text at (c .before .before .before .before .args .order) _ _ (c .before .before .before .shape-in .ensures text at (h .of-shape)) (c .before .r .given .1)
 
 pub with-order-spec : {M : Type 1} → statement M
 with-order-spec =

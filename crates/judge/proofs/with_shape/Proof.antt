@@ -17,14 +17,10 @@ enum-known-r : tie.Need-enum-known-r
 enum-known-r c = search needs
 
 returns : tie.Need-returns
-returns c =
-    let a = c .before .before .before .before .before .before .args in
-    λ s hs. with-descr (a .text .now) (a .at) (a .order) (c .within-limits .result) s _ _ (c .before .before .before .before .descr-in .ensures) (c .before .before .descr .given .1) (λ d hd. c .within-limits .ensures (a .text .now) (a .at) s d hs hd)
+returns c = λ text at s hf hs. with-descr text at (c .before .before .before .before .before .args .order) (c .within-limits .result) s _ _ (c .before .before .before .before .descr-in .ensures text at hf) (c .before .before .descr .given .1) (λ d hd. c .within-limits .ensures text at s d hs hd)
 
 returns-2 : tie.Need-returns-2
-returns-2 c =
-    let a = c .before .before .before .before .before .args in
-    λ s hs. no-descr (a .text .now) (a .at) (a .order) s _ _ (c .before .before .before .descr-in .ensures) (c .before .r .given .1)
+returns-2 c = λ text at s hf hs. no-descr text at (c .before .before .before .before .args .order) s _ _ (c .before .before .before .descr-in .ensures text at hf) (c .before .r .given .1)
 
 pub with-shape-spec : {M : Type 1} → statement M
 with-shape-spec =

@@ -2,11 +2,11 @@
 use Prim.Native.Nat.{_-_}
 use native.Mathlib.Omega.{arith}
 use mathlib.Core.Path.{refl, sym, ap, _∙_}
+use borrow.Author.Needs.{needs}
 use Rattle.tokens.specs.Text.{kindOf}
 use Rattle.literal.specs.Literal.{most-open}
 use Rattle.tokens.proofs.Positions.{kind-in}
-use Rattle.keys.proofs.Seek.{dict-keys, no-dict}
-use borrow.Author.Needs.{needs}
+use Rattle.keys.proofs.Seek.{dict-keys, dict-walked, no-dict}
 use Rattle.keys.proofs.keys.Statement.{statement}
 use Rattle.keys.proofs.keys.Tie as tie
 
@@ -19,19 +19,20 @@ kind-of-requires c κs = search needs
 enum-told : tie.Need-enum-told
 enum-told c = search needs
 
+value-requires : tie.Need-value-requires
+value-requires c κs = search needs
+
 returns : tie.Need-returns
 returns c =
-    let a = c .before .before .before .before .args in
-    let s = a .text .now in
-    let hk = c .before .kind-of .ensures ∙ ap kindOf (c .before .before .peek .ensures) in
-    no-dict (most-open - 1) s (a .at) _ hk (c .match .keys2)
+    let a = c .before .before .before .before .before .args in
+    let hk = c .before .before .kind-of .ensures ∙ ap kindOf (c .before .before .before .peek .ensures) in
+    record { ended = c .value .ensures; keys = no-dict (most-open - 1) (a .text .now) (a .at) _ hk (c .before .match .keys2) }
 
 add-keys-from : tie.Need-add-keys-from
 add-keys-from c =
     let a = c .before .before .before .before .before .args in
-    let s = a .text .now in
     let hk = c .before .before .kind-of .ensures ∙ ap kindOf (c .before .before .before .peek .ensures) in
-    let lt = kind-in s (a .at) (sym hk ∙ c .enum-told .given .1) refl in
+    let lt = kind-in (a .text .now) (a .at) (sym hk ∙ c .enum-told .given .1) refl in
     omega arith
 
 sub-keys-from : tie.Need-sub-keys-from
@@ -45,7 +46,9 @@ returns-2 c =
     let a = c .before .before .before .before .before .before .args in
     let s = a .text .now in
     let hk = c .before .before .before .kind-of .ensures ∙ ap kindOf (c .before .before .before .before .peek .ensures) in
-    dict-keys (most-open - 1) s (a .at) _ hk (c .before .enum-told .given .1) (c .keys-from .result) (c .keys-from .ensures)
+    let z = c .before .enum-told .given .1 in
+    let w = c .keys-from in
+    record { ended = dict-walked (most-open - 1) s (a .at) _ hk z (w .result) (w .ensures); keys = dict-keys (most-open - 1) s (a .at) _ hk z (w .result .keys) (w .ensures .keys) }
 
 pub keys-spec : {M : Type 1} → statement M
 keys-spec =
@@ -54,6 +57,7 @@ keys-spec =
     peek-requires
     kind-of-requires
     enum-told
+    value-requires
     returns
     add-keys-from
     sub-keys-from

@@ -7,7 +7,7 @@ use Rattle.codes.specs.Given.{orderAnswer, versionAnswer}
 use Rattle.npy.proofs.Given.{retold, then-told, none-told, then-left, none-left}
 use Rattle.prefix.specs.Answer.{versionIs}
 use Rattle.codes.specs.Codes.{left}
-use Rattle.codes.specs.Values.{orderFor}
+use Rattle.codes.specs.Numbers.{orderFor}
 use borrow.Author.Needs.{needs}
 use Rattle.npy.proofs.npy_list.Statement.{statement}
 use Rattle.npy.proofs.npy_list.Tie as tie

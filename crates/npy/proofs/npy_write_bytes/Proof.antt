@@ -1,7 +1,7 @@
 -- What is given, and then what goes to the room. Assumes nothing.
 use Rattle.counts.specs.Outcome.{then}
 use Rattle.counts.proofs.OneOutcome.{told}
-use Rattle.table.specs.Answer.{typeAnswer}
+use Rattle.entries.specs.Answer.{typeAnswer}
 use Rattle.strings.specs.Rooms.{writeBytes}
 use Rattle.npy.proofs.Putting.{then-put, none-put}
 use borrow.Author.Needs.{needs}

@@ -1,6 +1,6 @@
 -- `places::follow` meets its contract: the loop keeps `Walking`. The measure is what is left of the path. Assumes nothing.
 use Rattle.places.proofs.Walks.{Walking, walking-start, step-asks, walking-nowhere, walking-fits, walking-next, ends-nowhere, ends-at}
-use Rattle.table.specs.Answer.{typeAnswer}
+use Rattle.entries.specs.Answer.{typeAnswer}
 use Rattle.counts.proofs.OneOutcome.{told}
 use lib.ListN.{length}
 use Prim.Native.Nat.{_-_}

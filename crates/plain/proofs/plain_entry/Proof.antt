@@ -1,6 +1,6 @@
 -- Number by number. Assumes nothing.
 use mathlib.Core.Path.{refl}
-use Rattle.table.proofs.Types.{entry-of}
+use Rattle.entries.proofs.Entry.{entry-of}
 use borrow.Author.Needs.{needs}
 use Rattle.plain.proofs.plain_entry.Statement.{statement}
 use Rattle.plain.proofs.plain_entry.Tie as tie

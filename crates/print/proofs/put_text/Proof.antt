@@ -1,8 +1,8 @@
--- `print::put_text` meets its contract: the record's own refusals first, and then the text. Assumes nothing.
+-- `print::put_text` meets its contract: the refusals of crate depth first, and then the text. Assumes nothing.
 use mathlib.Core.Path.{refl}
 use Rattle.counts.proofs.OneOutcome.{told}
-use Rattle.table.specs.Answer.{answer}
-use Rattle.print.proofs.Prints.{prints-refused, prints-by, print-refused, print-accepted}
+use Rattle.depth.specs.Printable.{answer}
+use Rattle.print.proofs.Prints.{prints-refused, accepted, unaccepted, accepted-text}
 use borrow.Author.Needs.{needs}
 use Rattle.print.proofs.put_text.Statement.{statement}
 use Rattle.print.proofs.put_text.Tie as tie
@@ -13,8 +13,8 @@ check-requires c κs = search needs
 enum-known-found : tie.Need-enum-known-found
 enum-known-found c = search needs
 
-put-text-requires : tie.Need-put-text-requires
-put-text-requires c κs = let u = print-accepted _ _ _ _ _ (told answer (c .before .before .before .before .check .ensures) (c .before .before .found .given .1)) in (u .0, u .2)
+put-dict-requires : tie.Need-put-dict-requires
+put-dict-requires c κs = let u = accepted _ _ _ _ _ (told answer (c .before .before .before .before .check .ensures) (c .before .before .found .given .1)) in (u .0, u .2)
 
 enum-told : tie.Need-enum-told
 enum-told c = search needs
@@ -31,26 +31,32 @@ enum-told-4 c = search needs
 enum-told-5 : tie.Need-enum-told-5
 enum-told-5 c = search needs
 
+enum-told-6 : tie.Need-enum-told-6
+enum-told-6 c = search needs
+
 same-length : tie.Need-same-length
 same-length c = search needs
 
 returns : tie.Need-returns
-returns c = let u = print-accepted _ _ _ _ _ (told answer (c .before .before .before .before .before .before .before .check .ensures) (c .before .before .before .before .before .found .given .1)) in prints-by _ _ _ _ _ _ _ _ (u .0) (u .1) (c .before .before .put-text .ensures (u .0) (u .2))
+returns c = accepted-text _ _ _ _ _ (told answer (c .before .before .before .before .before .before .before .check .ensures) (c .before .before .before .before .before .found .given .1)) _ _ _ _ (c .before .before .put-dict .ensures)
 
 returns-2 : tie.Need-returns-2
-returns-2 c = prints-refused _ _ _ _ 27 refl (print-refused _ _ _ _ 27 (told answer (c .before .before .check .ensures) (c .enum-told .given .1)))
+returns-2 c = prints-refused _ _ _ _ 27 refl (unaccepted _ _ _ _ 27 (told answer (c .before .before .check .ensures) (c .enum-told .given .1)))
 
 returns-3 : tie.Need-returns-3
-returns-3 c = prints-refused _ _ _ _ 13 refl (print-refused _ _ _ _ 13 (told answer (c .before .before .check .ensures) (c .enum-told2 .given .1)))
+returns-3 c = prints-refused _ _ _ _ 13 refl (unaccepted _ _ _ _ 13 (told answer (c .before .before .check .ensures) (c .enum-told2 .given .1)))
 
 returns-4 : tie.Need-returns-4
-returns-4 c = prints-refused _ _ _ _ 20 refl (print-refused _ _ _ _ 20 (told answer (c .before .before .check .ensures) (c .enum-told3 .given .1)))
+returns-4 c = prints-refused _ _ _ _ 20 refl (unaccepted _ _ _ _ 20 (told answer (c .before .before .check .ensures) (c .enum-told3 .given .1)))
 
 returns-5 : tie.Need-returns-5
-returns-5 c = prints-refused _ _ _ _ 21 refl (print-refused _ _ _ _ 21 (told answer (c .before .before .check .ensures) (c .enum-told4 .given .1)))
+returns-5 c = prints-refused _ _ _ _ 21 refl (unaccepted _ _ _ _ 21 (told answer (c .before .before .check .ensures) (c .enum-told4 .given .1)))
 
 returns-6 : tie.Need-returns-6
-returns-6 c = prints-refused _ _ _ _ 22 refl (print-refused _ _ _ _ 22 (told answer (c .before .before .check .ensures) (c .enum-told5 .given .1)))
+returns-6 c = prints-refused _ _ _ _ 22 refl (unaccepted _ _ _ _ 22 (told answer (c .before .before .check .ensures) (c .enum-told5 .given .1)))
+
+returns-7 : tie.Need-returns-7
+returns-7 c = prints-refused _ _ _ _ 7 refl (unaccepted _ _ _ _ 7 (told answer (c .before .before .check .ensures) (c .enum-told6 .given .1)))
 
 pub put-text-spec : {M : Type 1} → statement M
 put-text-spec =
@@ -58,16 +64,18 @@ put-text-spec =
     (tie.spec
     check-requires
     enum-known-found
-    put-text-requires
+    put-dict-requires
     enum-told
     enum-told-2
     enum-told-3
     enum-told-4
     enum-told-5
+    enum-told-6
     same-length
     returns
     returns-2
     returns-3
     returns-4
     returns-5
-    returns-6)
+    returns-6
+    returns-7)

@@ -1,4 +1,4 @@
--- The measure is what is left of the text. Assumes nothing.
+-- A line lies in the text; the measure is what is left of it. Assumes nothing.
 use Prim.Native.Nat.{_-_, _≤_}
 use lib.ListN.{length}
 use borrow.Author.Needs.{needs}
@@ -6,19 +6,16 @@ use Rattle.run_header.proofs.show_lines.Statement.{statement}
 use Rattle.run_header.proofs.show_lines.Tie as tie
 
 abbrev Inv-loop : tie.InvT-loop
-Inv-loop text i₀ i = i ≤ length text
+Inv-loop text from₀ i₀ from i = (from ≤ i) × (i ≤ length text)
 
 abbrev μ-loop : tie.MeasureT-loop
-μ-loop text i₀ i = length text - i
+μ-loop text from₀ i₀ from i = length text - i
 
 loop-holds : tie.Need-loop-holds Inv-loop μ-loop
 loop-holds c = search needs
 
-shared-slice-read-show-byte : tie.Need-shared-slice-read-show-byte Inv-loop μ-loop
-shared-slice-read-show-byte c = search needs
-
-show-byte-requires : tie.Need-show-byte-requires Inv-loop μ-loop
-show-byte-requires c κs = search needs
+show-line-requires : tie.Need-show-line-requires Inv-loop μ-loop
+show-line-requires c κs = search needs
 
 add-i : tie.Need-add-i Inv-loop μ-loop
 add-i c = search needs
@@ -35,13 +32,4 @@ returns c = search needs
 pub show-lines-spec : {M : Type 1} → statement M
 show-lines-spec =
     tie.close
-    (tie.spec
-    Inv-loop
-    μ-loop
-    loop-holds
-    shared-slice-read-show-byte
-    show-byte-requires
-    add-i
-    loop-less
-    loop-again
-    returns)
+    (tie.spec Inv-loop μ-loop loop-holds show-line-requires add-i loop-less loop-again returns)

@@ -1,81 +1,63 @@
--- `table::check` meets its contract: each answer by the tests that led there. Assumes nothing.
-use Rattle.table.proofs.Checks.{check-27, agrees-all, check-13, check-13-levels, check-20, check-20-names, check-21, check-22, check-accepts}
-use Rattle.table.specs.Checked.{readDtype}
-use Rattle.shape.specs.Answer.{counted}
-use Rattle.dtype.specs.Dtype.{Dtype}
+-- `table::check` meets its contract: the four refusals of the crate limits are the record's, and behind them 22 is asked. Assumes nothing.
+use Rattle.table.proofs.Checks.{check-refused, check-counted}
+use Rattle.limits.specs.Answer.{answer}
 use Rattle.counts.proofs.OneOutcome.{told}
-use Rattle.counts.specs.Outcome.{gives}
-use borrow.Author.Tests.{not-true, not-false}
-use mathlib.Core.Path.{_≡_, refl, sym, _∙_}
+use mathlib.Core.Path.{refl, _∙_}
 use borrow.Author.Needs.{needs}
 use Rattle.table.proofs.check.Statement.{statement}
 use Rattle.table.proofs.check.Tie as tie
 
--- what is known once a dtype is read
-read : (c : tie.Else1) → (d : Dtype) × (readDtype (c .before .before .before .before .before .args .table .now) (c .before .before .before .before .before .args .names .now) ≡ gives d)
-read c = c .before .is-dtype .ensures .yes (not-false _ (c .if1 .left))
+check-requires : tie.Need-check-requires
+check-requires c κs = search needs
 
-is-dtype-requires : tie.Need-is-dtype-requires
-is-dtype-requires c κs = search needs
+enum-known-size : tie.Need-enum-known-size
+enum-known-size c = search needs
 
-returns : tie.Need-returns
-returns c = check-27 _ _ _ _ (c .before .is-dtype .ensures .no (not-true _ (c .if1 .taken)))
-
-returns-2 : tie.Need-returns-2
-returns-2 c = let r = read (c .before) in check-13 _ _ _ _ (r .0) (r .1) _ refl (c .if2 .taken)
-
-too-deep-requires : tie.Need-too-deep-requires
-too-deep-requires c κs = search needs
-
-returns-3 : tie.Need-returns-3
-returns-3 c = let r = read (c .before .before .before) in check-13-levels _ _ _ _ (r .0) (r .1) _ refl (sym (c .if3 .taken) ∙ c .before .too-deep .ensures)
-
-returns-4 : tie.Need-returns-4
-returns-4 c = let r = read (c .before .before .before .before) in check-20 _ _ _ _ (r .0) (r .1) _ refl (c .before .before .before .if2 .left) (sym (c .before .if3 .left) ∙ c .before .before .too-deep .ensures) (c .if4 .taken)
-
-returns-5 : tie.Need-returns-5
-returns-5 c = let r = read (c .before .before .before .before .before) in check-20-names _ _ _ _ (r .0) (r .1) _ refl (c .before .before .before .before .if2 .left) (sym (c .before .before .if3 .left) ∙ c .before .before .before .too-deep .ensures) (c .if5 .taken)
-
-over-size-requires : tie.Need-over-size-requires
-over-size-requires c κs = let r = read (c .before .before .before .before .before) in agrees-all _ _ (c .before .before .before .before .before .before .before .before .before .before .args .shape .now) (c .before .before .before .before .before .before .before .before .before .before .args .order) (r .0) (r .1) _ refl
-
-returns-6 : tie.Need-returns-6
-returns-6 c = let r = read (c .before .before .before .before .before .before .before) in check-21 _ _ _ _ (r .0) (r .1) _ refl (c .before .before .before .before .before .before .if2 .left) (sym (c .before .before .before .before .if3 .left) ∙ c .before .before .before .before .before .too-deep .ensures) (c .before .before .before .if4 .left) (c .before .before .if5 .left) (sym (c .if6 .taken) ∙ c .before .over-size .ensures)
-
-count-requires : tie.Need-count-requires
-count-requires c κs = search needs
-
-enum-known-count : tie.Need-enum-known-count
-enum-known-count c = search needs
+counted-requires : tie.Need-counted-requires
+counted-requires c κs = search needs
 
 enum-told : tie.Need-enum-told
 enum-told c = search needs
 
-returns-7 : tie.Need-returns-7
-returns-7 c = let r = read (c .before .before .before .before .before .before .before .before .before .before) in check-22 _ _ _ _ (r .0) (r .1) _ refl (c .before .before .before .before .before .before .before .before .before .if2 .left) (sym (c .before .before .before .before .before .before .before .if3 .left) ∙ c .before .before .before .before .before .before .before .before .too-deep .ensures) (c .before .before .before .before .before .before .if4 .left) (c .before .before .before .before .before .if5 .left) (sym (c .before .before .before .if6 .left) ∙ c .before .before .before .before .over-size .ensures) (told counted (c .before .before .count .ensures) (c .enum-told .given .1))
+enum-told-2 : tie.Need-enum-told-2
+enum-told-2 c = search needs
 
-item-size-requires : tie.Need-item-size-requires
-item-size-requires c κs = search needs
+enum-told-3 : tie.Need-enum-told-3
+enum-told-3 c = search needs
 
-returns-8 : tie.Need-returns-8
-returns-8 c = let r = read (c .before .before .before .before .before .before .before .before .before .before .before .before) in check-accepts _ _ _ _ (r .0) (r .1) _ refl (c .before .before .before .before .before .before .before .before .before .before .before .if2 .left) (sym (c .before .before .before .before .before .before .before .before .before .if3 .left) ∙ c .before .before .before .before .before .before .before .before .before .before .too-deep .ensures) (c .before .before .before .before .before .before .before .before .if4 .left) (c .before .before .before .before .before .before .before .if5 .left) (sym (c .before .before .before .before .before .if6 .left) ∙ c .before .before .before .before .before .before .over-size .ensures) _ (told counted (c .before .before .before .before .count .ensures) (c .before .before .count2 .given .1)) _ (c .item-size .ensures)
+enum-told-4 : tie.Need-enum-told-4
+enum-told-4 c = search needs
+
+returns : tie.Need-returns
+returns c =
+    let a = c .before .before .before .before .before .before .before .before .args in
+    c .counted .ensures ∙ check-counted (a .table .now) (a .names .now) _ _ _ refl _ (told answer (c .before .before .before .before .check .ensures) (c .before .before .size .given .1))
+
+returns-2 : tie.Need-returns-2
+returns-2 c = check-refused _ _ _ _ 27 (told answer (c .before .before .check .ensures) (c .enum-told .given .1))
+
+returns-3 : tie.Need-returns-3
+returns-3 c = check-refused _ _ _ _ 13 (told answer (c .before .before .check .ensures) (c .enum-told2 .given .1))
+
+returns-4 : tie.Need-returns-4
+returns-4 c = check-refused _ _ _ _ 20 (told answer (c .before .before .check .ensures) (c .enum-told3 .given .1))
+
+returns-5 : tie.Need-returns-5
+returns-5 c = check-refused _ _ _ _ 21 (told answer (c .before .before .check .ensures) (c .enum-told4 .given .1))
 
 pub check-spec : {M : Type 1} → statement M
 check-spec =
     tie.close
     (tie.spec
-    is-dtype-requires
+    check-requires
+    enum-known-size
+    counted-requires
+    enum-told
+    enum-told-2
+    enum-told-3
+    enum-told-4
     returns
     returns-2
-    too-deep-requires
     returns-3
     returns-4
-    returns-5
-    over-size-requires
-    returns-6
-    count-requires
-    enum-known-count
-    enum-told
-    returns-7
-    item-size-requires
-    returns-8)
+    returns-5)

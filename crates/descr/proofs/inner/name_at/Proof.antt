@@ -1,4 +1,4 @@
--- A string is scanned, and its length is that of its bytes; what is no string is refused. Assumes nothing.
+-- A string is scanned once: its end and the length of its bytes; what is no string is read and refused. Assumes nothing.
 use Prim.Native.Nat.{ℕ, _+_}
 use native.Mathlib.Omega.{arith}
 use mathlib.Core.Path.{sym, ap, _∙_}
@@ -8,8 +8,9 @@ use Rattle.tokens.specs.Strings.{spelled}
 use Rattle.tokens.specs.declared.strings.Scan.{Scan}
 use Rattle.tokens.proofs.Positions.{getD-any}
 use Rattle.sums.specs.Totals.{nameTotals}
+use Rattle.sums.specs.Verdict.{verdict}
 use Rattle.field.proofs.Begins.{string-in}
-use Rattle.descr.proofs.Nodes.{name-string, name-not}
+use Rattle.descr.proofs.Nodes.{name-judged, name-misfit}
 use borrow.Author.Needs.{needs}
 use Rattle.descr.proofs.inner.name_at.Statement.{statement}
 use Rattle.descr.proofs.inner.name_at.Tie as tie
@@ -33,14 +34,24 @@ named-requires c κs = search needs
 
 returns : tie.Need-returns
 returns c =
-    let s = c .before .before .before .before .before .before .args .text .now in
-    let at = c .before .before .before .before .before .before .args .at in
+    let a = c .before .before .before .before .before .before .args in
+    let s = a .text .now in
     let k = sym (c .before .before .before .before .string-at .ensures) ∙ c .before .before .before .if1 .taken in
-    let len = ap (λ (r : Scan). r .len) (c .before .scan-at .ensures) ∙ ap (λ (b : ℕ). length (spelled b s (at + 1) .bytes)) (getD-any s at 0 256 (string-in s at k)) in
-    ap gives (c .named .ensures ∙ ap nameTotals len) ∙ name-string s at k
+    let quote = getD-any s (a .at) 0 256 (string-in s (a .at) k) in
+    let end = ap (λ (r : Scan). r .ended) (c .before .scan-at .ensures) ∙ ap (λ (b : ℕ). spelled b s (a .at + 1) .ended) quote in
+    let len = ap (λ (r : Scan). r .len) (c .before .scan-at .ensures) ∙ ap (λ (b : ℕ). length (spelled b s (a .at + 1) .bytes)) quote in
+    name-judged (a .room) s (a .at) _ k end (ap gives (c .named .ensures ∙ ap nameTotals len))
+
+value-requires : tie.Need-value-requires
+value-requires c κs = search needs
+
+misfit-requires : tie.Need-misfit-requires
+misfit-requires c κs = search needs
 
 returns-2 : tie.Need-returns-2
-returns-2 c = name-not (c .before .before .before .args .text .now) (c .before .before .before .args .at) (sym (c .before .string-at .ensures) ∙ c .if1 .left)
+returns-2 c =
+    let a = c .before .before .before .before .before .args in
+    name-misfit (a .room) (a .text .now) (a .at) (c .misfit .result) (c .misfit .ensures .0 ∙ c .before .value .ensures) (ap verdict (c .misfit .ensures .1)) (sym (c .before .before .before .string-at .ensures) ∙ c .before .before .if1 .left)
 
 pub name-at-spec : {M : Type 1} → statement M
 name-at-spec =
@@ -52,4 +63,6 @@ name-at-spec =
     scan-at-requires
     named-requires
     returns
+    value-requires
+    misfit-requires
     returns-2)

@@ -24,7 +24,7 @@ returns c =
     let a = c .before .before .before .before .before .before .args in
     let hc = c .before .closing .ensures ∙ ap closingOf (c .before .before .kind-of .ensures ∙ ap kindOf (c .before .before .before .peek .ensures)) in
     let e = front-nothing (a .text .now) (a .at) (c .before .closing .result) hc (a .room) (c .if1 .taken) in
-    record { counted = ap length e; out-after = ap (sets (a .out .now) 0) e }
+    record { counted = ap length (e .0); stopped = e .1; out-after = ap (sets (a .out .now) 0) (e .0) }
 
 add-fill-members : tie.Need-add-fill-members
 add-fill-members c =
@@ -52,7 +52,7 @@ returns-2 c =
     let hc = c .before .before .before .before .before .closing .ensures ∙ ap closingOf (c .before .before .before .before .before .before .kind-of .ensures ∙ ap kindOf (c .before .before .before .before .before .before .before .peek .ensures)) in
     let b = front-some (a .text .now) (a .at) (c .before .before .before .before .before .closing .result) hc (a .room) (c .before .before .before .before .if1 .left) in
     let w = c .before .before .fill-members .ensures in
-    record { counted = w .counted ∙ ap length (b .2); out-after = w .out-after ∙ ap (sets (a .out .now) 0) (b .2) }
+    record { counted = w .counted ∙ ap length (b .2); stopped = w .stopped ∙ b .3; out-after = w .out-after ∙ ap (sets (a .out .now) 0) (b .2) }
 
 pub fill-spec : {M : Type 1} → statement M
 fill-spec =

@@ -9,7 +9,7 @@ use Rattle.emit.proofs.Pieces.{emits-length}
 use Rattle.dtype.specs.Dtype.{Fields}
 use Rattle.dtype.specs.Entries.{fieldCount}
 use Rattle.print.specs.Walk.{StandsIn}
-use Rattle.print.proofs.Listing.{under-record}
+use Rattle.depth.proofs.Listing.{under-innermost, under-record}
 use Rattle.print.proofs.Walking.{plain-walked, record-walked, under-room, under-walked, under-asks, Going, going-start, going-next, going-more, going-end}
 use Prim.Native.Nat.{ℕ, _<_}
 use borrow.Fn.Kinds.{In}
@@ -22,10 +22,10 @@ use Rattle.print.proofs.inner.put_fields.Kinds as put-fields-kinds
 use Rattle.print.proofs.inner.+put_descr+put_fields.Lts-put_fields as put-fields-lts
 use Rattle.emit.proofs.put.Reads as put-reads
 use Rattle.print.proofs.inner.close_field.Reads as close-field-reads
-use Rattle.print.proofs.inner.innermost.Reads as innermost-reads
+use Rattle.depth.proofs.innermost.Reads as innermost-reads
 use Rattle.print.proofs.inner.open_field.Reads as open-field-reads
 use Rattle.print.proofs.inner.put_type.Reads as put-type-reads
-use Rattle.table.proofs.entry_at.Reads as entry-at-reads
+use Rattle.entries.proofs.entry_at.Reads as entry-at-reads
 use Rattle.print.proofs.inner.+put_descr+put_fields.{statement}
 use Rattle.print.proofs.inner.+put_descr+put_fields.Tie.{close}
 
@@ -57,7 +57,7 @@ abbrev put-fields-told : ℕ → put-fields-lts.Claims
 put-fields-told t = (entry-at-reads.Asked, entry-at-reads.Learnt, open-field-reads.Asked, open-field-reads.Learnt, put-descr-below t, put-descr.Post, close-field-reads.Asked, close-field-reads.Learnt)
 
 put-descr-innermost-requires : (t : ℕ) → put-descr-lts.Need-innermost-requires (put-descr-told t) (put-descr-at t) put-descr.Post
-put-descr-innermost-requires t c κs = let x = c .before .before .before .pre .1 in (x .0, x .1 .listed)
+put-descr-innermost-requires t c κs = search needs
 
 put-descr-entry-at-requires : (t : ℕ) → put-descr-lts.Need-entry-at-requires (put-descr-told t) (put-descr-at t) put-descr.Post
 put-descr-entry-at-requires t c κs = search needs
@@ -66,24 +66,24 @@ put-descr-put-type-requires : (t : ℕ) → put-descr-lts.Need-put-type-requires
 put-descr-put-type-requires t c κs = search needs
 
 put-descr-add-t16 : (t : ℕ) → put-descr-lts.Need-add-t16 (put-descr-told t) (put-descr-at t) put-descr.Post
-put-descr-add-t16 t c = let x = c .before .before .before .before .before .before .before .before .before .before .before .pre .1 in omega (arith, under-room _ _ _ _ _ (c .before .before .before .before .before .before .before .innermost .ensures) (x .0) (x .1) .1)
+put-descr-add-t16 t c = let x = c .before .before .before .before .before .before .before .before .before .before .before .pre .1 in omega (arith, under-room _ _ _ _ _ (under-innermost _ _ _ (c .before .before .before .before .before .before .before .innermost .ensures)) (x .0) (x .1) .1)
 
 put-descr-same-length : (t : ℕ) → put-descr-lts.Need-same-length (put-descr-told t) (put-descr-at t) put-descr.Post
-put-descr-same-length t c = let x = c .before .before .before .before .before .before .before .before .before .before .before .pre .1 in emits-length _ _ _ _ _ (under-walked _ _ _ _ _ (c .before .before .before .before .before .before .before .innermost .ensures) _ _ _ _ (plain-walked _ _ _ _ _ (c .before .before .before .before .before .before .entry-at .ensures) (c .before .before .before .before .if1 .taken) _ _ _ _ (c .before .before .put-type .ensures)) (x .0) (x .1) .emits)
+put-descr-same-length t c = let x = c .before .before .before .before .before .before .before .before .before .before .before .pre .1 in emits-length _ _ _ _ _ (under-walked _ _ _ _ _ (under-innermost _ _ _ (c .before .before .before .before .before .before .before .innermost .ensures)) _ _ _ _ (plain-walked _ _ _ _ _ (c .before .before .before .before .before .before .entry-at .ensures) (c .before .before .before .before .if1 .taken) _ _ _ _ (c .before .before .put-type .ensures)) (x .0) (x .1) .emits)
 
 put-descr-returns : (t : ℕ) → put-descr-lts.Need-returns (put-descr-told t) (put-descr-at t) put-descr.Post
-put-descr-returns t c = under-walked _ _ _ _ _ (c .before .before .before .before .before .before .before .innermost .ensures) _ _ _ _ (plain-walked _ _ _ _ _ (c .before .before .before .before .before .before .entry-at .ensures) (c .before .before .before .before .if1 .taken) _ _ _ _ (c .before .before .put-type .ensures))
+put-descr-returns t c = under-walked _ _ _ _ _ (under-innermost _ _ _ (c .before .before .before .before .before .before .before .innermost .ensures)) _ _ _ _ (plain-walked _ _ _ _ _ (c .before .before .before .before .before .before .entry-at .ensures) (c .before .before .before .before .if1 .taken) _ _ _ _ (c .before .before .put-type .ensures))
 
 put-descr-put-requires : (t : ℕ) → put-descr-lts.Need-put-requires (put-descr-told t) (put-descr-at t) put-descr.Post
 put-descr-put-requires t c κs = search needs
 
 put-descr-add-put-fields : (t : ℕ) → put-descr-lts.Need-add-put-fields (put-descr-told t) (put-descr-at t) put-descr.Post
-put-descr-add-put-fields t c = let x = c .before .before .before .before .before .before .before .before .before .before .before .pre .1 in omega (arith, under-room _ _ _ _ _ (c .before .before .before .before .before .before .before .innermost .ensures) (x .0) (x .1) .1)
+put-descr-add-put-fields t c = let x = c .before .before .before .before .before .before .before .before .before .before .before .pre .1 in omega (arith, under-room _ _ _ _ _ (under-innermost _ _ _ (c .before .before .before .before .before .before .before .innermost .ensures)) (x .0) (x .1) .1)
 
 put-descr-put-fields-requires : (t : ℕ) → put-descr-lts.Need-put-fields-requires (put-descr-told t) (put-descr-at t) put-descr.Post
 put-descr-put-fields-requires t c κs =
     let x = c .before .before .before .before .before .before .before .before .before .before .before .before .pre .1 in
-    let under = c .before .before .before .before .before .before .before .before .innermost .ensures in
+    let under = under-innermost _ _ _ (c .before .before .before .before .before .before .before .before .innermost .ensures) in
     let r = under-room _ _ _ _ _ under (x .0) (x .1) in
     (omega (arith, r .0, r .1), under-asks _ _ _ _ _ under _ (c .before .before .before .before .before .before .before .entry-at .ensures) (c .before .before .before .before .before .if1 .left) x)
 
@@ -93,14 +93,14 @@ put-descr-put-requires-2 t c κs = search needs
 put-descr-same-length-2 : (t : ℕ) → put-descr-lts.Need-same-length-2 (put-descr-told t) (put-descr-at t) put-descr.Post
 put-descr-same-length-2 t c =
     let x = c .before .before .before .before .before .before .before .before .before .before .before .before .before .before .before .before .before .before .before .pre .1 in
-    let under = c .before .before .before .before .before .before .before .before .before .before .before .before .before .before .before .innermost .ensures in
+    let under = under-innermost _ _ _ (c .before .before .before .before .before .before .before .before .before .before .before .before .before .before .before .innermost .ensures) in
     let entry = c .before .before .before .before .before .before .before .before .before .before .before .before .before .before .entry-at .ensures in
     emits-length _ _ _ _ _ (under-walked _ _ _ _ _ under _ _ _ _ (record-walked _ _ _ _ _ entry (c .before .before .before .before .before .before .before .before .before .before .before .before .if1 .left) (under-record _ _ _ under _ entry (x .0) (x .1 .listed)) _ _ _ _ _ _ _ _ (c .before .before .before .before .before .before .before .before .before .before .put .ensures) (c .before .before .before .before .before .before .put-fields .ensures) (c .before .before .put2 .ensures)) (x .0) (x .1) .emits)
 
 put-descr-returns-2 : (t : ℕ) → put-descr-lts.Need-returns-2 (put-descr-told t) (put-descr-at t) put-descr.Post
 put-descr-returns-2 t c =
     let x = c .before .before .before .before .before .before .before .before .before .before .before .before .before .before .before .before .before .before .before .pre .1 in
-    let under = c .before .before .before .before .before .before .before .before .before .before .before .before .before .before .before .innermost .ensures in
+    let under = under-innermost _ _ _ (c .before .before .before .before .before .before .before .before .before .before .before .before .before .before .before .innermost .ensures) in
     let entry = c .before .before .before .before .before .before .before .before .before .before .before .before .before .before .entry-at .ensures in
     under-walked _ _ _ _ _ under _ _ _ _ (record-walked _ _ _ _ _ entry (c .before .before .before .before .before .before .before .before .before .before .before .before .if1 .left) (under-record _ _ _ under _ entry (x .0) (x .1 .listed)) _ _ _ _ _ _ _ _ (c .before .before .before .before .before .before .before .before .before .before .put .ensures) (c .before .before .before .before .before .before .put-fields .ensures) (c .before .before .put2 .ensures))
 

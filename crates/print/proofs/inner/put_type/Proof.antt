@@ -1,7 +1,7 @@
 -- `print::inner::put_type` meets its contract: the type between two quotes, as none of its bytes is escaped. Assumes nothing.
 use mathlib.Core.Path.{_∙_}
 use Rattle.counts.proofs.OneOutcome.{told}
-use Rattle.table.specs.Answer.{typeAnswer}
+use Rattle.entries.specs.Answer.{typeAnswer}
 use Rattle.quote.proofs.Quoted.{between}
 use Rattle.print.proofs.Types.{type-quoted, no-type}
 use borrow.Author.Needs.{needs}

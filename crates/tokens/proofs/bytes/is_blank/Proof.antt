@@ -1,12 +1,20 @@
--- The definition's four comparisons. Assumes nothing.
+-- Above the space the definition's four comparisons fail. Assumes nothing.
 use mathlib.Core.Path.{refl}
+use native.Mathlib.Omega.{arith}
+use borrow.Author.Tests.{ne-eqb}
 use Rattle.grammar.specs.Bytes.{isBlank}
 use Rattle.tokens.proofs.bytes.is_blank.Statement.{statement}
 use Rattle.tokens.proofs.bytes.is_blank.Tie as tie
 
 returns : tie.Need-returns
 unfolding isBlank
-returns c = refl
+returns c =
+    let b = c .before .args .b in
+    rw (isBlank, ne-eqb b 32 (λ e. omega arith), ne-eqb b 9 (λ e. omega arith), ne-eqb b 10 (λ e. omega arith), ne-eqb b 13 (λ e. omega arith))
+
+returns-2 : tie.Need-returns-2
+unfolding isBlank
+returns-2 c = refl
 
 pub is-blank-spec : {M : Type 1} → statement M
-is-blank-spec = tie.close (tie.spec returns)
+is-blank-spec = tie.close (tie.spec returns returns-2)

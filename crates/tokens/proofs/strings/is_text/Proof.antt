@@ -38,7 +38,7 @@ returns c =
     let i = c .before .before .loop .i in
     let w = c .before .before .loop .inv in
     let e = along-stop q s from at (w .0) (w .1) _ (w .2) (sym (c .before .piece-at .ensures)) (c .match .keys2) in
-    match-end (w .0) key i (w .4) (w .3) ∙ sym (ap (λ (l : List ℕ). same l key) e)
+    match-end (w .0) key i (w .4) (w .3) ∙ sym (ap (λ (r : Spelled). same (r .bytes) key) e)
 
 returns-2 : tie.Need-returns-2 Inv-loop μ-loop
 returns-2 c =

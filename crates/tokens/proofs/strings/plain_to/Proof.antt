@@ -1,14 +1,11 @@
 -- The invariant: the run from `from` on ends where the run from `at` on ends. Assumes nothing.
 use Prim.Native.Nat.{_-_}
-use mathlib.Core.Path.{_≡_, refl, sym, ap, _∙_}
-use mathlib.Core.Bool.{true, false}
-use native.Mathlib.Omega.{arith}
+use mathlib.Core.Path.{_≡_, refl}
 use lib.ListN.{length}
-use Rattle.tokens.specs.Text.{byteAt, past}
+use Rattle.tokens.specs.Text.{past}
 use Rattle.tokens.specs.Strings.{isPlain}
 use borrow.Author.Needs.{needs}
-use borrow.Author.Tests.{not-true, not-false}
-use Rattle.tokens.proofs.Positions.{getD-any, past-stop, past-end, past-more}
+use Rattle.tokens.proofs.Positions.{run-stops, run-goes-on, run-over}
 use Rattle.tokens.proofs.strings.plain_to.Statement.{statement}
 use Rattle.tokens.proofs.strings.plain_to.Tie as tie
 
@@ -28,12 +25,7 @@ is-plain-requires : tie.Need-is-plain-requires Inv-loop μ-loop
 is-plain-requires c κs = search needs
 
 returns : tie.Need-returns Inv-loop μ-loop
-returns c =
-    let q = c .before .before .before .before .before .before .args .quote in
-    let s = c .before .before .before .before .before .before .args .text .now in
-    let at = c .before .before .before .before .loop .at in
-    let h : isPlain q (byteAt s at) ≡ false = ap (isPlain q) (sym (getD-any s at 0 256 (c .before .before .before .loop-test .taken))) ∙ sym (c .before .is-plain .ensures) ∙ not-true _ (c .if1 .taken) in
-    sym (c .before .before .before .before .loop .inv ∙ past-stop (isPlain q) s at h)
+returns c = run-stops (isPlain (c .before .before .before .before .before .before .args .quote)) _ _ (c .before .before .before .before .loop .at) (c .before .before .before .before .loop .inv) (c .before .before .before .loop-test .taken) _ (c .before .is-plain .ensures) (c .if1 .taken)
 
 add-at : tie.Need-add-at Inv-loop μ-loop
 add-at c = search needs
@@ -42,15 +34,10 @@ loop-less : tie.Need-loop-less Inv-loop μ-loop
 loop-less c = search needs
 
 loop-again : tie.Need-loop-again Inv-loop μ-loop
-loop-again c =
-    let q = c .before .before .before .before .before .before .args .quote in
-    let s = c .before .before .before .before .before .before .args .text .now in
-    let at = c .before .before .before .before .loop .at in
-    let h : isPlain q (byteAt s at) ≡ true = ap (isPlain q) (sym (getD-any s at 0 256 (c .before .before .before .loop-test .taken))) ∙ sym (c .before .is-plain .ensures) ∙ not-false _ (c .if1 .left) in
-    c .before .before .before .before .loop .inv ∙ past-more (isPlain q) s at (c .before .before .before .loop-test .taken) h
+loop-again c = run-goes-on (isPlain (c .before .before .before .before .before .before .args .quote)) _ _ (c .before .before .before .before .loop .at) (c .before .before .before .before .loop .inv) (c .before .before .before .loop-test .taken) _ (c .before .is-plain .ensures) (c .if1 .left)
 
 returns-2 : tie.Need-returns-2 Inv-loop μ-loop
-returns-2 c = sym (c .before .loop .inv ∙ past-end (isPlain (c .before .before .before .args .quote)) (c .before .before .before .args .text .now) (c .before .loop .at) (c .loop-test .left))
+returns-2 c = run-over (isPlain (c .before .before .before .args .quote)) _ _ (c .before .loop .at) (c .before .loop .inv) (c .loop-test .left)
 
 pub plain-to-spec : {M : Type 1} → statement M
 plain-to-spec =

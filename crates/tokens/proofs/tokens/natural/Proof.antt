@@ -4,11 +4,10 @@ use mathlib.Core.Path.{_≡_, sym, ap, _∙_}
 use native.Mathlib.Omega.{arith}
 use mathlib.Core.Bool.{true}
 use lib.Dec.{lit<}
-use Rattle.tokens.proofs.Positions.{byte-in, class-in}
+use Rattle.tokens.proofs.Positions.{byte-in, digit-in}
 use Rattle.decimal.specs.Decimal.{isDigit}
 use Rattle.tokens.specs.Text.{byteAt}
 use Rattle.tokens.specs.Tokens.{naturalAt}
-use Rattle.tokens.specs.declared.bytes.Class.the-variants.{Digits}
 use borrow.Author.Needs.{needs}
 use Rattle.tokens.proofs.tokens.natural.Statement.{statement}
 use Rattle.tokens.proofs.tokens.natural.Tie as tie
@@ -31,7 +30,7 @@ is-digit-requires c κs = search needs
 add-digits : tie.Need-add-digits
 add-digits c =
     let h : isDigit (byteAt (c .before .before .before .before .before .args .text .now) (c .before .before .before .before .before .args .at)) ≡ true = sym (c .before .is-digit .ensures ∙ ap isDigit (c .before .before .before .peek .ensures)) ∙ c .if2 .taken in
-    let lt = class-in Digits (c .before .before .before .before .before .args .text .now) (c .before .before .before .before .before .args .at) h in
+    let lt = digit-in (c .before .before .before .before .before .args .text .now) (c .before .before .before .before .before .args .at) h in
     omega arith
 
 digits-requires : tie.Need-digits-requires

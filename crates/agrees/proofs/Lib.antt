@@ -1,0 +1,5 @@
+pub mod Tests
+pub mod Plain
+pub mod Fields
+pub mod Sound
+pub mod Outcomes

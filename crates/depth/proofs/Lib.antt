@@ -1,0 +1,4 @@
+pub mod Listing
+pub mod Nesting
+pub mod Views
+pub mod Outcomes

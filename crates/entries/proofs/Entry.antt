@@ -1,0 +1,16 @@
+-- An entry is its nine numbers, and past its end a table has none. Assumes nothing.
+use Prim.Native.Nat.{ℕ, _+_, _≤_}
+use mathlib.Core.Path.{_≡_, sym}
+use mathlib.Core.List.{List}
+use lib.ListN.{length, getD, drop, List·getD-eq-default}
+use lib.Seq.{getD-drop}
+use Rattle.dtype.specs.declared.Entry.{Entry}
+
+-- past its end a table has no number
+pub past-end : (t : List ℕ) (n k : ℕ) → length t ≤ n + k → 0 ≡ getD (drop n t) k 0
+past-end t n k h = rw (getD-drop n t k 0) (sym (List·getD-eq-default t 0 {n = n + k} h))
+
+-- an entry is its nine numbers
+pub entry-of : (y : Entry) {a b c d e f g h i : ℕ} → a ≡ y .parent → b ≡ y .kind → c ≡ y .order → d ≡ y .letter → e ≡ y .number → f ≡ y .units → g ≡ y .extent → h ≡ y .bytes → i ≡ y .name
+    → _≡_ {A = Entry} (record { parent = a; kind = b; order = c; letter = d; number = e; units = f; extent = g; bytes = h; name = i }) y
+entry-of y a b c d e f g h i = rw (a, b, c, d, e, f, g, h, i)

@@ -1,0 +1,4 @@
+pub mod Types
+pub mod Entry
+pub mod Walks
+pub mod Outcomes

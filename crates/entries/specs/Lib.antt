@@ -1,0 +1,2 @@
+pub mod EntryType
+pub mod Answer

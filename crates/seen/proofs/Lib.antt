@@ -1,0 +1,3 @@
+pub mod Levels
+pub mod Over
+pub mod Outcomes

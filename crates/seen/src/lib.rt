@@ -1,0 +1,73 @@
+// What a walk over a caller's table shows of 13 and 21 (document 01, "The refusal numbers"), whatever the table is: array levels, objects, and sizes over
+// 2^64-1. No public function here has a `requires`.
+use counts::ByteCount;
+use counts::Points;
+ghost use mathlib.Core.Path.{_≡_};
+ghost use mathlib.Core.Bool.{cond};
+ghost use Prim.Native.Nat.{suc, _-_, _≤_};
+ghost use lib.Dec.{eqb, ltb};
+ghost use Rattle.dtype.specs.PlainBytes.{bytesOf};
+ghost use Rattle.dtype.specs.Limits.{over};
+ghost use Rattle.dtype.specs.Seen.{someFrom, objectAt, arraysFrom};
+ghost use Rattle.seen.specs.Over.{isOver};
+
+// Whether more than 32 array levels stand one in the other.
+pub fn too_deep(table: &[u64], n: usize) -> bool
+    ensures { λ r. ⌜ r ≡ someFrom (λ e. ltb 32 (arraysFrom (now (table .entry)) (n - e) e)) n 0 ⌝ }
+{
+    let mut levels: u64 = 0;
+    let mut e = n;
+    while 0 < e {
+        e -= 1;
+        let entry = entries::entry_at(table, e);
+        levels = level(entry.kind, levels);
+        if 32 < levels {
+            return true;
+        }
+    }
+    false
+}
+
+// How many array levels begin at an entry of this kind, the next one beginning so many.
+fn level(kind: u64, inner: u64) -> u64
+    requires { ⌜ inner ≤ 32 ⌝ }
+    ensures { λ r. ⌜ r ≡ cond (eqb kind 1) (suc inner) 0 ⌝ }
+{
+    if kind == dtype::ARRAY { inner + 1 } else { 0 }
+}
+
+// Whether some entry is an object.
+pub fn has_object(table: &[u64], n: usize) -> bool
+    ensures { λ r. ⌜ r ≡ someFrom (objectAt (now (table .entry))) n 0 ⌝ }
+{
+    let mut e: usize = 0;
+    while e < n {
+        let entry = entries::entry_at(table, e);
+        if entry.letter == 79 {
+            return true;
+        }
+        e += 1;
+    }
+    false
+}
+
+// Whether a plain type has more than 2^64-1 bytes: four a code point for `U`, and none for `O`.
+pub fn plain_over(letter: u64, size: u64) -> bool
+    ensures { λ r. ⌜ r ≡ over (bytesOf letter size) ⌝ }
+{
+    if letter == 85 {
+        let points = Points(size);
+        return is_over(points.in_bytes());
+    }
+    false
+}
+
+// Whether a number of bytes is over 2^64-1.
+pub fn is_over(n: ByteCount) -> bool
+    ensures { λ r. ⌜ r ≡ isOver n ⌝ }
+{
+    match n {
+        ByteCount::Is(n) => false,
+        ByteCount::Over => true,
+    }
+}

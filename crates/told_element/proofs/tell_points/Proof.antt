@@ -1,0 +1,37 @@
+-- Case by case. Assumes nothing.
+use mathlib.Core.Path.{refl}
+use Rattle.slice.specs.Answer.{pointsAnswer}
+use Rattle.codes.specs.Codes.{alone}
+use Rattle.codes.proofs.Told.{gives-told}
+use borrow.Author.Needs.{needs}
+use Rattle.told_element.proofs.tell_points.Statement.{statement}
+use Rattle.told_element.proofs.tell_points.Tie as tie
+
+enum-known-a : tie.Need-enum-known-a
+enum-known-a c = search needs
+
+enum-told : tie.Need-enum-told
+enum-told c = search needs
+
+enum-told-2 : tie.Need-enum-told-2
+enum-told-2 c = search needs
+
+enum-told-3 : tie.Need-enum-told-3
+enum-told-3 c = search needs
+
+returns : tie.Need-returns
+returns c = gives-told alone pointsAnswer (c .before .before .a .given .1) refl refl
+
+returns-2 : tie.Need-returns-2
+returns-2 c = search needs
+
+returns-3 : tie.Need-returns-3
+returns-3 c = search needs
+
+returns-4 : tie.Need-returns-4
+returns-4 c = search needs
+
+pub tell-points-spec : {M : Type 1} → statement M
+tell-points-spec =
+    tie.close
+    (tie.spec enum-known-a enum-told enum-told-2 enum-told-3 returns returns-2 returns-3 returns-4)

@@ -1,0 +1,4 @@
+pub mod Typed
+pub mod Naming
+pub mod Passes
+pub mod Outcomes
