@@ -1,5 +1,5 @@
 -- Document 01, "The refusal numbers": "Places: the given record's 27, 13, 20, 21, 22". A caller's record is a table, names, a shape and an order. Their
--- dtype, or 27, is `readDtype` of the crate agrees, and 13, 20, 21, 22 are `limited` of the crate dtype. Definitions only. Assumes nothing.
+-- dtype, or 27, is `readDtype` of the crate whole, and 13, 20, 21, 22 are `limited` of the crate dtype. Definitions only. Assumes nothing.
 use Prim.Native.Nat.{ℕ}
 use mathlib.Core.List.{List}
 use Rattle.counts.specs.Outcome.{Outcome, then}
