@@ -20,12 +20,6 @@ valueOr n (got v e) = gives (forget v)
 valueOr n (fault p) = refused n
 valueOr n (deep p) = refused n
 
--- the position behind the value, or `at`
-abbrev pub endOr : ℕ → Got Node → ℕ
-endOr at (got v e) = e
-endOr at (fault p) = at
-endOr at (deep p) = at
-
 -- the dimensions of what was read
 abbrev pub dimensionsAt : Got Node → Outcome (List ℕ)
 dimensionsAt g = then (valueOr 11 g) subShape

@@ -7,7 +7,7 @@ use Rattle.report.proofs.held.Statement.{statement}
 use Rattle.report.proofs.held.Tie as tie
 
 slice-aggregate-result : tie.Need-slice-aggregate-result
-slice-aggregate-result c = sym (length-take-le 65536 (c .before .before .args .file .now) (omega (arith, c .before .if1 .taken)))
+slice-aggregate-result c = sym (length-take-le _ (c .before .before .args .file .now) (omega (arith, c .before .if1 .taken)))
 
 returns : tie.Need-returns
 returns c = search needs
