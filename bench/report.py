@@ -81,13 +81,19 @@ def machine():
     return f'{model}, {os.cpu_count()} processors, {platform.machine()}, {platform.system()} {platform.release()}'
 
 
+def flags():
+    """How both were compiled."""
+    with open(os.path.join(os.path.dirname(os.path.abspath(__file__)), 'flags')) as f:
+        return f.read().strip()
+
+
 def page(found, names, judged, kept):
     ours, numpy, npyz = found['ours'], found['numpy'], found['npyz']
     tool = {what: found['tool'][what]['library'] for what in found['tool']}
     when = datetime.datetime.now(datetime.timezone.utc).strftime('%Y-%m-%d')
     yield f'''# Benchmarks
 
-Written by `bench/run` on {when}, all in one run on one machine: {machine()}. The proved library and the C reader are compiled by clang {tool['clang']} at -O3 for any processor of that kind; npyz 0.9.1 by
+Written by `bench/run` on {when}, all in one run on one machine: {machine()}. The proved library and the C reader are compiled by clang {tool['clang']} with `bench/flags` (`{flags()}`) for any processor of that kind (`rt staticlib` has flags of its own, and its archive was not measured); npyz 0.9.1 by
 rustc {tool['rustc']} in its release profile; NumPy is {tool['numpy']} on Python {tool['python']}.
 
 A number is the median of 41 samples of some 2 ms (NumPy: 21), in time of the thread itself on the processor. Ours and the C reader are called in turns in one process, and their ratio is the median of the pairs' ratios; so it is for a text and the one of twice its length.

@@ -8,9 +8,9 @@ use lib.ListN.{length, drop}
 use lib.Seq.{drop-append-seam}
 use Rattle.counts.specs.Outcome.{Outcome, gives, refused, then, each}
 use Rattle.emit.specs.Placed as emit
-use Rattle.utf8.specs.Scalar.{isScalar}
-use Rattle.utf8.specs.Utf8.{encode}
-use Rattle.utf8.specs.Answer as utf8
+use Rattle.scalar.specs.Scalar.{isScalar}
+use Rattle.scalar.specs.Encode.{encode}
+use Rattle.scalar.specs.Answer as scalar
 use Rattle.type_str.specs.declared.TypeStr.{TypeStr}
 use Rattle.type_str.specs.Text.{isType, typeText, typePrinted, typePlaced}
 use Rattle.dtype.specs.declared.Order.{Order}
@@ -37,7 +37,7 @@ use Rattle.lines.specs.Listing.{listing}
 use Rattle.listing.specs.Answer as lists
 use Rattle.strings.specs.Rooms.{after, Owes}
 use Rattle.claims.specs.Beyond.{Same-rest, Rest-unchanged}
-use Rattle.report.proofs.Rooms.{table-whole, names-whole}
+use Rattle.rooms.proofs.Rooms.{table-whole, names-whole}
 use Rattle.claims.proofs.RoundTrips.{wrote-length}
 
 -- behind what stands at the front
@@ -110,15 +110,15 @@ header-placed-rest t ns s o room n e = go (checkedRecord t ns s o) e
     go (gives r) f = ap (λ (x : Outcome ℕ). drop n (placed x r room)) f ∙ behind n (fileOf r) room (wrote-length r room n f)
     go (refused k) f = gives-refused f
 
-encoding-length : (c room : ℕ) → Holds (λ n. n ≡ length (encode c)) (utf8.encoding c room)
-unfolding utf8.encoding
+encoding-length : (c room : ℕ) → Holds (λ n. n ≡ length (encode c)) (scalar.encoding c room)
+unfolding scalar.encoding
 encoding-length c room =
     unless-holds (λ n. n ≡ length (encode c)) (not (isScalar c)) 29 _
     (λ a. unless-holds (λ n. n ≡ length (encode c)) (ltb room (length (encode c))) 28 (gives (length (encode c))) (λ b. refl))
 
-encoded-rest : (c : ℕ) (room : List ℕ) (n : ℕ) → utf8.encoding c (length room) ≡ gives n → drop n (utf8.after (utf8.encoding c (length room)) c room) ≡ drop n room
+encoded-rest : (c : ℕ) (room : List ℕ) (n : ℕ) → scalar.encoding c (length room) ≡ gives n → drop n (scalar.after (scalar.encoding c (length room)) c room) ≡ drop n room
 encoded-rest c room n e =
-    ap (λ (x : Outcome ℕ). drop n (utf8.after x c room)) e ∙ behind n (encode c) room (held (λ k. k ≡ length (encode c)) e (encoding-length c (length room)))
+    ap (λ (x : Outcome ℕ). drop n (scalar.after x c room)) e ∙ behind n (encode c) room (held (λ k. k ≡ length (encode c)) e (encoding-length c (length room)))
 
 pub strides-rest : (o : Order) (s out : List ℕ) (n : ℕ) (c : Outcome ℕ) → c ≡ gives n → drop (length s) (strides.left c (shape.strides o s) out) ≡ drop (length s) out
 strides-rest o s out n (gives k) e = behind-front (length s) (shape.strides o s) out (sym (strides-length o s))

@@ -27,8 +27,8 @@ use Rattle.judge.proofs.Top.{reading-keeps}
 use Rattle.header.specs.declared.Header.{Header}
 use Rattle.header.specs.Answer.{lent, saidOf, Told, told}
 use Rattle.claims.specs.Accepted.{Some-file, Printable, Accepts-exactly}
-use Rattle.report.proofs.Accepted.{valid-sound}
-use Rattle.report.proofs.Rooms.{read-found, stands-by}
+use Rattle.rooms.proofs.Accepted.{valid-sound}
+use Rattle.rooms.proofs.Rooms.{read-found, stands-by}
 use Rattle.claims.proofs.Roomy.{roomy-fits}
 use Rattle.claims.proofs.Places.{found-accepted}
 

@@ -10,7 +10,7 @@ use lib.ListN.{length, getD, take, drop}
 use Rattle.counts.specs.Outcome.{Outcome, gives, refused, then, each, unless}
 use Rattle.counts.specs.Same.{same}
 use Rattle.emit.specs.Placed.{written}
-use Rattle.utf8.specs.Scalar.{isScalar}
+use Rattle.scalar.specs.Scalar.{isScalar}
 use Rattle.utf8.specs.Decode.{unlessIll, firstIll, utf8}
 use Rattle.decimal.specs.Decimal.{digitsOf, afterDigits, decimal}
 use Rattle.spelling.specs.Spelling.{firstOf, orders, orderByte, orderOf, letters, letterByte, letterOf}

@@ -13,10 +13,10 @@ use Rattle.judge.specs.Judged.{reading}
 use Rattle.judge.proofs.Top.{reading-keeps}
 use Rattle.fill.specs.declared.Said.{Said}
 use Rattle.header.specs.declared.Header.{Header}
-use Rattle.report.specs.Rooms.{tableIn, namesIn, shapeIn}
+use Rattle.rooms.specs.Rooms.{tableIn, namesIn, shapeIn}
 use Rattle.claims.specs.Places.{Data-owned}
-use Rattle.report.proofs.Accepted.{read-checked}
-use Rattle.report.proofs.Rooms.{Found, read-found, checked-fronts}
+use Rattle.rooms.proofs.Accepted.{read-checked}
+use Rattle.rooms.proofs.Rooms.{Found, read-found, checked-fronts}
 
 pub found-accepted : (file : List ℕ) (l : Lent) (h : Header) (l′ : Lent) (f : Found file l h l′)
     → checkedRecord (tableIn (h .said) l′) (namesIn (h .said) l′) (shapeIn (h .said) l′) (h .said .order) ≡ gives (f .header-is .says)

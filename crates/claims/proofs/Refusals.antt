@@ -8,7 +8,7 @@ use lib.Dec.{leb}
 use lib.ListN.{length}
 use Rattle.counts.specs.Outcome.{Outcome, gives, refused, then, each}
 use Rattle.emit.specs.Placed as emit
-use Rattle.utf8.specs.Answer as utf8
+use Rattle.scalar.specs.Answer as scalar
 use Rattle.type_str.specs.declared.TypeStr.{TypeStr}
 use Rattle.type_str.specs.Text.{isType, typeText, typePrinted, typePlaced}
 use Rattle.dtype.specs.declared.Order.{Order}
@@ -78,7 +78,7 @@ pub strides-left : (new old : List ℕ) (k : ℕ) (o : Outcome ℕ) → o ≡ re
 strides-left new old k (gives n) e = gives-refused (sym e)
 strides-left new old k (refused n) e = refl
 
-encoded-left : (value : ℕ) (room : List ℕ) (k : ℕ) (o : Outcome ℕ) → o ≡ refused k → utf8.after o value room ≡ room
+encoded-left : (value : ℕ) (room : List ℕ) (k : ℕ) (o : Outcome ℕ) → o ≡ refused k → scalar.after o value room ≡ room
 encoded-left value room k (gives n) e = gives-refused (sym e)
 encoded-left value room k (refused n) e = refl
 
@@ -100,5 +100,5 @@ unchanged =
       points-at = λ file place room y room′ k h e. owed _ room _ room′ k h e;
       print = λ t room x room′ k h e. h .room-after ∙ typed-left t room k (sym (h .answered) ∙ e);
       strides = λ o s out x out′ k h e. h .out-after ∙ strides-left (shape.strides o s) out k (strides.stridesCount o s (length out)) (sym (h .answered) ∙ e);
-      encode = λ value room x room′ k h e. h .room-after ∙ encoded-left value room k (utf8.encoding value (length room)) (sym (h .answered) ∙ e);
+      encode = λ value room x room′ k h e. h .room-after ∙ encoded-left value room k (scalar.encoding value (length room)) (sym (h .answered) ∙ e);
     }

@@ -12,7 +12,7 @@ use Rattle.dtype.specs.Names.{nameBytes}
 use Rattle.dtype.specs.Record.{Record, table, names}
 use Rattle.dtype.proofs.Seen.{or-left, or-right}
 use Rattle.record.specs.Rooms.{needs, tooSmall, Lent, roomsOf}
-use Rattle.report.proofs.Rooms.{table-whole, names-whole}
+use Rattle.rooms.proofs.Rooms.{table-whole, names-whole}
 use Rattle.claims.specs.Roomy.{Roomy}
 
 pub roomy-fits : (r : Record) (l : Lent) → Roomy (table (r .dtype)) (names (r .dtype)) (r .shape) l → tooSmall (roomsOf l) (needs r) ≡ false

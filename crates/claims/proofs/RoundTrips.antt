@@ -38,10 +38,10 @@ use Rattle.write.specs.declared.Written.{Written}
 use Rattle.write.specs.Answer as written
 use Rattle.write.specs.Writes.{headerWritten, roomOf, headerPlaced, Writes}
 use Rattle.write.proofs.Outcomes.{write-header-one}
-use Rattle.report.specs.Rooms.{tableIn, namesIn, shapeIn}
+use Rattle.rooms.specs.Rooms.{tableIn, namesIn, shapeIn}
 use Rattle.claims.specs.RoundTrips.{Gives, Comes-back, Written-read, Read-written}
-use Rattle.report.proofs.Accepted.{valid-sound}
-use Rattle.report.proofs.Rooms.{stands-by, read-found}
+use Rattle.rooms.proofs.Accepted.{valid-sound}
+use Rattle.rooms.proofs.Rooms.{stands-by, read-found}
 use Rattle.claims.proofs.Roomy.{roomy-fits, fits-roomy}
 use Rattle.claims.proofs.Places.{found-accepted}
 

@@ -18,7 +18,7 @@ use Rattle.table.specs.Checked.{checkedRecord}
 use Rattle.header.specs.declared.Header.{Header}
 use Rattle.header.specs.declared.HeaderRead.{HeaderRead}
 use Rattle.header.specs.Answer.{Reads}
-use Rattle.report.specs.Rooms.{Stands}
+use Rattle.rooms.specs.Rooms.{Stands}
 
 -- some file is read as this record
 pub record Some-file (t ns s : List ℕ) (o : Order) : Type 0 where

@@ -7,7 +7,7 @@ use mathlib.Core.Bool.{Bool}
 use mathlib.Core.List.{List}
 use lib.ListN.{length, drop}
 use Rattle.counts.specs.Outcome.{Outcome, gives, then}
-use Rattle.utf8.specs.Answer.{encoded, Encodes}
+use Rattle.scalar.specs.Answer.{encoded, Encodes}
 use Rattle.type_str.specs.declared.TypeStr.{TypeStr}
 use Rattle.type_print.specs.Printed.{printAnswer, Prints}
 use Rattle.dtype.specs.declared.Order.{Order}
@@ -66,7 +66,7 @@ pub record Rest-unchanged : Type 0 where
       → Spares element.bytesAnswer (λ r. Owes (then (answer place) (λ u. readBytes (u .kind) (bytesOf file u) room)) room (element.bytesAnswer r)) room
   pub points-at : (file : List ℕ) (place : Placed) (room : List ℕ)
       → Spares element.pointsAnswer (λ r. Owes (then (answer place) (λ u. readPoints (u .kind) (bytesOf file u) room)) room (element.pointsAnswer r)) room
-  -- `type_print::print`, `utf8::encode`
+  -- `type_print::print`, `scalar::encode`
   pub print : (t : TypeStr) (room : List ℕ) → Spares printAnswer (Prints t room) room
   pub encode : (value : ℕ) (room : List ℕ) → Spares encoded (Encodes value room) room
   -- `shape::strides`, whose answer is the item count: it needs a number for each dimension

@@ -16,7 +16,7 @@ use Rattle.places.specs.Demand.{Demand-3}
 use Rattle.header.specs.declared.Header.{Header}
 use Rattle.header.specs.declared.HeaderRead.{HeaderRead}
 use Rattle.header.specs.Answer.{Reads}
-use Rattle.report.specs.Rooms.{tableIn, namesIn, shapeIn, Stands}
+use Rattle.rooms.specs.Rooms.{tableIn, namesIn, shapeIn, Stands}
 
 -- of a header that was read, and the rooms then: the record, which the check accepts, and its data area
 pub record Owned (file : List ℕ) (h : Header) (l′ : Lent) : Type 0 where

@@ -6,7 +6,7 @@ use mathlib.Core.Path.{_≡_}
 use mathlib.Core.Bool.{Bool}
 use mathlib.Core.List.{List}
 use Rattle.counts.specs.Outcome.{Outcome, refused, then}
-use Rattle.utf8.specs.Answer.{encoded, Encodes}
+use Rattle.scalar.specs.Answer.{encoded, Encodes}
 use Rattle.type_str.specs.declared.TypeStr.{TypeStr}
 use Rattle.type_print.specs.Printed.{printAnswer, Prints}
 use Rattle.dtype.specs.declared.Order.{Order}
@@ -53,7 +53,7 @@ pub record Unchanged : Type 0 where
       → Leaves element.bytesAnswer (λ r. Owes (then (answer place) (λ u. readBytes (u .kind) (bytesOf file u) room)) room (element.bytesAnswer r)) room
   pub points-at : (file : List ℕ) (place : Placed) (room : List ℕ)
       → Leaves element.pointsAnswer (λ r. Owes (then (answer place) (λ u. readPoints (u .kind) (bytesOf file u) room)) room (element.pointsAnswer r)) room
-  -- `type_print::print`, `shape::strides`, `utf8::encode`
+  -- `type_print::print`, `shape::strides`, `scalar::encode`
   pub print : (t : TypeStr) (room : List ℕ) → Leaves printAnswer (Prints t room) room
   pub strides : (o : Order) (s out : List ℕ) → Leaves wrote (strides.Writes o s out) out
   pub encode : (value : ℕ) (room : List ℕ) → Leaves encoded (Encodes value room) room

@@ -16,7 +16,7 @@ use Rattle.header.specs.declared.HeaderRead.{HeaderRead}
 use Rattle.header.specs.Answer.{Reads}
 use Rattle.write.specs.declared.Written.{Written}
 use Rattle.write.specs.Writes.{Writes}
-use Rattle.report.specs.Rooms.{tableIn, namesIn, shapeIn, Stands}
+use Rattle.rooms.specs.Rooms.{tableIn, namesIn, shapeIn, Stands}
 use Rattle.claims.specs.Roomy.{Roomy}
 
 -- a header was read: this record, and where the data starts

@@ -1,3 +1,4 @@
 pub mod Told
 mod Given
+pub mod Named
 pub mod Outcomes

@@ -6,7 +6,6 @@ use mathlib.Core.List.{List}
 use Rattle.counts.specs.Outcome.{Outcome, gives, refused}
 use Rattle.counts.specs.OneOutcome.{OneOutcome}
 use Rattle.counts.proofs.OneOutcome.{by-answer}
-use Rattle.dtype.specs.declared.Order.{Order}
 use Rattle.record.specs.Version as version
 use Rattle.prefix.specs.declared.Version.{Version}
 use Rattle.prefix.specs.Answer.{versionIs}

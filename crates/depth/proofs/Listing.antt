@@ -15,7 +15,7 @@ use Rattle.dtype.proofs.Digits.{lt-or-ge}
 use Rattle.dtype.proofs.Flat.{some-entry, flat-length}
 use Rattle.dtype.proofs.Stands.{stands-entry, stands-below, stands-after}
 use Rattle.record.specs.Layout.{descrLayout}
-use Rattle.entries.proofs.Entry.{past-end}
+use Rattle.entries.proofs.Entry.{level-inside}
 use Rattle.depth.specs.Listed.{Listed, ListedIn, innermostOf, Innermost, Under}
 
 pub next-entry : (e : ℕ) → suc e ≡ e + 1
@@ -50,18 +50,13 @@ pub record Passed (t : List ℕ) (e c kind : ℕ) : Type 0 where
   pub levelled : (i : ℕ) → e ≤ i → i < c → entryAt t i .kind ≡ 1
   pub kind-is : kind ≡ entryAt t c .kind
 
--- behind its end a table has no array level
-level-inside : (t : List ℕ) (c : ℕ) → length t ≤ c → 1 ≡ entryAt t c .kind → ⊥
-level-inside t c h k = omega (arith, past-end t (entry-width * c) 1 (omega arith))
-
 module _ (t : List ℕ) (e : ℕ) where
   pub passed-start : (x : Entry) → x ≡ entryAt t e → Passed t e e (x .kind)
   passed-start x q = record { further = omega arith; levelled = λ i l u. absurd (omega arith); kind-is = ap (λ (a : Entry). a .kind) q }
 
   module _ (c kind : ℕ) (g : Passed t e c kind) where
     pub passed-room : kind ≡ 1 → c < length t
-    passed-room k =
-        ⊎-elim (λ (h : c < length t). h) (λ (h : length t ≤ c). absurd (level-inside t c h (sym k ∙ g .kind-is))) (lt-or-ge c (length t))
+    passed-room k = level-inside t c (sym (g .kind-is) ∙ k)
 
     pub passed-more : kind ≡ 1 → (y : Entry) → y ≡ entryAt t (c + 1) → Passed t e (c + 1) (y .kind)
     passed-more k y q =
@@ -85,7 +80,7 @@ module _ (t : List ℕ) (e r : ℕ) (u : Under t e r) where
   under-some k =
       ⊎-elim (λ (h : e < r). h) (λ (h : r ≤ e). let z : r ≡ e = omega (arith, u .further) in absurd (u .no-level (rw z k))) (lt-or-ge e r)
 
-kind-at : (t : List ℕ) (e : ℕ) (d : Dtype) (l : Listed t e d) → entryAt t e .kind ≡ kindOf d
+pub kind-at : (t : List ℕ) (e : ℕ) (d : Dtype) (l : Listed t e d) → entryAt t e .kind ≡ kindOf d
 kind-at t e d l = ap (λ (a : Entry). a .kind) (listed-entry t e d l)
 
 pub under-innermost : (t : List ℕ) (e r : ℕ) → Under t e r → (d : Dtype) → Listed t e d → Innermost t e d r

@@ -17,7 +17,7 @@ use Rattle.dtype.specs.Entries.{entriesOf}
 use Rattle.dtype.specs.Flat.{entry-width, saturated, entryOf, numbers, flat}
 use Rattle.record.specs.Descr.{arrays}
 use Rattle.entry.specs.Written.{put, bare, upOf, nameOf, sizeOver, levelled}
-use Rattle.entry.proofs.Stores.{sets-back}
+use Rattle.lifts.proofs.Stores.{sets-back}
 
 -- ---- one entry
 pub put-room : (table : List ℕ) (at : ℕ) (e : Entry) → entry-width * at + 9 ≤ length table → put table at e ≡ sets table (entry-width * at) (numbers e [])

@@ -1,11 +1,11 @@
 -- What is written for a plain type, for a record, and for the array levels of a sub-shape above their type. Document 01, "The record": "The dtype table is
 -- listed depth first, left to right, parent first: one entry for each plain type, array level and record." The table itself is crate dtype's. Definitions
 -- only. Assumes nothing.
-use Prim.Native.Nat.{ℕ, zero, suc, _+_, _-_, _*_, _/_, _%_}
+use Prim.Native.Nat.{ℕ, zero, suc, _+_, _-_, _*_, _/_}
 use mathlib.Core.List.{List, [], _∷_}
 use mathlib.Core.Bool.{cond}
-use lib.Dec.{ltb, eqb}
-use lib.ListN.{length, take, drop}
+use lib.Dec.{ltb}
+use lib.ListN.{length}
 use lib.Seq.{sets}
 use Rattle.spelling.specs.declared.Endianness.the-variants.{Irrelevant}
 use Rattle.spelling.specs.declared.TypeChar.the-variants.{Object}
@@ -14,6 +14,7 @@ use Rattle.type_str.specs.declared.TypeStr.{TypeStr}
 use Rattle.type_str.specs.declared.TypeRead.{TypeRead}
 use Rattle.dtype.specs.declared.Entry.{Entry}
 use Rattle.dtype.specs.Flat.{entry-width, saturated, numbers}
+use Rattle.lifts.specs.Lifted.{lifted}
 
 -- the type that was read; where none was, what stands for it
 abbrev pub noType : TypeStr
@@ -55,29 +56,6 @@ abbrev pub levelled : (ns : List ℕ) (at up m last size : ℕ) (table : List �
 levelled [] at up m last size table = table
 levelled (n ∷ ns) at up m last size table =
     put (levelled ns (suc at) at 0 last size table) at (bare 1 up n (last - at) (sizeOver (n ∷ ns) size) m)
-
--- number i of entries that move on by `by`: their parents move with them, but the parent of the first is `up`, and it has no name
-unfoldable pub movedNumber : (i n by up : ℕ) → ℕ
-movedNumber i n by up = cond (eqb i 0) up (cond (eqb i 8) 0 (cond (eqb (i % entry-width) 0) (saturated (n + by)) n))
-
-abbrev pub movedFrom : (i by up : ℕ) → List ℕ → List ℕ
-movedFrom i by up [] = []
-movedFrom i by up (n ∷ l) = movedNumber i n by up ∷ movedFrom (suc i) by up l
-
--- a table in which so many numbers from `from` on stand from `to` on too
-abbrev pub movedOn : (table : List ℕ) (from to count : ℕ) → List ℕ
-movedOn table from to count = sets table to (take count (drop from table))
-
--- a table in which so many entries from `entry` on, which moved on by `by` to there, stand below the entry before them
-abbrev pub relinked : (table : List ℕ) (entry count by : ℕ) → List ℕ
-relinked table entry count by =
-    sets table (entry-width * entry) (movedFrom 0 by (entry - 1) (take (entry-width * count) (drop (entry-width * entry) table)))
-
--- a table in which so many entries from `entry` on stand `by` later, below the entry before them, where it has room for that
-abbrev pub lifted : (table : List ℕ) (entry count by : ℕ) → List ℕ
-lifted table entry count by =
-    cond (ltb (length table / entry-width) (entry + by + count)) table
-    (sets table (entry-width * (entry + by)) (movedFrom 0 by (entry + by - 1) (take (entry-width * count) (drop (entry-width * entry) table))))
 
 -- a table with the levels ns above a type of this size, whose own entries are those from `entry` up to `last` and move on
 abbrev pub above : (ns : List ℕ) (entry up m last size : ℕ) (table : List ℕ) → List ℕ

@@ -6,6 +6,8 @@ use dtype::Entry;
 use dtype::RECORD;
 use held::held_product;
 use held::held_sum;
+use lifts::from_to;
+use lifts::lift;
 use plain::plain_entry;
 use spelling::Endianness;
 use spelling::TypeChar;
@@ -13,11 +15,10 @@ use type_str::TypeRead;
 use type_str::TypeStr;
 use units::TimeUnits;
 ghost use mathlib.Core.Path.{_≡_};
-ghost use Prim.Native.Nat.{_+_, _-_, _*_, _≤_};
-ghost use lib.ListN.{length};
+ghost use Prim.Native.Nat.{_+_, _-_};
 ghost use Rattle.dtype.specs.Dtype.{plain, sizeOf};
-ghost use Rattle.dtype.specs.Flat.{saturated, entryOf, entry-width};
-ghost use Rattle.entry.specs.Written.{noType, typeIn, put, bare, upOf, nameOf, sizeOver, levelled, movedOn, relinked, lifted, above};
+ghost use Rattle.dtype.specs.Flat.{saturated, entryOf};
+ghost use Rattle.entry.specs.Written.{noType, typeIn, put, bare, upOf, nameOf, sizeOver, levelled, above};
 
 // The type that was read.
 pub fn type_of(r: TypeRead) -> TypeStr
@@ -114,54 +115,6 @@ pub fn put_over(
     put_levels(table, entry, up, name, shape, last, size)
 }
 
-// Moves so many entries from `entry` on, and lets the numbers in them follow.
-fn lift(table: &mut [u64], entry: usize, count: usize, by: usize)
-    ensures { λ _. ⌜ now (table .exit) ≡ lifted (now (table .entry)) entry count by ⌝ }
-{
-    let all = table.len() / ENTRY;
-    if all < count {
-        return;
-    }
-    if all - count < by {
-        return;
-    }
-    if all - count - by < entry {
-        return;
-    }
-    move_on(table, ENTRY * entry, ENTRY * (entry + by), ENTRY * count);
-    relink(table, entry + by, count, by);
-}
-
-// Moves so many numbers, the last first, so that none is lost.
-fn move_on(table: &mut [u64], from: usize, to: usize, count: usize)
-    requires { ⌜ (from ≤ to) × (to + count ≤ length (now table)) ⌝ }
-    ensures { λ _. ⌜ now (table .exit) ≡ movedOn (now (table .entry)) from to count ⌝ }
-{
-    let mut i = count;
-    while 0 < i {
-        i -= 1;
-        table[to + i] = table[from + i];
-    }
-}
-
-// Tells so many entries that they have moved on by `by` to `entry`. The first comes below the entry before it, and has no name.
-fn relink(table: &mut [u64], entry: usize, count: usize, by: usize)
-    requires { ⌜ entry-width * (entry + count) ≤ length (now table) ⌝ }
-    ensures { λ _. ⌜ now (table .exit) ≡ relinked (now (table .entry)) entry count by ⌝ }
-{
-    let mut k = count;
-    while 1 < k {
-        k -= 1;
-        let i = ENTRY * (entry + k);
-        table[i] = held_sum(table[i], by as u64);
-    }
-    if k == 1 {
-        let first = ENTRY * entry;
-        table[first + 8] = 0;
-        table[first] = from_to(1, entry);
-    }
-}
-
 // Writes the levels of a sub-shape above the type whose entries end before `stop`, from the innermost on, and answers their size.
 fn put_levels(
     table: &mut [u64],
@@ -213,16 +166,6 @@ fn put_level(
         at,
         bare_entry(ARRAY, head, number, from_to(at, stop), bytes, own),
     );
-}
-
-// How many entries there are from `at` to `stop`.
-fn from_to(at: usize, stop: usize) -> u64
-    ensures { λ r. ⌜ r ≡ stop - at ⌝ }
-{
-    if stop < at {
-        return 0;
-    }
-    (stop - at) as u64
 }
 
 // The nine numbers of an entry.

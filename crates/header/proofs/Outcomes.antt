@@ -2,14 +2,11 @@
 -- literals is meant does not matter, if it keeps the promise of crate grammar. Assumes nothing.
 use Prim.Native.Nat.{ℕ}
 use native.Mathlib.Omega.{arith}
-use mathlib.Core.Path.{_≡_, refl, sym, ap, _∙_}
+use mathlib.Core.Path.{_≡_, sym, ap, _∙_}
 use mathlib.Core.List.{List}
 use mathlib.Core.Bool.{Bool}
-use lib.ListN.{take}
 use Rattle.counts.specs.Outcome.{Outcome, gives, refused}
 use Rattle.counts.specs.OneOutcome.{OneOutcome}
-use Rattle.counts.proofs.OneOutcome.{by-equation}
-use Rattle.refusal.specs.declared.Refusal.{Refusal}
 use Rattle.refusal.specs.Numbers.{numberOf}
 use Rattle.refusal.proofs.Names.{number-apart}
 use Rattle.record.specs.Version as version
@@ -17,7 +14,6 @@ use Rattle.record.specs.Rooms.{Rooms, Lent}
 use Rattle.record.specs.Header.{Reading, Keeps, headerBy}
 use Rattle.record.proofs.OneHeader.{header-same}
 use Rattle.prefix.specs.declared.Version.{Version}
-use Rattle.prefix.specs.Answer.{versionIs}
 use Rattle.prefix.proofs.Outcomes.{version-apart}
 use Rattle.judge.specs.Judged.{reading}
 use Rattle.judge.proofs.Top.{reading-keeps}
@@ -64,10 +60,6 @@ read-held-one longer file l x y p q = pair-eq (apart (x .0) (y .0) (p .answered 
 
 pub read-text-one : (text : List ℕ) (l : Lent) → OneOutcome {A = TextRead × Lent} (λ o. ReadsText text l (o .0) (o .1))
 read-text-one = text.read-text-one
-
--- the front of a room
-pub front-one : (room : List ℕ) (n : ℕ) → OneOutcome {A = List ℕ} (λ r. r ≡ take n room)
-front-one room n = by-equation (take n room)
 
 -- ---- any reading that keeps the promise
 pub any-reading : (other : Reading) → Keeps other → (file : List ℕ) (rooms : Rooms) → headerBy reading file rooms ≡ headerBy other file rooms

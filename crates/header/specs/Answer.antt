@@ -4,7 +4,7 @@
 use Prim.Native.Nat.{ℕ}
 use mathlib.Core.Path.{_≡_}
 use mathlib.Core.List.{List}
-use mathlib.Core.Bool.{Bool, true, false}
+use mathlib.Core.Bool.{Bool, false}
 use lib.Dec.{ltb}
 use lib.ListN.{length, take, drop}
 use Rattle.counts.specs.Outcome.{Outcome, gives, refused, then, each, unless}
@@ -16,6 +16,7 @@ use Rattle.record.specs.Header as header
 use Rattle.prefix.specs.Answer.{versionIs}
 use Rattle.judge.specs.Judged.{reading}
 use Rattle.fill.specs.declared.Said.{Said}
+pub use Rattle.fronts.specs.Held.{missing}
 pub use Rattle.fill.specs.Text.{lent, saidOf, textAnswer, roomed, textInto, filled, ReadsText}
 use Rattle.header.specs.declared.Header.{Header}
 use Rattle.header.specs.declared.HeaderRead.{HeaderRead}
@@ -37,12 +38,8 @@ abbrev pub answer : HeaderRead → Outcome Told
 answer (HeaderRead.Read h) = gives (headerIs h)
 answer (HeaderRead.Refused r) = refused (numberOf r)
 
--- Document 01, "What the collector buys": "It holds the file's first 65,536 bytes ..; a longer file whose header ends past those gets 23 right after 4". The
--- text of a file of which so many bytes are held, at least a whole prefix, and which is longer or is not: 3 is what a file gets that ends there
-abbrev pub missing : (longer : Bool) → ℕ
-missing true = 23
-missing false = 3
-
+-- Document 01, "What the collector buys": "a longer file whose header ends past those gets 23 right after 4". The text of a file of which so many bytes are held, at
+-- least a whole prefix, and which is longer or is not
 abbrev pub textHeld : (longer : Bool) → Prefix → (file : List ℕ) → Outcome (List ℕ)
 textHeld longer p file = unless (ltb (length file) (dataStart p)) (missing longer) (gives (take (p .text-length) (drop (textStart (p .version)) file)))
 

@@ -8,14 +8,10 @@ use prefix::PrefixRead;
 use prefix::Version;
 use prefix::text_start;
 use refusal::Refusal;
-ghost use mathlib.Core.Path.{_≡_};
-ghost use Prim.Native.Nat.{_*_, _≤_};
-ghost use lib.ListN.{take};
-ghost use Rattle.dtype.specs.Flat.{entry-width};
-ghost use Rattle.refusal.specs.Numbers.{numberOf};
+ghost use Prim.Native.Nat.{_≤_};
 ghost use Rattle.record.specs.Prefix.{most-text};
 ghost use Rattle.prefix.specs.Answer.{prefixIs};
-ghost use Rattle.header.specs.Answer.{lent, missing as missingNumber, Reads, ReadsHeld, ReadsBehind, ReadsText};
+ghost use Rattle.header.specs.Answer.{lent, Reads, ReadsHeld, ReadsBehind, ReadsText};
 
 // A file's header: its version, what its record has beside the lent rooms, and where the data starts.
 pub struct Header {
@@ -68,7 +64,7 @@ fn read_behind(
     let start = text_start(version);
     let end = start + p.length;
     if file.len() < end {
-        return HeaderRead::Refused(missing(longer));
+        return HeaderRead::Refused(fronts::missing(longer));
     }
     match fill::read_text(&file[start..end], table, names, shape) {
         TextRead::Read(said) => HeaderRead::Read(Header {
@@ -80,48 +76,9 @@ fn read_behind(
     }
 }
 
-// Why a text is not there: it is not held, or the file ends before it does.
-fn missing(longer: bool) -> Refusal
-    ensures { λ r. ⌜ numberOf r ≡ missingNumber longer ⌝ }
-{
-    if longer {
-        Refusal::Room
-    } else {
-        Refusal::Incomplete
-    }
-}
-
 // The record of a header's text.
 pub fn read_text(text: &[u8], table: &mut [u64], names: &mut [u8], shape: &mut [u64]) -> TextRead
     ensures { λ r. ⌜ ReadsText (now (text .entry)) (lent (now (table .entry)) (now (names .entry)) (now (shape .entry))) r (lent (now (table .exit)) (now (names .exit)) (now (shape .exit))) ⌝ }
 {
     fill::read_text(text, table, names, shape)
-}
-
-// The entries, the name bytes and the dimensions that were written, at the front of their rooms.
-pub fn table_of(table: &[u64], entries: usize) -> &[u64]
-    ensures { λ r. ⌜ now r ≡ take (entry-width * entries) (now (table .entry)) ⌝ }
-{
-    if entries <= table.len() / dtype::ENTRY {
-        return &table[..dtype::ENTRY * entries];
-    }
-    table
-}
-
-pub fn names_of(names: &[u8], bytes: usize) -> &[u8]
-    ensures { λ r. ⌜ now r ≡ take bytes (now (names .entry)) ⌝ }
-{
-    if bytes <= names.len() {
-        return &names[..bytes];
-    }
-    names
-}
-
-pub fn shape_of(shape: &[u64], rank: usize) -> &[u64]
-    ensures { λ r. ⌜ now r ≡ take rank (now (shape .entry)) ⌝ }
-{
-    if rank <= shape.len() {
-        return &shape[..rank];
-    }
-    shape
 }

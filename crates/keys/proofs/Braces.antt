@@ -1,6 +1,6 @@
 -- What a value is, by the kind of its first byte: a dict and its pairs, a string and whether it is the key, an order. Assumes nothing.
 use Prim.Native.Nat.{ℕ, suc, _+_}
-use mathlib.Core.Path.{_≡_, refl, sym, ap, _∙_}
+use mathlib.Core.Path.{_≡_, refl, sym, ap, subst, _∙_}
 use mathlib.Core.List.{List, [], _∷_}
 use mathlib.Core.Bool.{Bool, true, false, cond}
 use lib.Dec.{eqb}
@@ -84,6 +84,15 @@ pub dict-at : (k : ℕ) (s : List ℕ) (at : ℕ) (c : Kind) → c ≡ kindOf (b
     → value (suc k) s at ≡ with (λ e ps. dict (span at e) (pairs ps)) (listBy (pairBy (value k s) s) s (at + 1) 125)
 dict-at k s at c hk z = dict-by k s at (curly-byte (byteAt s at) (sym hk ∙ z))
 
+-- which of the three names a string is
+pub name-is : (r : Name) (w u : List ℕ) (b : Bool) → keyOf r ≡ gives w → b ≡ same u w → b ≡ true → Named r (gives u)
+name-is r w u b hw hb ht =
+    let e : gives u ≡ keyOf r = ap gives (same-equal u w (sym hb ∙ ht)) ∙ sym hw in
+    record { of-string = ap isString e; of-descr = ap (isThe key-descr) e; of-order = ap (isThe key-order) e; of-shape = ap (isThe key-shape) e }
+
+pub name-none : (u : List ℕ) (a b d : Bool) → a ≡ same u key-descr → a ≡ false → b ≡ same u key-order → b ≡ false → d ≡ same u key-shape → d ≡ false → Named name.Name.Extra (gives u)
+name-none u a b d ha fa hb fb hd fd = record { of-string = refl; of-descr = sym ha ∙ fa; of-order = sym hb ∙ fb; of-shape = sym hd ∙ fd }
+
 module _ (k : ℕ) (s : List ℕ) (at e : ℕ) (n : Node) (h : value k s at ≡ got n e) where
   no-braces-by : (j : ℕ) (c : Kind) → NoCurly c → View c k s at n e → pairsIn j n ≡ refused j
   no-braces-by j Square z v = ap (pairsIn j) (v .2)
@@ -109,23 +118,8 @@ module _ (k : ℕ) (s : List ℕ) (at e : ℕ) (n : Node) (h : value k s at ≡ 
   a-string hk = let v = view k s at h hk in text-of (v .0)
 
   -- which of the three it is
-  pub key-is : (c : Kind) (w : List ℕ) (r : Bool) → c ≡ kindOf (byteAt s at) → c ≡ Quote → r ≡ same (spelled (byteAt s at) s (at + 1) .bytes) w → isThe w (stringOr 8 (forget n)) ≡ r
-  key-is c w r hk z hr = ap (isThe w) (a-string (sym hk ∙ z)) ∙ sym hr
-
-  pub name-is : (c : Kind) (r : Name) (w : List ℕ) (b : Bool) → c ≡ kindOf (byteAt s at) → c ≡ Quote → keyOf r ≡ gives w → b ≡ same (spelled (byteAt s at) s (at + 1) .bytes) w → b ≡ true → Named r (stringOr 8 (forget n))
-  name-is c r w b hk z hw hb ht =
-      let e : stringOr 8 (forget n) ≡ keyOf r = a-string (sym hk ∙ z) ∙ ap gives (same-equal (spelled (byteAt s at) s (at + 1) .bytes) w (sym hb ∙ ht)) ∙ sym hw in
-      record { of-string = ap isString e; of-descr = ap (isThe key-descr) e; of-order = ap (isThe key-order) e; of-shape = ap (isThe key-shape) e }
-
-  pub name-none : (c : Kind) (a b d : Bool) → c ≡ kindOf (byteAt s at) → c ≡ Quote → a ≡ same (spelled (byteAt s at) s (at + 1) .bytes) key-descr → a ≡ false
-      → b ≡ same (spelled (byteAt s at) s (at + 1) .bytes) key-order → b ≡ false → d ≡ same (spelled (byteAt s at) s (at + 1) .bytes) key-shape → d ≡ false → Named name.Name.Extra (stringOr 8 (forget n))
-  name-none c a b d hk z ha fa hb fb hd fd =
-      record {
-        of-string = ap isString (a-string (sym hk ∙ z));
-        of-descr = key-is c key-descr a hk z ha ∙ fa;
-        of-order = key-is c key-order b hk z hb ∙ fb;
-        of-shape = key-is c key-shape d hk z hd ∙ fd;
-      }
+  pub name-by : (r : Name) → kindOf (byteAt s at) ≡ Quote → Named r (gives (spelled (byteAt s at) s (at + 1) .bytes)) → Named r (stringOr 8 (forget n))
+  name-by r hk h = subst (Named r) (sym (a-string hk)) h
 
   no-string-by : (c : Kind) → NoQuote c → View c k s at n e → stringOr 8 (forget n) ≡ refused 8
   unfolding forget

@@ -5,11 +5,11 @@ use mathlib.Core.Path.{_≡_, refl, sym, ap, subst, _∙_}
 use mathlib.Core.List.{List, [], _∷_}
 use mathlib.Core.Bool.{Bool, true, false, cond, _&&_, and-true, and-assoc}
 use denote.Enum.Declared.{tagOf}
-use types.Run.{OneOf}
+use types.Run.{OneOf, miss}
 use Rattle.counts.specs.Outcome.{Outcome, gives, refused, then, each}
 use Rattle.record.specs.Parts.{stringOr}
 use Rattle.record.specs.Descr.{descrOf}
-use Rattle.record.specs.Dict.{key-order, key-shape, key-descr, isString, allStrings}
+use Rattle.record.specs.Dict.{key-order, key-shape, key-descr, isString, isThe, allStrings}
 use Rattle.tokens.specs.Node.{Node, Pair, Pairs, span, dict, pairs}
 use Rattle.tokens.specs.Got.{Got, got, fault, deep, pos, with}
 use Rattle.literal.specs.Forget.{forget, forgetPairs}
@@ -39,7 +39,10 @@ use Rattle.keys.specs.declared.ShapeFound as shape
 use Rattle.keys.specs.declared.DescrFound as descr
 use Rattle.keys.specs.declared.Declared as declared
 use Rattle.keys.specs.declared.Declared.{Declared}
-use Rattle.keys.specs.declared.PairRead.{PairRead}
+use Rattle.keys.specs.declared.DescrRead.{DescrRead}
+use Rattle.keys.specs.declared.ShapeRead.{ShapeRead}
+use Rattle.keys.specs.declared.DescrFound.{DescrFound}
+use Rattle.keys.specs.declared.ShapeFound.{ShapeFound}
 use Rattle.keys.specs.declared.Places.{Places}
 use Rattle.keys.specs.declared.KeysRead.{KeysRead}
 use Rattle.keys.specs.declared.KeysRead.the-variants.{Read, NotDict}
@@ -47,7 +50,8 @@ use Rattle.keys.specs.declared.Walked.{Walked}
 use Rattle.keys.specs.declared.Name as name
 use Rattle.keys.specs.declared.Name.{Name}
 use Rattle.keys.specs.Pairs.{isKey, lastIn, nodeFor, keyed, keyedAt}
-use Rattle.keys.specs.Answer.{DescrFoundIs, OrderIs, ShapeFoundIs, KeysAre, KeysOf, keyOf, NameAt, WordAt, Takes, PairIs, walkedBy, WalkedOf}
+use Rattle.keys.specs.Answer.{DescrFoundIs, OrderIs, ShapeFoundIs, KeysAre, KeysOf, keyOf, NameAt, WordAt, Takes, OrderTaken, DescrReadIs, ShapeReadIs, walkedBy, WalkedOf}
+use Rattle.keys.proofs.Name.{the-type as the-name}
 use Rattle.keys.proofs.Nodes.{items-in}
 use Rattle.keys.proofs.Braces.{NoCurly, dict-at, no-braces}
 
@@ -99,29 +103,80 @@ module _ {F : Type 0} (Is : F → Outcome Node → Type 0) (w : List ℕ) where
       by false t = subst (λ (y : F). Is y (h .0)) (sym t) (h .1)
 
 -- ---- one more pair
-module _ (k : ℕ) (s : List ℕ) (at : ℕ) (was : Places) where
-  pub pair-descr : (end : Parsed) (x : sums.Verdict) → end ≡ pos (value k s at) → verdict x ≡ then (valueOr 14 (value k s at)) (λ v. each totalsOf (descrOf v))
-      → PairIs k s at name.Name.Descr was (record { ended = end; places = record { descr = descr.DescrFound.At at x; order = was .order; shape = was .shape } })
-  pair-descr end x he hx =
-      record { ended = he; found = λ v e h. record { of-descr = (e, h, hx ∙ ap (λ (g : Got Node). then (valueOr 14 g) (λ v. each totalsOf (descrOf v))) h); of-order = refl; of-shape = refl } }
+-- what is found behind a pair of this name, whose value is v
+pub record PairOf (k : ℕ) (s : List ℕ) (v : Node) (name : Name) (was r : Places) : Type 0 where
+  pub of-descr : Takes (isThe key-descr (keyOf name)) (DescrFoundIs k s (r .descr) (gives v)) (r .descr ≡ was .descr)
+  pub of-order : Takes (isThe key-order (keyOf name)) (OrderIs (r .order) (gives v)) (r .order ≡ was .order)
+  pub of-shape : Takes (isThe key-shape (keyOf name)) (ShapeFoundIs k s (r .shape) (gives v)) (r .shape ≡ was .shape)
 
-  pub pair-order : (end : Parsed) (x : Declared) → end ≡ pos (value k s at) → WordAt s at x → PairIs k s at name.Name.Order was (record { ended = end; places = record { descr = was .descr; order = x; shape = was .shape } })
-  pair-order end x he hx = record { ended = he; found = λ v e h. record { of-descr = refl; of-order = hx k v e h; of-shape = refl } }
+-- how the value at the position ended, and the same, whichever value stands there
+pub record PairIs (k : ℕ) (s : List ℕ) (at : ℕ) (name : Name) (was : Places) (end : Parsed) (r : Places) : Type 0 where
+  pub ended : end ≡ pos (value k s at)
+  pub found : (v : Node) (e : ℕ) → value k s at ≡ got v e → PairOf k s v name was r
 
-  pub pair-shape : (end : Parsed) (x : products.Verdict) → end ≡ pos (value k s at) → outlined x ≡ each outlineOf (dimensionsAt (value k s at))
-      → PairIs k s at name.Name.Shape was (record { ended = end; places = record { descr = was .descr; order = was .order; shape = shape.ShapeFound.At at x } })
-  pair-shape end x he hx =
-      record { ended = he; found = λ v e h. record { of-descr = refl; of-order = refl; of-shape = (e, h, hx ∙ ap (λ (g : Got Node). each outlineOf (dimensionsAt g)) h) } }
+-- a verdict on the value that stands there
+module _ (k : ℕ) (s : List ℕ) (at : ℕ) where
+  pub read-descr : (end : Parsed) (x : sums.Verdict) → end ≡ pos (value k s at) → verdict x ≡ then (valueOr 14 (value k s at)) (λ v. each totalsOf (descrOf v))
+      → DescrReadIs k s at (record { ended = end; found = descr.DescrFound.At at x })
+  read-descr end x he hx = record { ended = he; found = λ v e h. (e, h, hx ∙ ap (λ (g : Got Node). then (valueOr 14 g) (λ v. each totalsOf (descrOf v))) h) }
 
-  pub pair-extra : (end : Parsed) → end ≡ pos (value k s at) → PairIs k s at name.Name.Extra was (record { ended = end; places = was })
-  pair-extra end he = record { ended = he; found = λ v e h. record { of-descr = refl; of-order = refl; of-shape = refl } }
+  pub read-shape : (end : Parsed) (x : products.Verdict) → end ≡ pos (value k s at) → outlined x ≡ each outlineOf (dimensionsAt (value k s at))
+      → ShapeReadIs k s at (record { ended = end; found = shape.ShapeFound.At at x })
+  read-shape end x he hx = record { ended = he; found = λ v e h. (e, h, hx ∙ ap (λ (g : Got Node). each outlineOf (dimensionsAt g)) h) }
 
-  pub pair-no-string : (end : Parsed) → end ≡ pos (value k s at) → PairIs k s at name.Name.NoString was (record { ended = end; places = was })
-  pair-no-string end he = record { ended = he; found = λ v e h. record { of-descr = refl; of-order = refl; of-shape = refl } }
+-- the order, by the name
+pub order-here : (s : List ℕ) (at : ℕ) (n : Name) (was x : Declared) → n ≡ name.Name.Order → WordAt s at x → OrderTaken s at n was x
+order-here s at n was x z h = λ k v e g. subst (λ (m : Name). Takes (isThe key-order (keyOf m)) (OrderIs x (gives v)) (x ≡ was)) (sym z) (h k v e g)
 
-  -- by its name
-  pub pair-named : (n m : Name) (r : PairRead) → n ≡ m → PairIs k s at m was r → PairIs k s at n was r
-  pair-named n m r z h = subst (λ (x : Name). PairIs k s at x was r) (sym z) h
+-- what the arm of the other names knows
+abbrev pub NoOrder : Name → Type 0
+NoOrder n = OneOf (0 ∷ 2 ∷ 3 ∷ 4 ∷ []) (tagOf the-name n)
+
+pub order-kept : (s : List ℕ) (at : ℕ) (n : Name) (was : Declared) → NoOrder n → OrderTaken s at n was was
+order-kept s at name.Name.Descr was o = λ k v e g. refl
+order-kept s at name.Name.Order was o = absurd (miss (0 ∷ 2 ∷ 3 ∷ 4 ∷ []) 1 tt o)
+order-kept s at name.Name.Shape was o = λ k v e g. refl
+order-kept s at name.Name.Extra was o = λ k v e g. refl
+order-kept s at name.Name.NoString was o = λ k v e g. refl
+
+-- what the arm knows that finds nothing but an order
+abbrev pub Else : Name → Type 0
+Else n = OneOf (1 ∷ 3 ∷ 4 ∷ []) (tagOf the-name n)
+
+-- the pair, by its name, behind one that left d, w and h; o is the order then
+module _ (k : ℕ) (s : List ℕ) (at : ℕ) (n : Name) (d : DescrFound) (w o : Declared) (h : ShapeFound) (ho : OrderTaken s at n w o) where
+  abbrev was : Places
+  was = record { descr = d; order = w; shape = h }
+
+  order-as : (m : Name) → n ≡ m → (v : Node) (e : ℕ) → value k s at ≡ got v e → Takes (isThe key-order (keyOf m)) (OrderIs o (gives v)) (o ≡ w)
+  order-as m z v e g = subst (λ (x : Name). Takes (isThe key-order (keyOf x)) (OrderIs o (gives v)) (o ≡ w)) z (ho k v e g)
+
+  named-as : (m : Name) → n ≡ m → (end : Parsed) (r : Places) → PairIs k s at m was end r → PairIs k s at n was end r
+  named-as m z end r h = subst (λ (x : Name). PairIs k s at x was end r) (sym z) h
+
+  pub pair-descr : n ≡ name.Name.Descr → (r : DescrRead) → DescrReadIs k s at r → PairIs k s at n was (r .ended) (record { descr = r .found; order = o; shape = h })
+  pair-descr z r hr = named-as name.Name.Descr z (r .ended) _ (record { ended = hr .ended; found = λ v e g. record { of-descr = hr .found v e g; of-order = order-as name.Name.Descr z v e g; of-shape = refl } })
+
+  pub pair-shape : n ≡ name.Name.Shape → (r : ShapeRead) → ShapeReadIs k s at r → PairIs k s at n was (r .ended) (record { descr = d; order = o; shape = r .found })
+  pair-shape z r hr = named-as name.Name.Shape z (r .ended) _ (record { ended = hr .ended; found = λ v e g. record { of-descr = refl; of-order = order-as name.Name.Shape z v e g; of-shape = hr .found v e g } })
+
+  -- where what was found and how the value ended have other names
+  pub pair-as : {x y : DescrFound} {p q : ShapeFound} {u v : Parsed} → x ≡ y → p ≡ q → u ≡ v → PairIs k s at n was v (record { descr = y; order = o; shape = q }) → PairIs k s at n was u (record { descr = x; order = o; shape = p })
+  pair-as {x} {y} {p} {q} {u} {v} hx hp hu h =
+      subst (λ (z : DescrFound). PairIs k s at n was u (record { descr = z; order = o; shape = p })) (sym hx)
+      (subst (λ (z : ShapeFound). PairIs k s at n was u (record { descr = y; order = o; shape = z })) (sym hp)
+      (subst (λ (z : Parsed). PairIs k s at n was z (record { descr = y; order = o; shape = q })) (sym hu) h))
+
+  -- nothing but an order
+  pub pair-else : Else n → (end : Parsed) → end ≡ pos (value k s at) → PairIs k s at n was end (record { descr = d; order = o; shape = h })
+  pair-else z end he = record { ended = he; found = λ v e g. by n z v (ho k v e g) }
+    where
+      by : (m : Name) → Else m → (v : Node) → Takes (isThe key-order (keyOf m)) (OrderIs o (gives v)) (o ≡ w) → PairOf k s v m was (record { descr = d; order = o; shape = h })
+      by name.Name.Descr z v t = absurd (miss (1 ∷ 3 ∷ 4 ∷ []) 0 tt z)
+      by name.Name.Order z v t = record { of-descr = refl; of-order = t; of-shape = refl }
+      by name.Name.Shape z v t = absurd (miss (1 ∷ 3 ∷ 4 ∷ []) 2 tt z)
+      by name.Name.Extra z v t = record { of-descr = refl; of-order = t; of-shape = refl }
+      by name.Name.NoString z v t = record { of-descr = refl; of-order = t; of-shape = refl }
 
 -- ---- the answer for a fault
 pub walk-stop : (end : Parsed) (b : Bool) (x : Places) → Stops end → _≡_ {A = Walked} (record { ended = end; keys = NotDict }) (walkedBy end b x)
@@ -146,17 +201,17 @@ module _ (k : ℕ) (s : List ℕ) where
         shape = counts-start (ShapeFoundIs k s) key-shape shape.ShapeFound.Missing refl ps;
       }
 
-  pub seen-more : (b b′ : Bool) (x : Places) (r : PairRead) (name : Name) (p q at : ℕ) (u : Pair) (ps us : List Pair) → pairBy (value k s) s p ≡ got u q → Ends at ≡ pos (keyBy (value k s) s p)
-      → NameAt s p name → PairIs k s at name x r → b′ ≡ b && isString (keyOf name) → Seen b x ps (u ∷ us) → Seen b′ (r .places) ps us
-  seen-more b b′ x r name p q at u ps us hu ha hn hx hb h =
-      let y = key-of (value k s) s p u q hu in
-      let n = hn k (u .key) (y .0) (y .1) in
+  pub seen-more : (b b′ : Bool) (x y : Places) (end : Parsed) (name : Name) (p q at : ℕ) (u : Pair) (ps us : List Pair) → pairBy (value k s) s p ≡ got u q → Ends at ≡ pos (keyBy (value k s) s p)
+      → NameAt s p name → PairIs k s at name x end y → b′ ≡ b && isString (keyOf name) → Seen b x ps (u ∷ us) → Seen b′ y ps us
+  seen-more b b′ x y end name p q at u ps us hu ha hn hx hb h =
+      let m = key-of (value k s) s p u q hu in
+      let n = hn k (u .key) (m .0) (m .1) in
       let z = hx .found (u .value) q (value-of (value k s) s p u q at hu ha) in
       record {
         strings = strings-more b b′ name u ps us hb (n .of-string) (h .strings);
-        descr = counts-more (DescrFoundIs k s) key-descr (x .descr) (r .places .descr) _ u ps us (n .of-descr) (z .of-descr) (h .descr);
-        order = counts-more OrderIs key-order (x .order) (r .places .order) _ u ps us (n .of-order) (z .of-order) (h .order);
-        shape = counts-more (ShapeFoundIs k s) key-shape (x .shape) (r .places .shape) _ u ps us (n .of-shape) (z .of-shape) (h .shape);
+        descr = counts-more (DescrFoundIs k s) key-descr (x .descr) (y .descr) _ u ps us (n .of-descr) (z .of-descr) (h .descr);
+        order = counts-more OrderIs key-order (x .order) (y .order) _ u ps us (n .of-order) (z .of-order) (h .order);
+        shape = counts-more (ShapeFoundIs k s) key-shape (x .shape) (y .shape) _ u ps us (n .of-shape) (z .of-shape) (h .shape);
       }
 
   module _ (from : ℕ) where

@@ -15,7 +15,9 @@ use Rattle.tokens.specs.Node.{Node, Pair, pairs}
 use Rattle.tokens.specs.Got.{Got, got, fault, deep, pos}
 use Rattle.tokens.specs.declared.Parsed.{Parsed}
 use Rattle.tokens.specs.declared.Parsed.the-variants.{Value, Fault, Deep}
+use Rattle.tokens.specs.Text.{skip}
 use Rattle.literal.specs.Forget.{forget, forgetPairs}
+use Rattle.literal.specs.Brackets.{keyBy}
 use Rattle.literal.specs.Literal.{value, most-open}
 use Rattle.products.specs.Outline.{outlineOf}
 use Rattle.products.specs.Answer.{outlined}
@@ -25,7 +27,9 @@ use Rattle.keys.specs.declared.ShapeFound as shape
 use Rattle.keys.specs.declared.ShapeFound.{ShapeFound}
 use Rattle.keys.specs.declared.DescrFound as descr
 use Rattle.keys.specs.declared.DescrFound.{DescrFound}
-use Rattle.keys.specs.declared.PairRead.{PairRead}
+use Rattle.keys.specs.declared.DescrRead.{DescrRead}
+use Rattle.keys.specs.declared.ShapeRead.{ShapeRead}
+use Rattle.keys.specs.declared.Key.{Key}
 use Rattle.keys.specs.declared.Places.{Places}
 use Rattle.keys.specs.declared.KeysRead.{KeysRead}
 use Rattle.keys.specs.declared.KeysRead.the-variants.{Read, NotDict}
@@ -120,22 +124,30 @@ pub record Named (r : Name) (key : Outcome (List ℕ)) : Type 0 where
 abbrev pub NameAt : List ℕ → ℕ → Name → Type 0
 NameAt s at r = (k : ℕ) (n : Node) (e : ℕ) → value k s at ≡ got n e → Named r (stringOr 8 (forget n))
 
+-- what a key is, and where its value begins
+pub record KeyIs (k : ℕ) (s : List ℕ) (at : ℕ) (r : Key) : Type 0 where
+  pub begins : r .begins ≡ pos (keyBy (value k s) s at)
+  pub named : NameAt s at (r .name)
+
+-- the order that the value at a position declares, whichever value stands there
+abbrev pub WordAt : List ℕ → ℕ → Declared → Type 0
+WordAt s at r = (k : ℕ) (n : Node) (e : ℕ) → value k s at ≡ got n e → OrderIs r (gives n)
+
 -- what one more pair changes, and what it leaves
 abbrev pub Takes : Bool → Type 0 → Type 0 → Type 0
 Takes true A B = A
 Takes false A B = B
 
--- what is found behind one more pair of this name, whose value is v
-pub record PairOf (k : ℕ) (s : List ℕ) (v : Node) (name : Name) (was r : Places) : Type 0 where
-  pub of-descr : Takes (isThe key-descr (keyOf name)) (DescrFoundIs k s (r .descr) (gives v)) (r .descr ≡ was .descr)
-  pub of-order : Takes (isThe key-order (keyOf name)) (OrderIs (r .order) (gives v)) (r .order ≡ was .order)
-  pub of-shape : Takes (isThe key-shape (keyOf name)) (ShapeFoundIs k s (r .shape) (gives v)) (r .shape ≡ was .shape)
+-- the order behind one more pair of this name, whichever value stands at the position
+abbrev pub OrderTaken : List ℕ → ℕ → Name → Declared → Declared → Type 0
+OrderTaken s at name was r = (k : ℕ) (n : Node) (e : ℕ) → value k s at ≡ got n e → Takes (isThe key-order (keyOf name)) (OrderIs r (gives n)) (r ≡ was)
 
--- how the value at the position ended, and the same, whichever value stands there
-pub record PairIs (k : ℕ) (s : List ℕ) (at : ℕ) (name : Name) (was : Places) (r : PairRead) : Type 0 where
+-- how the value at the position ended, and what is found there as a descr, whichever value stands there
+pub record DescrReadIs (k : ℕ) (s : List ℕ) (at : ℕ) (r : DescrRead) : Type 0 where
   pub ended : r .ended ≡ pos (value k s at)
-  pub found : (v : Node) (e : ℕ) → value k s at ≡ got v e → PairOf k s v name was (r .places)
+  pub found : (v : Node) (e : ℕ) → value k s at ≡ got v e → DescrFoundIs k s (r .found) (gives v)
 
--- the order that the value at a position declares, whichever value stands there
-abbrev pub WordAt : List ℕ → ℕ → Declared → Type 0
-WordAt s at r = (k : ℕ) (n : Node) (e : ℕ) → value k s at ≡ got n e → OrderIs r (gives n)
+-- the same as a shape
+pub record ShapeReadIs (k : ℕ) (s : List ℕ) (at : ℕ) (r : ShapeRead) : Type 0 where
+  pub ended : r .ended ≡ pos (value k s at)
+  pub found : (v : Node) (e : ℕ) → value k s at ≡ got v e → ShapeFoundIs k s (r .found) (gives v)

@@ -3,6 +3,7 @@
 use dtype::Order;
 use grammar::OPEN;
 use literal::gaps::Gap;
+use literal::gaps::colon_at;
 use literal::gaps::ended;
 use literal::gaps::gap_at;
 use literal::gaps::then_at;
@@ -12,11 +13,15 @@ use tokens::bytes::Kind;
 use tokens::bytes::kind_of;
 use tokens::bytes::peek;
 use tokens::strings::is_text;
+use tokens::strings::scan_at;
 ghost use mathlib.Core.Path.{_≡_};
+ghost use Rattle.counts.specs.Outcome.{gives};
+ghost use Rattle.counts.specs.Same.{same};
 ghost use Rattle.record.specs.Dict.{isString};
+ghost use Rattle.tokens.specs.Strings.{spelled};
 ghost use Rattle.literal.specs.Brackets.{listBy, pairBy};
 ghost use Rattle.literal.specs.Literal.{value as valueOf};
-ghost use Rattle.keys.specs.Answer.{keyOf, NameAt, WordAt, PairIs, walkedBy, WalkedOf, Walks};
+ghost use Rattle.keys.specs.Answer.{keyOf, Named, KeyIs, WordAt, OrderTaken, DescrReadIs, ShapeReadIs, walkedBy, WalkedOf, Walks};
 
 // The declared order; or 9, 10.
 pub enum Declared {
@@ -65,10 +70,22 @@ enum Name {
     NoString,
 }
 
-// How a pair's value ended, and what is found behind the pair.
-struct PairRead {
+// What a key is, and where its value begins or the fault before that.
+struct Key {
+    name: Name,
+    begins: Parsed,
+}
+
+// How the value of `descr` ended, and what is found there.
+struct DescrRead {
     ended: Parsed,
-    places: Places,
+    found: DescrFound,
+}
+
+// How the value of `shape` ended, and what is found there.
+struct ShapeRead {
+    ended: Parsed,
+    found: ShapeFound,
 }
 
 // The value at `at` in one walk: how it ended, and its keys where it is a dict.
@@ -85,40 +102,57 @@ pub fn keys(text: &[u8], at: usize) -> Walked
     keys_from(text, at + 1, OPEN - 1)
 }
 
-// The pairs from `from` up to the brace. A key that is no string is 8, which comes behind any fault of the text: the walk goes on.
+// The pairs from `from` up to the brace. A key that is no string is 8, which comes behind any fault of the text: the walk goes on. What was found stands
+// in three locals, of which a pair stores the one that it changes: to copy all three at each pair is slow.
 fn keys_from(text: &[u8], from: usize, room: usize) -> Walked
     ensures { λ r. ⌜ WalkedOf room (now (text .entry)) r (listBy (pairBy (valueOf room (now (text .entry))) (now (text .entry))) (now (text .entry)) from 125) ⌝ }
 {
     let mut g = gap_at(text, from, 125);
     let mut strings = true;
-    let mut places = Places {
-        descr: DescrFound::Missing,
-        order: Declared::Missing,
-        shape: ShapeFound::Missing,
-    };
+    let mut descr = DescrFound::Missing;
+    let mut order = Declared::Missing;
+    let mut shape = ShapeFound::Missing;
     loop {
         let Gap::Item(p) = g else {
-            return walk_end(ended(g), strings, places);
+            return walk_end(ended(g), strings, descr, order, shape);
         };
-        let name = name_at(text, p);
-        let k = literal::key(text, p, room);
+        let key = key_at(text, p, room);
+        let name = key.name;
+        let k = key.begins;
         let Parsed::Value(at) = k else {
-            return walk_end(k, strings, places);
+            return walk_end(k, strings, descr, order, shape);
         };
-        let one = pair_at(text, at, room, name, places);
-        let v = one.ended;
+        order = order_at(text, at, name, order);
+        let v = match name {
+            Name::Descr => {
+                let one = descr_at(text, at, room);
+                descr = one.found;
+                one.ended
+            }
+            Name::Shape => {
+                let one = shape_at(text, at, room);
+                shape = one.found;
+                one.ended
+            }
+            Name::Order | Name::Extra | Name::NoString => value(text, at, room),
+        };
         let Parsed::Value(q) = v else {
-            return walk_end(v, strings, places);
+            return walk_end(v, strings, descr, order, shape);
         };
         strings = strings & is_string(name);
-        places = one.places;
         g = then_at(text, q, 125);
     }
 }
 
 // The answer of a walk that ended so, by whether the keys are all strings and what was found for the three.
-fn walk_end(end: Parsed, strings: bool, places: Places) -> Walked
-    ensures { λ r. ⌜ r ≡ walkedBy end strings places ⌝ }
+fn walk_end(
+    end: Parsed,
+    strings: bool,
+    descr: DescrFound,
+    order: Declared,
+    shape: ShapeFound,
+) -> Walked
+    ensures { λ r. ⌜ r ≡ walkedBy end strings (record { descr = descr; order = order; shape = shape }) ⌝ }
 {
     let Parsed::Value(_) = end else {
         return Walked {
@@ -127,6 +161,11 @@ fn walk_end(end: Parsed, strings: bool, places: Places) -> Walked
         };
     };
     if strings {
+        let places = Places {
+            descr,
+            order,
+            shape,
+        };
         Walked {
             ended: end,
             keys: KeysRead::Read(places),
@@ -139,77 +178,35 @@ fn walk_end(end: Parsed, strings: bool, places: Places) -> Walked
     }
 }
 
-// The value at `at` of a pair with this key, and what is found behind the pair.
-fn pair_at(text: &[u8], at: usize, room: usize, name: Name, was: Places) -> PairRead
-    ensures { λ r. ⌜ PairIs room (now (text .entry)) at name was r ⌝ }
-{
-    match name {
-        Name::Descr => descr_at(text, at, room, was),
-        Name::Order => order_at(text, at, room, was),
-        Name::Shape => shape_at(text, at, room, was),
-        Name::Extra => PairRead {
-            ended: value(text, at, room),
-            places: was,
-        },
-        Name::NoString => PairRead {
-            ended: value(text, at, room),
-            places: was,
-        },
-    }
-}
-
-fn descr_at(text: &[u8], at: usize, room: usize, was: Places) -> PairRead
-    ensures { λ r. ⌜ PairIs room (now (text .entry)) at Name.Descr was r ⌝ }
+// The value of `descr` at `at`.
+fn descr_at(text: &[u8], at: usize, room: usize) -> DescrRead
+    ensures { λ r. ⌜ DescrReadIs room (now (text .entry)) at r ⌝ }
 {
     let judged = descr::judge(text, at, room);
     let ended = judged.ended;
     let verdict = judged.verdict;
-    let order = was.order;
-    let shape = was.shape;
-    let here = DescrFound::At(at, verdict);
-    PairRead {
-        ended: ended,
-        places: Places {
-            descr: here,
-            order,
-            shape,
-        },
-    }
+    let found = DescrFound::At(at, verdict);
+    DescrRead { ended, found }
 }
 
-fn order_at(text: &[u8], at: usize, room: usize, was: Places) -> PairRead
-    ensures { λ r. ⌜ PairIs room (now (text .entry)) at Name.Order was r ⌝ }
-{
-    let ended = value(text, at, room);
-    let order = word_at(text, at);
-    let descr = was.descr;
-    let shape = was.shape;
-    PairRead {
-        ended: ended,
-        places: Places {
-            descr,
-            order,
-            shape,
-        },
-    }
-}
-
-fn shape_at(text: &[u8], at: usize, room: usize, was: Places) -> PairRead
-    ensures { λ r. ⌜ PairIs room (now (text .entry)) at Name.Shape was r ⌝ }
+// The value of `shape` at `at`.
+fn shape_at(text: &[u8], at: usize, room: usize) -> ShapeRead
+    ensures { λ r. ⌜ ShapeReadIs room (now (text .entry)) at r ⌝ }
 {
     let judged = dims::judge(text, at, room);
     let ended = judged.ended;
     let verdict = judged.verdict;
-    let descr = was.descr;
-    let order = was.order;
-    let here = ShapeFound::At(at, verdict);
-    PairRead {
-        ended: ended,
-        places: Places {
-            descr,
-            order,
-            shape: here,
-        },
+    let found = ShapeFound::At(at, verdict);
+    ShapeRead { ended, found }
+}
+
+// The order that is declared behind a pair of this name, whose value stands at `at`.
+fn order_at(text: &[u8], at: usize, name: Name, was: Declared) -> Declared
+    ensures { λ r. ⌜ OrderTaken (now (text .entry)) at name was r ⌝ }
+{
+    match name {
+        Name::Order => word_at(text, at),
+        Name::Descr | Name::Shape | Name::Extra | Name::NoString => was,
     }
 }
 
@@ -244,23 +241,86 @@ fn is_string(name: Name) -> bool
     }
 }
 
-// What the key at `at` is, compared decoded. No two of the three begin alike, so that most keys are compared with one of them beyond the first byte.
-fn name_at(text: &[u8], at: usize) -> Name
-    ensures { λ r. ⌜ NameAt (now (text .entry)) at r ⌝ }
+// The key at `at` with its colon, passed over once where it is a string.
+fn key_at(text: &[u8], at: usize, room: usize) -> Key
+    ensures { λ r. ⌜ KeyIs room (now (text .entry)) at r ⌝ }
 {
     let k = kind_of(peek(text, at));
     let Kind::Quote = k else {
-        return Name::NoString;
+        return Key {
+            name: Name::NoString,
+            begins: literal::key(text, at, room),
+        };
     };
+    let from = at + 1;
     let quote = text[at];
-    if is_text(text, at + 1, quote, b"descr") {
+    let s = scan_at(text, from, quote);
+    let ended = s.ended;
+    let Parsed::Value(q) = ended else {
+        return Key {
+            name: Name::Extra,
+            begins: ended,
+        };
+    };
+    let begins = colon_at(text, q);
+    if s.escape {
+        return Key {
+            name: name_at(text, from, quote),
+            begins,
+        };
+    }
+    let to = from + s.len;
+    Key {
+        name: known(&text[from..to]),
+        begins,
+    }
+}
+
+// What a key is that is a string of these bytes.
+fn known(name: &[u8]) -> Name
+    ensures { λ r. ⌜ Named r (gives (now (name .entry))) ⌝ }
+{
+    if same_bytes(name, b"descr") {
         return Name::Descr;
     }
-    if is_text(text, at + 1, quote, b"fortran_order") {
+    if same_bytes(name, b"fortran_order") {
         return Name::Order;
     }
-    if is_text(text, at + 1, quote, b"shape") {
+    if same_bytes(name, b"shape") {
         return Name::Shape;
     }
     Name::Extra
+}
+
+// Whether two texts are the same. No difference ends the walk early, so that the compiler takes many bytes at a time.
+fn same_bytes(a: &[u8], b: &[u8]) -> bool
+    ensures { λ r. ⌜ r ≡ same (now (a .entry)) (now (b .entry)) ⌝ }
+{
+    if a.len() != b.len() {
+        return false;
+    }
+    let mut i: usize = 0;
+    let mut alike = true;
+    while i < a.len() {
+        alike = alike & (a[i] == b[i]);
+        i += 1;
+    }
+    alike
+}
+
+// What a key with an escape is, compared decoded. No two of the three begin alike, so that most keys are compared with one of them beyond the first byte.
+fn name_at(text: &[u8], from: usize, quote: u8) -> Name
+    ensures { λ r. ⌜ Named r (gives (spelled quote (now (text .entry)) from .bytes)) ⌝ }
+{
+    if is_text(text, from, quote, b"descr") {
+        return Name::Descr;
+    }
+    if is_text(text, from, quote, b"fortran_order") {
+        return Name::Order;
+    }
+    if is_text(text, from, quote, b"shape") {
+        Name::Shape
+    } else {
+        Name::Extra
+    }
 }

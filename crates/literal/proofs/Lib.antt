@@ -1,4 +1,5 @@
 pub mod Ends
+mod Near
 pub mod Steps
 pub mod Rows
 pub mod View
@@ -7,8 +8,6 @@ pub mod AgreeTokens
 pub mod AgreeBrackets
 pub mod AgreeValue
 pub mod Meaning
-pub mod Counting
-pub mod Integers
 pub mod Escapes
 pub mod Outcomes
 pub mod Examples

@@ -5,14 +5,11 @@ use mathlib.Core.List.{List}
 use Rattle.counts.specs.OneOutcome.{OneOutcome}
 use Rattle.counts.proofs.OneOutcome.{by-equation}
 use Rattle.tokens.specs.Got.{pos}
-use Rattle.literal.specs.Brackets.{gapAt, thenAt, needAt, endedAt, keyBy, listBy}
+use Rattle.literal.specs.Brackets.{gapAt, thenAt, needAt, colonAt, endedAt, keyBy}
 use Rattle.literal.specs.Literal.{value, aloneAt, literalOf}
 use Rattle.literal.specs.Answer.{Keeps}
-use Rattle.literal.specs.Walks.{countOf, integerAt}
 use Rattle.tokens.specs.declared.Parsed.{Parsed}
 use Rattle.literal.specs.declared.gaps.Gap.{Gap}
-use Rattle.literal.specs.declared.walks.Count.{Count}
-use Rattle.literal.specs.declared.walks.Integer.{Integer}
 
 -- ---- the reader. That the promise alone allows one answer is `literal-one` (Meaning.antt)
 pub literal-one-outcome : (text : List ℕ) → OneOutcome {A = Parsed} (λ r. (r ≡ pos (literalOf text)) × Keeps text r)
@@ -37,12 +34,8 @@ then-at-one text at close = by-equation (thenAt text at close)
 pub need-one : (text : List ℕ) (at b : ℕ) → OneOutcome {A = Parsed} (λ r. r ≡ needAt text at b)
 need-one text at b = by-equation (needAt text at b)
 
+pub colon-at-one : (text : List ℕ) (at : ℕ) → OneOutcome {A = Parsed} (λ r. r ≡ colonAt text at)
+colon-at-one text at = by-equation (colonAt text at)
+
 pub ended-one : (g : Gap) → OneOutcome {A = Parsed} (λ r. r ≡ endedAt g)
 ended-one g = by-equation (endedAt g)
-
--- ---- walks
-pub count-items-one : (text : List ℕ) (from close room : ℕ) → OneOutcome {A = Count} (λ r. r ≡ countOf (listBy (value room text) text from close))
-count-items-one text from close room = by-equation (countOf (listBy (value room text) text from close))
-
-pub integer-at-one : (text : List ℕ) (at : ℕ) → OneOutcome {A = Integer} (λ r. r ≡ integerAt text at)
-integer-at-one text at = by-equation (integerAt text at)

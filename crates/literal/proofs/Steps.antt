@@ -19,7 +19,7 @@ use Rattle.tokens.specs.Node.{Node}
 use Rattle.tokens.specs.Got.{Got, got, fault, deep, pos}
 use Rattle.tokens.specs.Text.{byteAt, skip}
 use Rattle.tokens.specs.Tokens.{tokenAt}
-use Rattle.literal.specs.Brackets.{gapAt, thenAt, needAt, endedAt, items, listBy, tupleBy, keyBy, pairBy}
+use Rattle.literal.specs.Brackets.{gapAt, thenAt, needAt, endedAt, items, listBy, tupleBy, keyBy, pairBy, beginsBy, colonAt}
 use Rattle.literal.specs.Literal.{bracketBy, value, alone, aloneAt, literalOf, most-open}
 use Rattle.tokens.specs.declared.Parsed.{Parsed}
 use Rattle.tokens.specs.declared.Parsed.the-variants.{Value, Fault, Deep}
@@ -132,6 +132,11 @@ module _ {A : Type 0} (rd : ℕ → Got A) (s : List ℕ) (at : ℕ) where
   tuple-more p q e hg hr hn = rw (tupleBy, hg, thing (rd p) q hr .1, sym hn) (sym (pos-with _ (listBy rd s e 41)))
 
 -- ---- a key with its colon, and a pair
+pub begins-stop : (s : List ℕ) (r : Parsed) → Stops r → r ≡ beginsBy s r
+begins-stop s (Value e) st = absurd st
+begins-stop s (Fault p) st = refl
+begins-stop s (Deep p) st = refl
+
 module _ (rd : ℕ → Got Node) (s : List ℕ) (at : ℕ) where
   key-stop-by : (g : Got Node) → rd at ≡ g → Stops (pos g) → pos g ≡ pos (keyBy rd s at)
   unfolding keyBy
@@ -142,18 +147,14 @@ module _ (rd : ℕ → Got Node) (s : List ℕ) (at : ℕ) where
   pub key-stop : (r : Parsed) → r ≡ pos (rd at) → Stops r → r ≡ pos (keyBy rd s at)
   key-stop r hr st = hr ∙ key-stop-by (rd at) refl (subst (λ (x : Parsed). Stops x) hr st)
 
-  colon-stop : (q : ℕ) (v : Node) (r : Parsed) → rd at ≡ got v q → r ≡ needAt s q 58 → Stops r → r ≡ pos (keyBy rd s at)
+  colon-by : (q : ℕ) (v : Node) (x : Parsed) → rd at ≡ got v q → needAt s q 58 ≡ x → beginsBy s x ≡ pos (keyBy rd s at)
   unfolding keyBy
-  colon-stop q v (Value e) hr hn st = absurd st
-  colon-stop q v (Fault e) hr hn st = rw (keyBy, hr, sym hn)
-  colon-stop q v (Deep e) hr hn st = rw (keyBy, hr, sym hn)
+  colon-by q v (Value e) hr hn = rw (keyBy, hr, hn)
+  colon-by q v (Fault e) hr hn = rw (keyBy, hr, hn)
+  colon-by q v (Deep e) hr hn = rw (keyBy, hr, hn)
 
-  pub key-colon : (q : ℕ) (r : Parsed) → Value q ≡ pos (rd at) → r ≡ needAt s q 58 → Stops r → r ≡ pos (keyBy rd s at)
-  key-colon q r hr hn st = colon-stop q _ r (thing (rd at) q hr .1) hn st
-
-  pub key-done : (q e p : ℕ) → Value q ≡ pos (rd at) → Value e ≡ needAt s q 58 → p ≡ skip s e → Value p ≡ pos (keyBy rd s at)
-  unfolding keyBy
-  key-done q e p hr hn hp = rw (keyBy, thing (rd at) q hr .1, sym hn) (ap Value hp)
+  pub key-colon : (q : ℕ) → Value q ≡ pos (rd at) → colonAt s q ≡ pos (keyBy rd s at)
+  key-colon q hr = colon-by q _ (needAt s q 58) (thing (rd at) q hr .1) refl
 
   pair-stop-by : (g : Got Node) → keyBy rd s at ≡ g → Stops (pos g) → pos g ≡ pos (pairBy rd s at)
   unfolding pairBy

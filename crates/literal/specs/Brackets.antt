@@ -3,9 +3,9 @@
 -- between brackets is a fault." What stands in a bracket, by a reader of what stands in it. Definitions only. Assumes nothing.
 use Prim.Native.Nat.{ℕ, zero, suc, _+_}
 use mathlib.Core.List.{List, [], _∷_}
-use mathlib.Core.Bool.{cond}
+use mathlib.Core.Bool.{Bool, cond, not, _&&_}
 use lib.ListN.{length}
-use lib.Dec.{eqb}
+use lib.Dec.{eqb, leb, ltb}
 use Rattle.tokens.specs.Node.{Node, Pair, pair}
 use Rattle.tokens.specs.Got.{Got, got, fault, deep, with}
 use Rattle.tokens.specs.Text.{byteAt, skip}
@@ -21,6 +21,10 @@ gapAt s at close = cond (eqb (byteAt s (skip s at)) close) (Shut (skip s at + 1)
 -- behind an item and blanks: the closing bracket, a comma and then as above, or a fault
 unfoldable pub thenAt : List ℕ → ℕ → ℕ → Gap
 thenAt s at close = cond (eqb (byteAt s (skip s at)) close) (Shut (skip s at + 1)) (cond (eqb (byteAt s (skip s at)) 44) (gapAt s (skip s at + 1) close) (Stray (skip s at)))
+
+-- whether three bytes tell that an item follows: a comma, a space, and a byte above 32; neither the comma nor the third closes
+abbrev pub nearAt : List ℕ → ℕ → ℕ → Bool
+nearAt s at close = leb (at + 3) (length s) && ((((eqb (byteAt s at) 44 && eqb (byteAt s (at + 1)) 32) && ltb 32 (byteAt s (at + 2))) && not (eqb (byteAt s (at + 2)) close)) && not (eqb close 44))
 
 -- behind blanks: a byte that has to stand there
 unfoldable pub needAt : List ℕ → ℕ → ℕ → Parsed
@@ -55,6 +59,15 @@ module _ {A : Type 0} (rd : ℕ → Got A) (s : List ℕ) where
       | deep a ↦ deep a
     ]
   ]
+
+-- behind a key: its colon, and where its value begins
+abbrev pub beginsBy : List ℕ → Parsed → Parsed
+beginsBy s (Value e) = Value (skip s e)
+beginsBy s (Fault p) = Fault p
+beginsBy s (Deep p) = Deep p
+
+abbrev pub colonAt : List ℕ → ℕ → Parsed
+colonAt s at = beginsBy s (needAt s at 58)
 
 -- a key and its colon: the key, and where its value begins
 unfoldable pub keyBy : (ℕ → Got Node) → List ℕ → ℕ → Got Node

@@ -1,6 +1,6 @@
 // What stands between the items of a bracket. No function here has a `requires`. `close` is the closing bracket.
 ghost use mathlib.Core.Path.{_≡_};
-ghost use Rattle.literal.specs.Brackets.{gapAt, thenAt, needAt, endedAt};
+ghost use Rattle.literal.specs.Brackets.{gapAt, nearAt, thenAt, needAt, colonAt, endedAt};
 use tokens::Parsed;
 use tokens::bytes::blanks;
 use tokens::bytes::peek;
@@ -24,8 +24,22 @@ pub fn gap_at(text: &[u8], at: usize, close: u8) -> Gap
     }
 }
 
-// Behind an item that ends before `at`.
-pub fn then_at(text: &[u8], at: usize, close: u8) -> Gap
+// Whether a comma, one space and then an item stand at `at`.
+fn near(text: &[u8], at: usize, close: u8) -> bool
+    ensures { λ r. ⌜ r ≡ nearAt (now (text .entry)) at close ⌝ }
+{
+    if text.len() < 3 {
+        return false;
+    }
+    if text.len() - 3 < at {
+        return false;
+    }
+    let b = text[at + 2];
+    (text[at] == 44) & (text[at + 1] == 32) & (32 < b) & (b != close) & (close != 44)
+}
+
+// Behind an item that ends before `at`, whatever stands there.
+fn then_any(text: &[u8], at: usize, close: u8) -> Gap
     ensures { λ r. ⌜ r ≡ thenAt (now (text .entry)) at close ⌝ }
 {
     let p = blanks(text, at);
@@ -39,6 +53,16 @@ pub fn then_at(text: &[u8], at: usize, close: u8) -> Gap
     Gap::Stray(p)
 }
 
+// The same, where nearly every comma has one blank behind it: three bytes tell that.
+pub fn then_at(text: &[u8], at: usize, close: u8) -> Gap
+    ensures { λ r. ⌜ r ≡ thenAt (now (text .entry)) at close ⌝ }
+{
+    if near(text, at, close) {
+        return Gap::Item(at + 2);
+    }
+    then_any(text, at, close)
+}
+
 // The byte b, behind blanks.
 pub fn need(text: &[u8], at: usize, b: u8) -> Parsed
     ensures { λ r. ⌜ r ≡ needAt (now (text .entry)) at b ⌝ }
@@ -49,6 +73,17 @@ pub fn need(text: &[u8], at: usize, b: u8) -> Parsed
     } else {
         Parsed::Fault(p)
     }
+}
+
+// The colon of a key that ends before `at`: the position where its value begins.
+pub fn colon_at(text: &[u8], at: usize) -> Parsed
+    ensures { λ r. ⌜ r ≡ colonAt (now (text .entry)) at ⌝ }
+{
+    let c = need(text, at, 58);
+    let Parsed::Value(e) = c else {
+        return c;
+    };
+    Parsed::Value(blanks(text, e))
 }
 
 // How a bracket ends at a gap where no item stands.

@@ -1,6 +1,5 @@
 // Reads a Python literal (document 01, "The literal"). Positions are indices of the text. No function here has a `requires`.
 pub mod gaps;
-pub mod walks;
 
 ghost use mathlib.Core.Path.{_≡_};
 ghost use Rattle.tokens.specs.Got.{pos};
@@ -8,6 +7,7 @@ ghost use Rattle.literal.specs.Answer.{Reads};
 ghost use Rattle.literal.specs.Brackets.{listBy, tupleBy, keyBy, pairBy};
 ghost use Rattle.literal.specs.Literal.{value as valueOf, aloneAt};
 use gaps::Gap;
+use gaps::colon_at;
 use gaps::ended;
 use gaps::gap_at;
 use gaps::need;
@@ -111,11 +111,7 @@ pub fn key(text: &[u8], at: usize, room: usize) -> Parsed
     let Parsed::Value(q) = r else {
         return r;
     };
-    let c = need(text, q, 58);
-    let Parsed::Value(e) = c else {
-        return c;
-    };
-    Parsed::Value(blanks(text, e))
+    colon_at(text, q)
 }
 
 // The whole text: exactly one value, with blanks around it.

@@ -1,3 +1,2 @@
-mod Given
 mod Putting
 pub mod Outcomes

@@ -7,7 +7,7 @@ use Rattle.counts.specs.Outcome.{Outcome, gives, refused, then, each}
 use Rattle.strings.specs.Rooms.{after, Owes}
 use Rattle.codes.specs.Codes.{code, left, Tells, alone}
 use Rattle.npy.specs.Calls.{Puts}
-use Rattle.npy.proofs.Given.{retold}
+use Rattle.codes.proofs.Named.{retold}
 
 module _ {A : Type 0} {given : Outcome A} (next : A → Outcome (List ℕ)) where
   pub then-put : {a : A} {answer : Outcome ℕ} {room room′ count count′ : List ℕ} {r : ℕ}

@@ -3,34 +3,28 @@
 -- its number only; every lent buffer stays unchanged. On success, room beyond what was needed is unchanged." Definitions only. Assumes nothing.
 use Prim.Native.Nat.{ℕ}
 use mathlib.Core.Path.{_≡_}
-use mathlib.Core.Bool.{Bool}
 use mathlib.Core.List.{List}
 use lib.ListN.{length}
 use Rattle.counts.specs.Outcome.{Outcome, then, each}
 use Rattle.type_str.specs.Text.{typePrinted, typePlaced}
 use Rattle.dtype.specs.Shape.{strides}
 use Rattle.shape.specs.Count as shape
-use Rattle.record.specs.Version.{versionOf}
 use Rattle.record.specs.Rooms.{Lent}
-use Rattle.record.specs.Header.{headerInto, lentAfter, filled}
+use Rattle.record.specs.Header.{headerInto, lentAfter}
 use Rattle.judge.specs.Judged.{reading}
-use Rattle.table.specs.Checked.{checkedRecord}
 use Rattle.header.specs.Answer as header
 use Rattle.write.specs.Writes.{headerWritten, headerPlaced}
-use Rattle.listing.specs.Answer.{listed, roomBy}
 use Rattle.strings.specs.Rooms.{after}
 use Rattle.codes.specs.Codes.{left, Tells, alone}
 use Rattle.codes.specs.Numbers.{orderFor, typeFor}
+pub use Rattle.told_held.specs.Held.{ReadsHeld}
+pub use Rattle.told_list.specs.Lists.{Lists}
 use Rattle.told_read.specs.Values.{textValues, headerValues}
 
 -- ---- reading: the three lent rooms, and what is said beside them
 pub record Reads (file : List ℕ) (l : Lent) (said : List ℕ) (r : ℕ) (l′ : Lent) (said′ : List ℕ) : Type 0 where
   pub told : Tells headerValues (each header.told (headerInto reading file l)) said r said′
   pub rooms : l′ ≡ lentAfter reading file l
-
-pub record ReadsHeld (longer : Bool) (file : List ℕ) (l : Lent) (said : List ℕ) (r : ℕ) (l′ : Lent) (said′ : List ℕ) : Type 0 where
-  pub told : Tells headerValues (each header.told (header.heldInto longer file l)) said r said′
-  pub rooms : l′ ≡ filled (header.heldInto longer file l) l
 
 pub record ReadsText (text : List ℕ) (l : Lent) (said : List ℕ) (r : ℕ) (l′ : Lent) (said′ : List ℕ) : Type 0 where
   pub told : Tells textValues (each header.saidOf (header.textInto text l)) said r said′
@@ -40,10 +34,6 @@ pub record ReadsText (text : List ℕ) (l : Lent) (said : List ℕ) (r : ℕ) (l
 pub record Writes (t ns s : List ℕ) (order : ℕ) (room count : List ℕ) (r : ℕ) (room′ count′ : List ℕ) : Type 0 where
   pub told : Tells alone (then (orderFor order) (λ o. headerWritten t ns s o room)) count r count′
   pub room-after : room′ ≡ left (λ o. headerPlaced t ns s o room) (orderFor order) room
-
-pub record Lists (version start : ℕ) (t ns s : List ℕ) (order : ℕ) (room count : List ℕ) (r : ℕ) (room′ count′ : List ℕ) : Type 0 where
-  pub told : Tells alone (then (versionOf version 0) (λ v. then (orderFor order) (λ o. listed v start t ns s o room))) count r count′
-  pub room-after : room′ ≡ left (λ v. left (λ o. roomBy (checkedRecord t ns s o) v start room) (orderFor order) room) (versionOf version 0) room
 
 pub record Strides (s : List ℕ) (order : ℕ) (room count : List ℕ) (r : ℕ) (room′ count′ : List ℕ) : Type 0 where
   pub told : Tells alone (then (orderFor order) (λ o. shape.stridesCount o s (length room))) count r count′

@@ -1,10 +1,8 @@
 // The C interface (include/npy.h): each function is one of the crates below, told as numbers. It returns 0 and writes its values, or returns document 01's number and
 // leaves all that it was lent as it was. Orders, versions and types are given by their numbers, so any number is an input. No function here has a `requires`.
 use codes::OrderGiven;
-use codes::VersionGiven;
 use counts::Bytes;
 use entries::EntryType;
-ghost use lib.ListN.{length};
 ghost use Rattle.counts.specs.Outcome.{then, each};
 ghost use Rattle.type_str.specs.TypeString.{typeString};
 ghost use Rattle.shape.specs.Count.{itemCount};
@@ -46,7 +44,7 @@ pub extern "C" fn npy_read_held(
 ) -> u8
     ensures { λ r. ⌜ ReadsHeld longer (now (file .entry)) (lent (now (table .entry)) (now (names .entry)) (now (shape .entry))) (now (said .entry)) r (lent (now (table .exit)) (now (names .exit)) (now (shape .exit))) (now (said .exit)) ⌝ }
 {
-    told_read::tell_header(header::read_held(file, longer, table, names, shape), said)
+    told_held::read_held(file, longer, table, names, shape, said)
 }
 
 // The record of a header's text, of any length; `said` is its order, rank, entries and name bytes.
@@ -112,16 +110,7 @@ pub extern "C" fn npy_list(
 ) -> u8
     ensures { λ r. ⌜ Lists version start (now (table .entry)) (now (names .entry)) (now (shape .entry)) order (now (out .entry)) (now (count .entry)) r (now (out .exit)) (now (count .exit)) ⌝ }
 {
-    let VersionGiven::Is(v) = codes::version_for(version) else {
-        return 2;
-    };
-    let OrderGiven::Is(o) = codes::order_for(order) else {
-        return 27;
-    };
-    told_write::tell_listed(
-        listing::list(v, Bytes(start), table, names, shape, o, out),
-        count,
-    )
+    told_list::list(version, start, table, names, shape, order, out, count)
 }
 
 // The item count of a shape.

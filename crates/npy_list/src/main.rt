@@ -4,7 +4,7 @@ use libc::STDOUT_FILENO;
 use report::Reported;
 
 fn main() {
-    let mut file = [0u8; report::HELD + 1];
+    let mut file = [0u8; fronts::HELD + 1];
     let n = io::read_full(STDIN_FILENO, &mut file);
     let mut out = [0u8; 131072];
     match report::report(&file[..n], &mut out) {

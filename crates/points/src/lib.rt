@@ -60,7 +60,7 @@ pub fn point_at(run: &[u8], order: Endianness, at: usize) -> PointRead
         return PointRead::BadScalar;
     }
     let value = n as u32;
-    if !utf8::is_scalar(value) {
+    if !scalar::is_scalar(value) {
         return PointRead::BadScalar;
     }
     PointRead::Scalar(value)
@@ -72,7 +72,7 @@ pub fn all_scalars(value: &[u32]) -> bool
 {
     let mut i: usize = 0;
     while i < value.len() {
-        if !utf8::is_scalar(value[i]) {
+        if !scalar::is_scalar(value[i]) {
             return false;
         }
         i += 1;

@@ -1,4 +1,3 @@
-pub mod Types
 pub mod Listing
 pub mod Walking
 pub mod Texts

@@ -1,4 +1,4 @@
--- The walk that prints: a sub-shape, a plain type, a record, what stands under array levels, and the loop over a record's fields, each from what the functions that it calls have
+-- The walk that prints: a plain type, a record, what stands under array levels, and the loop over a record's fields, each from what the functions that it calls have
 -- written. Assumes nothing.
 use Prim.Native.Nat.{ℕ, _+_, _-_, _<_, _≤_}
 use native.Mathlib.Omega.{arith}
@@ -8,12 +8,12 @@ use mathlib.Core.List.{List, [], _∷_}
 use borrow.Author.Tests.{not-false}
 use lib.ListN.{length, take, drop, length-drop, length-append}
 use lib.Seq.{sets, drop-drop, take-append-seam, drop-append-seam}
-use Rattle.counts.specs.Outcome.{gives}
+use Rattle.counts.specs.Outcome.{Outcome, gives}
 use Rattle.emit.specs.Emits.{Emits, capped}
 use Rattle.emit.proofs.Pieces.{emits-then, emits-same, emits-length}
 use Rattle.grammar.specs.Print.{Layout, quote, print, printRow}
 use Rattle.type_str.specs.declared.TypeStr.{TypeStr}
-use Rattle.type_str.specs.Text.{typeText, isType}
+use Rattle.type_str.specs.Text.{isType}
 use Rattle.dtype.specs.declared.Entry.{Entry}
 use Rattle.dtype.specs.Dtype.{Dtype, Fields, plain, array, record-of, end-of-fields, field-then}
 use Rattle.dtype.specs.Entries.{fieldCount, entriesOf, entriesIn, someEntryIn, plainOnly}
@@ -22,36 +22,16 @@ use Rattle.dtype.specs.Flat.{entryOf}
 use Rattle.dtype.specs.Agrees.{entryAt}
 use Rattle.dtype.proofs.Flat.{some-entry, names-drop, names-length}
 use Rattle.dtype.proofs.Seen.{or-left, or-right}
-use Rattle.record.specs.Layout.{dimensionRow, levelsOf, fieldLayout, descrLayout, fieldRow}
+use Rattle.record.specs.Layout.{levelsOf, fieldLayout, descrLayout, fieldRow}
 use Rattle.whole.specs.Reading.{untyped}
 use Rattle.entries.specs.EntryType.{typeOf}
 use Rattle.entries.proofs.Types.{type-of-written}
 use Rattle.print.specs.declared.inner.Spot.{Spot}
 use Rattle.depth.specs.Listed.{Listed, innermostOf, Innermost}
 use Rattle.depth.proofs.Listing.{listed-entry, listed-room, listed-fields, listed-first, listed-later, innermost-descr, under-record}
-use Rattle.print.specs.Walk.{subText, Stands, StandsIn, Walked}
-use Rattle.print.proofs.Listing.{innermost-names, innermost-bytes, innermost-typed, innermost-entries}
-
--- ---- `close_field`
-module _ (t : List ℕ) (e : ℕ) (x : Entry) (q : x ≡ entryAt t e) (old : List ℕ) (at : ℕ) (out : List ℕ) (p : ℕ) where
-  kind-of : (d : Dtype) (l : Listed t e d) → x .kind ≡ entryOf d (l .up) (l .name) .kind
-  kind-of d l = ap (λ (a : Entry). a .kind) (q ∙ listed-entry t e d l)
-
-  pub sub-none : (x .kind ≡ 1 → ⊥) → Emits (λ z. 41 ∷ 44 ∷ 32 ∷ z) old at out p → (d : Dtype) → Listed t e d
-      → Emits (λ z. subText (levelsOf d) (41 ∷ 44 ∷ 32 ∷ z)) old at out p
-  sub-none k h (plain ty) l = h
-  sub-none k h (array n d) l = absurd (k (kind-of (array n d) l))
-  sub-none k h (record-of fs) l = h
-
-  pub sub-some : x .kind ≡ 1 → (m₁ : List ℕ) (p₁ : ℕ) (m₂ : List ℕ) (p₂ : ℕ) → Emits (λ z. 44 ∷ 32 ∷ 40 ∷ z) old at m₁ p₁
-      → ((d : Dtype) → Listed t e d → Emits (printRow (dimensionRow 0 (levelsOf d))) m₁ p₁ m₂ p₂) → Emits (λ z. 41 ∷ 41 ∷ 44 ∷ 32 ∷ z) m₂ p₂ out p
-      → (d : Dtype) → Listed t e d → Emits (λ z. subText (levelsOf d) (41 ∷ 44 ∷ 32 ∷ z)) old at out p
-  sub-some k m₁ p₁ m₂ p₂ a b c (plain ty) l = absurd (omega (arith, kind-of (plain ty) l))
-  sub-some k m₁ p₁ m₂ p₂ a b c (array n d) l =
-      let row = printRow (dimensionRow 0 (levelsOf (array n d))) in
-      emits-then (λ z. 44 ∷ 32 ∷ 40 ∷ row z) (λ z. 41 ∷ 41 ∷ 44 ∷ 32 ∷ z) old at m₂ p₂ out p
-      (emits-then (λ z. 44 ∷ 32 ∷ 40 ∷ z) row old at m₁ p₁ m₂ p₂ a (b (array n d) l)) c
-  sub-some k m₁ p₁ m₂ p₂ a b c (record-of fs) l = absurd (omega (arith, kind-of (record-of fs) l))
+use Rattle.pieces.specs.Pieces.{typePiece, levelsAt, subText}
+use Rattle.print.specs.Walk.{Stands, StandsIn, Walked}
+use Rattle.print.proofs.Listing.{levels-listed, innermost-names, innermost-bytes, innermost-typed, innermost-entries}
 
 -- ---- `put_descr`
 module _ (t ns : List ℕ) (e b : ℕ) where
@@ -78,9 +58,9 @@ module _ (t ns : List ℕ) (e b : ℕ) where
         ∙ simp (not-false (isType ty) (s .typed))
 
     pub plain-walked : x .kind ≡ 0 → (old : List ℕ) (at : ℕ) (out : List ℕ) (p : ℕ)
-        → ((ty : TypeStr) → typeOf x ≡ gives ty → Emits (print (quote (typeText ty []))) old at out p) → (d : Dtype) → Stands t ns e b d
+        → Emits (typePiece (typeOf x)) old at out p → (d : Dtype) → Stands t ns e b d
         → Walked (print (descrLayout d)) (entriesOf d) (nameBytes d) old e b at out (record { entry = e + 1; byte = b; at = p })
-    plain-walked k old at out p h (plain ty) s = record { emits = h ty (type-is ty s); next = refl; next-name = omega arith }
+    plain-walked k old at out p h (plain ty) s = record { emits = subst (λ (o : Outcome TypeStr). Emits (typePiece o) old at out p) (type-is ty s) h; next = refl; next-name = omega arith }
     plain-walked k old at out p h (array n d) s = absurd (omega (arith, kind-is (array n d) s))
     plain-walked k old at out p h (record-of fs) s = absurd (omega (arith, kind-is (record-of fs) s))
 
@@ -221,7 +201,7 @@ module _ (t ns : List ℕ) (c start : ℕ) (x : Entry) (q : x ≡ entryAt t c) w
     module _ (m₁ : List ℕ) (p₁ : ℕ) (m₂ : List ℕ) (r : Spot) (out′ : List ℕ) (p′ : ℕ)
         (opened : Emits (λ z. 40 ∷ print (quote (take (start + x .name - start) (drop start ns))) (44 ∷ 32 ∷ z)) out p m₁ p₁)
         (walked : (d : Dtype) → Stands t ns c (start + x .name) d → Walked (print (descrLayout d)) (entriesOf d) (nameBytes d) m₁ c (start + x .name) p₁ m₂ r)
-        (closed : (d : Dtype) → Listed t c d → Emits (λ z. subText (levelsOf d) (41 ∷ 44 ∷ 32 ∷ z)) m₂ (r .at) out′ p′) where
+        (closed : Emits (λ z. subText (levelsAt t c) (41 ∷ 44 ∷ 32 ∷ z)) m₂ (r .at) out′ p′) where
       field-emits : (name : List ℕ) (d : Dtype) → Next t ns c start x name d → Emits (λ z. print (fieldLayout name (descrLayout d) (levelsOf d)) (44 ∷ 32 ∷ z)) out p out′ p′
       field-emits name d n =
           let head : List ℕ → List ℕ → List ℕ = λ w z. 40 ∷ print (quote w) (44 ∷ 32 ∷ z) in
@@ -231,7 +211,7 @@ module _ (t ns : List ℕ) (c start : ℕ) (x : Entry) (q : x ≡ entryAt t c) w
           (λ z. field-text name (descrLayout d) (levelsOf d) z)
           (emits-then (λ z. head name (inner z)) (λ z. subText (levelsOf d) (41 ∷ 44 ∷ 32 ∷ z)) out p m₂ (r .at) out′ p′
           (emits-then (head name) inner out p m₁ p₁ m₂ (r .at) open-is (walked d (n .inner) .emits))
-          (closed d (n .inner .listed)))
+          (subst (λ (l : List ℕ). Emits (λ z. subText l (41 ∷ 44 ∷ 32 ∷ z)) m₂ (r .at) out′ p′) (levels-listed (length t) t c d (n .inner .listed) (omega arith)) closed))
 
       pub going-more : Going t ns e b old at out′ (r .entry) (r .byte) p′ (left - 1) fs
       going-more = go (g .still) (g .counted) (g .stands) (g .entries) (g .bytes) (g .stored) (g .behind)

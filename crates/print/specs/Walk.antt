@@ -4,23 +4,16 @@
 use Prim.Native.Nat.{ℕ, _+_, _≤_}
 use mathlib.Core.Path.{_≡_}
 use mathlib.Core.Bool.{false, not}
-use mathlib.Core.List.{List, [], _∷_}
+use mathlib.Core.List.{List}
 use lib.ListN.{length, drop}
 use Rattle.emit.specs.Emits.{Emits}
-use Rattle.grammar.specs.Print.{print}
 use Rattle.type_str.specs.Text.{isType}
 use Rattle.dtype.specs.Dtype.{Dtype, Fields}
 use Rattle.dtype.specs.Entries.{someEntryIn, plainOnly}
 use Rattle.dtype.specs.Names.{namesOf, namesIn}
-use Rattle.record.specs.Layout.{shapeLayout}
 use Rattle.whole.specs.Reading.{untyped}
 use Rattle.depth.specs.Listed.{Listed, ListedIn}
 use Rattle.print.specs.declared.inner.Spot.{Spot}
-
--- a field's sub-shape behind its type, in front of r: nothing where it has none
-abbrev pub subText : (levels : List ℕ) → List ℕ → List ℕ
-subText [] r = r
-subText (n ∷ ns) r = 44 ∷ 32 ∷ print (shapeLayout 0 (n ∷ ns)) r
 
 -- d is listed from entry e on and its names from byte b on, and type strings give its types
 pub record Stands (t ns : List ℕ) (e b : ℕ) (d : Dtype) : Type 0 where

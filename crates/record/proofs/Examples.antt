@@ -11,7 +11,7 @@ use Rattle.grammar.specs.Bytes.{isBlank, isQuote, isBreak, isEscape, unescape}
 use Rattle.grammar.specs.Print.{spaces, escapeOf}
 use Rattle.grammar.proofs.Reading.{skip, afterDigits, natural, word, quoted, parted, upTo, paired, bracketed, kindOf, value, alone, literal}
 use Rattle.grammar.proofs.Kept.{placed, kept-at}
-use Rattle.utf8.specs.Scalar.{isScalar}
+use Rattle.scalar.specs.Scalar.{isScalar}
 use Rattle.utf8.specs.Decode.{extend, shortest, front, scan}
 use Rattle.spelling.specs.declared.Endianness.the-variants.{Little, Irrelevant}
 use Rattle.spelling.specs.declared.TypeChar.the-variants.{Bool as Boolean, Int, UnicodeStr}

@@ -11,7 +11,7 @@ use lib.Seq.{take-all, take-take, getD-take, length-take-le}
 use borrow.Author.Tests.{le-ltb}
 use Rattle.counts.specs.Outcome.{then, unless}
 use Rattle.counts.specs.Same.{same}
-use Rattle.utf8.proofs.Scalars.{side}
+use Rattle.scalar.proofs.Scalars.{side}
 use Rattle.record.specs.Version.{Version, one-zero, two-zero, three-zero, versionOf, lengthWidth, textStart}
 use Rattle.record.specs.Prefix.{magic, Prefix, dataStart, lengthRead, prefix, textOf}
 use Rattle.record.specs.Rooms.{Rooms}

@@ -1,4 +1,2 @@
-pub mod Accepted
-pub mod Rooms
 pub mod Whole
 pub mod Outcomes

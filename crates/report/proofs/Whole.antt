@@ -25,14 +25,15 @@ use Rattle.judge.proofs.Top.{reading-keeps}
 use Rattle.fill.specs.declared.Said.{Said}
 use Rattle.header.specs.declared.Header.{Header}
 use Rattle.header.specs.declared.HeaderRead.{HeaderRead}
+use Rattle.fronts.specs.Held.{held-bytes}
 use Rattle.header.specs.Answer.{Told, told, headerIs, missing, textHeld, behind, heldInto, ReadsHeld}
 use Rattle.listing.specs.declared.Listed.{Listed}
 use Rattle.listing.specs.Answer as lists
 use Rattle.report.specs.declared.Reported.{Reported}
-use Rattle.report.specs.Rooms.{tableIn, namesIn, shapeIn, Holds}
-use Rattle.report.specs.Report.{held-bytes, fresh, refusedLine, textFor, reportOf, Writes, Reports}
-use Rattle.report.proofs.Accepted.{read-checked}
-use Rattle.report.proofs.Rooms.{stands-by, checked-fronts}
+use Rattle.rooms.specs.Rooms.{tableIn, namesIn, shapeIn, Holds}
+use Rattle.report.specs.Report.{fresh, refusedLine, textFor, reportOf, Writes, Reports}
+use Rattle.rooms.proofs.Accepted.{read-checked}
+use Rattle.rooms.proofs.Rooms.{stands-by, checked-fronts}
 
 -- ---- a header of a file that is held in part is one of the bytes that are held
 text-whole : (longer : Bool) (p : Prefix) (file s : List ℕ) → textHeld longer p file ≡ gives s → textOf p file ≡ gives s

@@ -1,6 +1,6 @@
 -- Document 01, "What the collector buys": "A small program reads a file on standard input and lists its record. It starts from a fresh table of 512 empty entries. It holds the
 -- file's first 65,536 bytes and 16,384 name bytes; a longer file whose header ends past those gets 23 right after 4; too many name bytes get 23 last. .. A refusal prints
--- `refused` and the number." How a header is read with so many first bytes is Answer.antt of crate header, its listing Listing.antt of crate lines. Definitions only. Assumes nothing.
+-- `refused` and the number." How many first bytes are held is Held.antt of crate fronts, how a header is read from them Answer.antt of crate header, its listing Listing.antt of crate lines. Definitions only. Assumes nothing.
 use Prim.Native.Nat.{ℕ, _*_}
 use mathlib.Core.Path.{_≡_}
 use mathlib.Core.List.{List, [], _∷_}
@@ -13,12 +13,9 @@ use Rattle.dtype.specs.Flat.{entry-width}
 use Rattle.record.specs.Rooms.{Lent}
 use Rattle.record.specs.Header.{Header}
 use Rattle.lines.specs.Listing.{listing}
+use Rattle.fronts.specs.Held.{held-bytes}
 use Rattle.header.specs.Answer.{heldInto}
 use Rattle.report.specs.declared.Reported.{Reported}
-
--- "It holds the file's first 65,536 bytes"
-abbrev pub held-bytes : ℕ
-held-bytes = 65536
 
 -- "a fresh table of 512 empty entries", "16,384 name bytes", and room for the 32 dimensions of a shape
 unfoldable pub fresh : Lent

@@ -4,20 +4,15 @@ use header::Header;
 use header::HeaderRead;
 use listing::Listed;
 use refusal::Refusal;
-ghost use mathlib.Core.Path.{_≡_};
 ghost use mathlib.Core.List.{[]};
-ghost use lib.ListN.{take};
 ghost use Rattle.refusal.specs.Numbers.{numberOf};
 ghost use Rattle.emit.specs.Emits.{Emits};
 ghost use Rattle.dtype.specs.Record.{Record};
 ghost use Rattle.prefix.specs.Answer.{versionIs};
 ghost use Rattle.lines.specs.Listing.{listing};
 ghost use Rattle.header.specs.Answer.{lent};
-ghost use Rattle.report.specs.Rooms.{Holds};
-ghost use Rattle.report.specs.Report.{held-bytes, refusedLine, Writes, Reports};
-
-// How many of a file's first bytes are held.
-pub const HELD: usize = 65536;
+ghost use Rattle.rooms.specs.Rooms.{Holds};
+ghost use Rattle.report.specs.Report.{refusedLine, Writes, Reports};
 
 // How many bytes were written; or 28.
 pub enum Reported {
@@ -32,21 +27,18 @@ pub fn report(file: &[u8], out: &mut [u8]) -> Reported
     let mut table = [0u64; 4608];
     let mut names = [0u8; 16384];
     let mut shape = [0u64; 32];
-    let longer = HELD < file.len();
-    let r = header::read_held(held(file), longer, &mut table, &mut names, &mut shape);
+    let longer = fronts::HELD < file.len();
+    let r = header::read_held(
+        fronts::held(file),
+        longer,
+        &mut table,
+        &mut names,
+        &mut shape,
+    );
     match r {
         HeaderRead::Read(h) => list_header(h, &table, &names, &shape, out),
         HeaderRead::Refused(why) => put_refused(why, out),
     }
-}
-
-fn held(file: &[u8]) -> &[u8]
-    ensures { λ r. ⌜ now r ≡ take held-bytes (now (file .entry)) ⌝ }
-{
-    if HELD < file.len() {
-        return &file[..HELD];
-    }
-    file
 }
 
 // The listing of a header that was read to the rooms.
@@ -60,9 +52,9 @@ fn list_header(h: Header, table: &[u64], names: &[u8], shape: &[u64], out: &mut 
     let r = listing::list(
         version,
         start,
-        header::table_of(table, said.entries),
-        header::names_of(names, said.names),
-        header::shape_of(shape, said.rank),
+        fronts::table_of(table, said.entries),
+        fronts::names_of(names, said.names),
+        fronts::shape_of(shape, said.rank),
         order,
         out,
     );

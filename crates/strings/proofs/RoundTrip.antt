@@ -15,8 +15,8 @@ use Rattle.counts.proofs.Alike.{and-left, and-right}
 use Rattle.numbers.specs.Numbers.{inOrder, outOrder}
 use Rattle.numbers.proofs.Runs.{length-out}
 use Rattle.numbers.proofs.Widths.{in-out}
-use Rattle.utf8.specs.Scalar.{isScalar}
-use Rattle.utf8.proofs.Scalars.{scalar-low, scalar-below}
+use Rattle.scalar.specs.Scalar.{isScalar}
+use Rattle.scalar.proofs.Scalars.{scalar-low, scalar-below}
 use Rattle.type_str.specs.Text.{isType}
 use Rattle.spelling.specs.declared.Endianness.{Endianness}
 use Rattle.type_str.specs.declared.TypeStr.{TypeStr}

@@ -10,8 +10,8 @@ use lib.Seq.{drop-drop, drop-cons}
 use borrow.Author.Tests.{lt-ltb, le-ltb}
 use Rattle.counts.specs.Outcome.{Outcome, gives, refused, then, each}
 use Rattle.numbers.specs.Numbers.{inOrder}
-use Rattle.utf8.specs.Scalar.{isScalar}
-use Rattle.utf8.proofs.Scalars.{scalar-over}
+use Rattle.scalar.specs.Scalar.{isScalar}
+use Rattle.scalar.proofs.Scalars.{scalar-over}
 use Rattle.spelling.specs.declared.Endianness.{Endianness}
 use Rattle.strings.specs.Elements.{trimmed, scalar, point, points, found}
 use Rattle.strings.specs.Runs.{allScalars}

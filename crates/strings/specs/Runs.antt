@@ -7,7 +7,7 @@ use lib.Dec.{eqb, ltb}
 use lib.ListN.{length, replicate}
 use Rattle.counts.specs.Outcome.{Outcome, gives, refused, unless}
 use Rattle.numbers.specs.Numbers.{outOrder}
-use Rattle.utf8.specs.Scalar.{isScalar}
+use Rattle.scalar.specs.Scalar.{isScalar}
 use Rattle.spelling.specs.declared.Endianness.{Endianness}
 use Rattle.strings.specs.declared.Kind.{Kind}
 

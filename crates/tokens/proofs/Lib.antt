@@ -1,4 +1,5 @@
 pub mod Positions
+mod Blocks
 pub mod Spelling
 pub mod Matching
 pub mod Words

@@ -1,10 +1,10 @@
--- A text by positions: its bytes, parts of it, what a byte can begin, and runs of blanks and of digits. The classes of bytes are those of crates
+-- A text by positions: its bytes, parts of it, what a byte can begin, and runs and blocks of bytes that pass a test. The classes of bytes are those of crates
 -- grammar and decimal. Definitions only. Assumes nothing.
 use Prim.Native.Nat.{ℕ, suc, _+_, _-_}
 use mathlib.Core.List.{List, [], _∷_}
-use mathlib.Core.Bool.{Bool, true, false, cond}
-use lib.ListN.{getD, take, drop}
-use lib.Dec.{eqb}
+use mathlib.Core.Bool.{Bool, true, false, cond, _&&_}
+use lib.ListN.{length, getD, take, drop}
+use lib.Dec.{eqb, leb}
 use Rattle.grammar.specs.Bytes.{isBlank, isQuote}
 use Rattle.decimal.specs.Decimal.{isDigit}
 use Rattle.tokens.specs.declared.bytes.Kind.{Kind}
@@ -40,6 +40,15 @@ run f (b ∷ s) = elim (f b) [ true ↦ suc (run f s) | false ↦ 0 ]
 -- the first position from `at` on whose byte fails a test
 unfoldable pub past : (ℕ → Bool) → List ℕ → ℕ → ℕ
 past f s at = at + run f (drop at s)
+
+-- whether each byte of a list passes a test
+unfoldable pub all : (ℕ → Bool) → List ℕ → Bool
+all f [] = true
+all f (b ∷ s) = f b && all f s
+
+-- whether the text has n bytes from a position on, and each passes a test
+abbrev pub blockAt : (ℕ → Bool) → ℕ → List ℕ → ℕ → Bool
+blockAt f n s at = leb (at + n) (length s) && all f (part s at (at + n))
 
 -- "Blanks are space, tab, LF, CR, allowed around any token"
 abbrev pub skip : List ℕ → ℕ → ℕ

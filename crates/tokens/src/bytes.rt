@@ -3,7 +3,7 @@
 ghost use mathlib.Core.Path.{_≡_};
 ghost use Rattle.grammar.specs.Bytes.{isBlank, isQuote, isOpen, isBreak, isEscape, unescape as unescapeOf};
 ghost use Rattle.decimal.specs.Decimal.{isDigit};
-ghost use Rattle.tokens.specs.Text.{byteAt, kindOf, past, skip};
+ghost use Rattle.tokens.specs.Text.{byteAt, kindOf, past, skip, all, blockAt};
 
 // What a byte can begin.
 pub enum Kind {
@@ -108,8 +108,35 @@ pub fn kind_of(b: u16) -> Kind
     }
 }
 
-// The first position from `from` on that holds no blank.
-pub fn blanks(text: &[u8], from: usize) -> usize
+// Whether each byte of a block is a blank: one pass that no byte ends early, so that the compiler takes the whole block at a time.
+fn all_blank(block: &[u8]) -> bool
+    ensures { λ r. ⌜ r ≡ all isBlank (now (block .entry)) ⌝ }
+{
+    let mut blank = true;
+    let mut i: usize = 0;
+    while i < block.len() {
+        let b = block[i];
+        blank = blank & ((b == 32) | (b == 9) | (b == 10) | (b == 13));
+        i += 1;
+    }
+    blank
+}
+
+// Whether n blanks stand from `at` on.
+fn blank_block(text: &[u8], at: usize, n: usize) -> bool
+    ensures { λ r. ⌜ r ≡ blockAt isBlank n (now (text .entry)) at ⌝ }
+{
+    if text.len() < n {
+        return false;
+    }
+    if text.len() - n < at {
+        return false;
+    }
+    all_blank(&text[at..at + n])
+}
+
+// The first position from `from` on that holds no blank, byte by byte.
+fn blanks_rest(text: &[u8], from: usize) -> usize
     ensures { λ r. ⌜ r ≡ skip (now (text .entry)) from ⌝ }
 {
     let mut at = from;
@@ -120,6 +147,37 @@ pub fn blanks(text: &[u8], from: usize) -> usize
         at += 1;
     }
     at
+}
+
+// The same by blocks of 16, for many blanks.
+fn blanks_far(text: &[u8], from: usize) -> usize
+    ensures { λ r. ⌜ r ≡ skip (now (text .entry)) from ⌝ }
+{
+    let mut at = from;
+    while blank_block(text, at, 16) {
+        at += 16;
+    }
+    blanks_rest(text, at)
+}
+
+// The same for any. Mostly there is none or one, and a block would be in vain.
+pub fn blanks(text: &[u8], from: usize) -> usize
+    ensures { λ r. ⌜ r ≡ skip (now (text .entry)) from ⌝ }
+{
+    if text.len() <= from {
+        return from;
+    }
+    if !is_blank(text[from]) {
+        return from;
+    }
+    let next = from + 1;
+    if text.len() <= next {
+        return next;
+    }
+    if !is_blank(text[next]) {
+        return next;
+    }
+    blanks_far(text, next + 1)
 }
 
 // The first position from `from` on that holds no digit.

@@ -6,7 +6,7 @@ ghost use lib.Dec.{ltb};
 ghost use lib.ListN.{set};
 ghost use lib.Seq.{sets};
 ghost use Rattle.tokens.specs.Strings.{escapeAt, pieceAt, isPlain, endBy, spelled, scanned};
-ghost use Rattle.tokens.specs.Text.{past};
+ghost use Rattle.tokens.specs.Text.{past, all, blockAt};
 ghost use Rattle.counts.specs.Same.{same};
 use super::Parsed;
 use super::bytes::is_break;
@@ -73,8 +73,42 @@ fn is_plain(b: u8, quote: u8) -> bool
     !((b == quote) | is_break(b))
 }
 
-// The first position from `from` on where no byte stands that stands for itself.
-fn plain_to(text: &[u8], from: usize, quote: u8) -> usize
+// The lesser of two numbers.
+fn least(a: usize, b: usize) -> usize
+    ensures { λ r. ⌜ r ≡ cond (ltb a b) a b ⌝ }
+{
+    if a < b { a } else { b }
+}
+
+// Whether each byte of a block stands for itself: one pass that no byte ends early, so that the compiler takes the whole block at a time.
+fn all_plain(block: &[u8], quote: u8) -> bool
+    ensures { λ r. ⌜ r ≡ all (isPlain quote) (now (block .entry)) ⌝ }
+{
+    let mut plain = true;
+    let mut i: usize = 0;
+    while i < block.len() {
+        let b = block[i];
+        plain = plain & (b != quote) & (b != 92) & (b != 10) & (b != 13);
+        i += 1;
+    }
+    plain
+}
+
+// Whether n bytes that stand for themselves stand from `at` on.
+fn plain_block(text: &[u8], at: usize, n: usize, quote: u8) -> bool
+    ensures { λ r. ⌜ r ≡ blockAt (isPlain quote) n (now (text .entry)) at ⌝ }
+{
+    if text.len() < n {
+        return false;
+    }
+    if text.len() - n < at {
+        return false;
+    }
+    all_plain(&text[at..at + n], quote)
+}
+
+// The first position from `from` on where no byte stands that stands for itself, byte by byte.
+fn plain_rest(text: &[u8], from: usize, quote: u8) -> usize
     ensures { λ r. ⌜ r ≡ past (isPlain quote) (now (text .entry)) from ⌝ }
 {
     let mut at = from;
@@ -87,6 +121,46 @@ fn plain_to(text: &[u8], from: usize, quote: u8) -> usize
     at
 }
 
+// The same by blocks of 32, for a long run.
+fn plain_far(text: &[u8], from: usize, quote: u8) -> usize
+    ensures { λ r. ⌜ r ≡ past (isPlain quote) (now (text .entry)) from ⌝ }
+{
+    let mut at = from;
+    while plain_block(text, at, 32, quote) {
+        at += 32;
+    }
+    plain_rest(text, at, quote)
+}
+
+// The same for a run of which nothing is known. Most are short, and a block would be in vain: it is tried behind 16 bytes.
+fn plain_any(text: &[u8], from: usize, quote: u8) -> usize
+    ensures { λ r. ⌜ r ≡ past (isPlain quote) (now (text .entry)) from ⌝ }
+{
+    if text.len() <= from {
+        return from;
+    }
+    let near = from + least(text.len() - from, 16);
+    let mut at = from;
+    while at < near {
+        if !is_plain(text[at], quote) {
+            return at;
+        }
+        at += 1;
+    }
+    plain_far(text, at, quote)
+}
+
+// The same in a string in which an escape was met, or none: behind an escape the next one is mostly near.
+fn plain_to(text: &[u8], from: usize, quote: u8, escape: bool) -> usize
+    ensures { λ r. ⌜ r ≡ past (isPlain quote) (now (text .entry)) from ⌝ }
+{
+    if escape {
+        plain_rest(text, from, quote)
+    } else {
+        plain_any(text, from, quote)
+    }
+}
+
 // Passes over a string, up to its end or its fault.
 pub fn scan_at(text: &[u8], from: usize, quote: u8) -> Scan
     ensures { λ r. ⌜ r ≡ scanned (spelled quote (now (text .entry)) from) ⌝ }
@@ -95,7 +169,7 @@ pub fn scan_at(text: &[u8], from: usize, quote: u8) -> Scan
     let mut len: usize = 0;
     let mut escape = false;
     loop {
-        let to = plain_to(text, at, quote);
+        let to = plain_to(text, at, quote, escape);
         len += to - at;
         let p = piece_at(text, to, quote);
         match p {
@@ -129,13 +203,6 @@ fn put(out: &mut [u8], at: usize, b: u8)
     if at < out.len() {
         out[at] = b;
     }
-}
-
-// The lesser of two numbers.
-fn least(a: usize, b: usize) -> usize
-    ensures { λ r. ⌜ r ≡ cond (ltb a b) a b ⌝ }
-{
-    if a < b { a } else { b }
 }
 
 // Stores in a row, as many as have room: how many that is, is known before the first, so that the compiler takes many bytes at a time.
@@ -180,7 +247,7 @@ pub fn decode(text: &[u8], from: usize, quote: u8, out: &mut [u8]) -> Scan
     let mut len: usize = 0;
     let mut escape = false;
     loop {
-        let to = plain_to(text, at, quote);
+        let to = plain_to(text, at, quote, escape);
         put_run(out, len, &text[at..to]);
         len += to - at;
         let p = piece_at(text, to, quote);

@@ -16,7 +16,7 @@ use Rattle.spelling.specs.Classes.{isObject}
 use Rattle.type_str.specs.TypeString.{sizeStands, sized as sizedOf, sizedBy, syntax}
 use Rattle.type_read.specs.Spells.{Digits, Spells, object, sized}
 use Rattle.spelling.proofs.Tables.{order-spelled, letter-spelled, order-read, letter-read}
-use Rattle.units.proofs.Tables.{units-spelled, units-read}
+use Rattle.units_read.proofs.Tables.{units-spelled, units-read}
 use Rattle.type_read.proofs.RoundTrip.{units-stop, sized-as}
 use Rattle.spelling.specs.declared.Endianness.{Endianness}
 use Rattle.spelling.specs.declared.TypeChar.{TypeChar}

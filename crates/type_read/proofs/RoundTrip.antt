@@ -21,7 +21,7 @@ use Rattle.rules.specs.Rules.{allows}
 use Rattle.type_str.specs.TypeString.{none, sizeStands, sized, sizedBy, syntax, lacksOrder, misplacesUnits, validated, checked, typeString}
 use Rattle.type_str.specs.Text.{sizeText, typeText, passes, isType}
 use Rattle.spelling.proofs.Tables.{order-spelled, letter-spelled}
-use Rattle.units.proofs.Tables.{units-spelled}
+use Rattle.units_read.proofs.Tables.{units-spelled}
 use Rattle.spelling.specs.declared.Endianness.{Endianness}
 use Rattle.spelling.specs.declared.TypeChar.{TypeChar}
 use Rattle.units.specs.declared.TimeUnits.{TimeUnits}

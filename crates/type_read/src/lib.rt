@@ -64,7 +64,7 @@ fn sized(order: Endianness, letter: TypeChar, text: &[u8]) -> Split
     if !size_stands(letter, count) {
         return Split::Fault;
     }
-    let UnitsRead::Units(units) = TimeUnits::from_text(&text[count..]) else {
+    let UnitsRead::Units(units) = units_read::from_text(&text[count..]) else {
         return Split::Fault;
     };
     let size = digits.number;

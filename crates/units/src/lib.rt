@@ -1,11 +1,9 @@
-// How type strings spell units (document 01, "The record"): an enum, read from bytes and written as bytes. What is spelled otherwise is a fault of syntax, 15.
-// What each answer stands for is in specs/Answer.antt. No public function has a `requires`.
+// How type strings spell units (document 01, "The record"): an enum, written as bytes; crate units_read reads it. What is spelled otherwise is a fault of syntax, 15.
+// What an answer of crates units_read and entries, `UnitsRead`, stands for is in specs/Answer.antt. No public function has a `requires`.
 ghost use mathlib.Core.Path.{_≡_};
-ghost use mathlib.Core.List.{[], _∷_};
 ghost use lib.ListN.{getD};
 ghost use Rattle.emit.specs.Emits.{Emits};
-ghost use Rattle.units.specs.Units.{unitName, isOne, unitText, unitsOf, isAbsent};
-ghost use Rattle.units.specs.Answer.{unitsAnswer};
+ghost use Rattle.units.specs.Units.{unitName, isOne, unitText, isAbsent};
 
 // The units in brackets: Y M W D h m s ms us ns ps fs as, in this order, or none at all.
 pub enum TimeUnits {
@@ -31,22 +29,6 @@ pub enum UnitsRead {
 }
 
 impl TimeUnits {
-    // Reads what stands behind a type string's size: nothing, or units in brackets.
-    pub fn from_text(text: &[u8]) -> UnitsRead
-        ensures { λ r. ⌜ unitsAnswer r ≡ unitsOf (now (text .entry)) ⌝ }
-    {
-        if text.len() == 0 {
-            return UnitsRead::Units(TimeUnits::Absent);
-        }
-        if text.len() == 3 {
-            return one_letter(text[0], text[1], text[2]);
-        }
-        if text.len() == 4 {
-            return two_letters(text[0], text[1], text[2], text[3]);
-        }
-        UnitsRead::NoUnits
-    }
-
     pub fn is_absent(self) -> bool
         ensures { λ r. ⌜ r ≡ isAbsent self ⌝ }
     {
@@ -105,50 +87,5 @@ impl TimeUnits {
             TimeUnits::Second => true,
             _ => false,
         }
-    }
-}
-
-fn one_letter(open: u8, letter: u8, shut: u8) -> UnitsRead
-    ensures { λ r. ⌜ unitsAnswer r ≡ unitsOf («open» ∷ letter ∷ shut ∷ []) ⌝ }
-{
-    if open != 91 {
-        return UnitsRead::NoUnits;
-    }
-    if shut != 93 {
-        return UnitsRead::NoUnits;
-    }
-    match letter {
-        89 => UnitsRead::Units(TimeUnits::Year),
-        77 => UnitsRead::Units(TimeUnits::Month),
-        87 => UnitsRead::Units(TimeUnits::Week),
-        68 => UnitsRead::Units(TimeUnits::Day),
-        104 => UnitsRead::Units(TimeUnits::Hour),
-        109 => UnitsRead::Units(TimeUnits::Minute),
-        115 => UnitsRead::Units(TimeUnits::Second),
-        _ => UnitsRead::NoUnits,
-    }
-}
-
-// The second letter of two is always `s`.
-fn two_letters(open: u8, letter: u8, s: u8, shut: u8) -> UnitsRead
-    ensures { λ r. ⌜ unitsAnswer r ≡ unitsOf («open» ∷ letter ∷ s ∷ shut ∷ []) ⌝ }
-{
-    if open != 91 {
-        return UnitsRead::NoUnits;
-    }
-    if s != 115 {
-        return UnitsRead::NoUnits;
-    }
-    if shut != 93 {
-        return UnitsRead::NoUnits;
-    }
-    match letter {
-        109 => UnitsRead::Units(TimeUnits::Millisecond),
-        117 => UnitsRead::Units(TimeUnits::Microsecond),
-        110 => UnitsRead::Units(TimeUnits::Nanosecond),
-        112 => UnitsRead::Units(TimeUnits::Picosecond),
-        102 => UnitsRead::Units(TimeUnits::Femtosecond),
-        97 => UnitsRead::Units(TimeUnits::Attosecond),
-        _ => UnitsRead::NoUnits,
     }
 }

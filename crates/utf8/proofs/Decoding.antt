@@ -11,11 +11,12 @@ use native.Mathlib.Omega.{arith}
 use borrow.Author.Tests.{lt-ltb, le-ltb, le-leb, lt-leb}
 use lib.ListN.{length, getD, drop, List·getD-eq-default}
 use lib.Seq.{drop-cons}
-use Rattle.utf8.specs.Scalar.{isScalar}
-use Rattle.utf8.specs.Utf8.{encode, Begins}
+use Rattle.scalar.specs.Scalar.{isScalar}
+use Rattle.scalar.specs.Encode.{encode}
+use Rattle.scalar.proofs.Scalars.{side, scalar-low, scalar-below}
+use Rattle.scalar.proofs.Encoding.{row-one, row-two, row-three, row-four}
+use Rattle.utf8.specs.Utf8.{Begins}
 use Rattle.utf8.specs.Decode.{Point, point, extend, shortest, front, decode}
-use Rattle.utf8.proofs.Scalars.{side, scalar-low, scalar-below}
-use Rattle.utf8.proofs.Encoding.{row-one, row-two, row-three, row-four}
 
 -- ---- one trailing byte
 

@@ -9,11 +9,12 @@ use mathlib.Core.List.{List, [], _∷_, _++_, append-assoc}
 use native.Mathlib.Omega.{arith}
 use lib.ListN.{length, getD, take, drop, length-append, take-append-drop, List·getD-append}
 use lib.Seq.{getD-append-seam, take-append-le, take-append-seam}
-use Rattle.utf8.specs.Scalar.{isScalar, Scalars}
-use Rattle.utf8.specs.Utf8.{encode, encodeAll, WellFormed}
+use Rattle.scalar.specs.Scalar.{isScalar, Scalars}
+use Rattle.scalar.specs.Encode.{encode}
+use Rattle.scalar.proofs.Scalars.{side, scalar-low}
+use Rattle.scalar.proofs.Encoding.{row-one, encode-trailing}
+use Rattle.utf8.specs.Utf8.{encodeAll, WellFormed}
 use Rattle.utf8.specs.Decode.{decode, scan, firstIll}
-use Rattle.utf8.proofs.Scalars.{side, scalar-low}
-use Rattle.utf8.proofs.Encoding.{row-one, encode-trailing}
 use Rattle.utf8.proofs.Decoding.{decode-encode}
 use Rattle.utf8.proofs.Texts.{Parted, parted, encodings, scan-over, scan-ill, scan-past, apart, rest-empty, found-well-formed}
 

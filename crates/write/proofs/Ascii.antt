@@ -32,7 +32,7 @@ use Rattle.record.specs.Layout.{dimensionRow, shapeLayout, fieldLayout, levelsO
 use Rattle.record.specs.Padding.{isAscii}
 use Rattle.record.specs.File.{bareText}
 use Rattle.table.specs.Valid.{made}
-use Rattle.print.proofs.Types.{type-plain}
+use Rattle.pieces.proofs.Types.{type-plain}
 
 -- ---- the loop of `is_ascii`
 module _ (s : List ℕ) (i : ℕ) (inside : i < length s) (same : isAscii s ≡ isAscii (drop i s)) where

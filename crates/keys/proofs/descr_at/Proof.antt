@@ -1,6 +1,6 @@
 -- The verdict is on the value that stands there. Assumes nothing.
 use borrow.Author.Needs.{needs}
-use Rattle.keys.proofs.Seek.{pair-descr}
+use Rattle.keys.proofs.Seek.{read-descr}
 use Rattle.keys.proofs.descr_at.Statement.{statement}
 use Rattle.keys.proofs.descr_at.Tie as tie
 
@@ -8,9 +8,7 @@ judge-requires : tie.Need-judge-requires
 judge-requires c κs = search needs
 
 returns : tie.Need-returns
-returns c =
-    let a = c .before .before .args in
-    pair-descr (a .room) (a .text .now) (a .at) (a .was) _ _ (c .judge .ensures .ends) (c .judge .ensures .says)
+returns c = let a = c .before .before .args in read-descr (a .room) (a .text .now) (a .at) _ _ (c .judge .ensures .ends) (c .judge .ensures .says)
 
 pub descr-at-spec : {M : Type 1} → statement M
 descr-at-spec = tie.close (tie.spec judge-requires returns)

@@ -3,21 +3,23 @@ use lib.ListN.{length}
 use lib.Dec.{lit<}
 use mathlib.Core.Path.{sym, ap, _∙_}
 use mathlib.Core.Bool.{Bool, _&&_}
+use mathlib.Core.Logic.{⊎-elim}
 use borrow.Author.Needs.{needs}
 use Rattle.literal.specs.Brackets.{pairBy}
 use Rattle.literal.specs.Literal as read
 use Rattle.literal.proofs.Ends.{value-ahead, pair-ahead}
 use Rattle.literal.proofs.Steps.{Turn, turn-start, turn-more, gapLeft, turn-less, stops, pair-stop, pair-more}
 use Rattle.dims.proofs.Goes.{Goes, goes-start, goes-more}
-use Rattle.keys.proofs.Seek.{Seen, seen-start, seen-more, walked-end, walked-stop}
+use Rattle.keys.proofs.Seek.{PairIs, pair-descr, pair-shape, pair-else, pair-as, Seen, seen-start, seen-more, walked-end, walked-stop}
 use Rattle.keys.proofs.keys_from.Statement.{statement}
 use Rattle.keys.proofs.keys_from.Tie as tie
 
 abbrev Inv-loop : tie.InvT-loop
-Inv-loop text from room g₀ strings₀ places₀ g strings places = Turn (pairBy (read.value room text) text) text 125 from g × Goes (pairBy (read.value room text) text) text 125 from (Seen room text strings places) g
+Inv-loop text from room g₀ strings₀ descr₀ order₀ shape₀ g strings descr order shape =
+    Turn (pairBy (read.value room text) text) text 125 from g × Goes (pairBy (read.value room text) text) text 125 from (Seen room text strings (record { descr = descr; order = order; shape = shape })) g
 
 abbrev μ-loop : tie.MeasureT-loop
-μ-loop text from room g₀ strings₀ places₀ g strings places = gapLeft (length text) g
+μ-loop text from room g₀ strings₀ descr₀ order₀ shape₀ g strings descr order shape = gapLeft (length text) g
 
 gap-at-requires : tie.Need-gap-at-requires Inv-loop μ-loop
 gap-at-requires c κs = search needs
@@ -42,13 +44,10 @@ returns : tie.Need-returns Inv-loop μ-loop
 returns c =
     let a = c .before .before .before .before .before .before .args in
     let l = c .before .before .before .loop in
-    walked-end (a .room) (a .text .now) (a .from) (l .strings) (l .places) (l .g) (c .before .ended .result) (c .walk-end .result) (l .inv .0) (l .inv .1) (c .before .before .match .keys2) (c .before .ended .ensures) (c .walk-end .ensures)
+    walked-end (a .room) (a .text .now) (a .from) (l .strings) _ (l .g) (c .before .ended .result) (c .walk-end .result) (l .inv .0) (l .inv .1) (c .before .before .match .keys2) (c .before .ended .ensures) (c .walk-end .ensures)
 
-name-at-requires : tie.Need-name-at-requires Inv-loop μ-loop
-name-at-requires c κs = search needs
-
-key-requires : tie.Need-key-requires Inv-loop μ-loop
-key-requires c κs = search needs
+key-at-requires : tie.Need-key-at-requires Inv-loop μ-loop
+key-at-requires c κs = search needs
 
 enum-known-k : tie.Need-enum-known-k Inv-loop μ-loop
 enum-known-k c = search needs
@@ -58,15 +57,48 @@ walk-end-requires-2 c κs = search needs
 
 returns-2 : tie.Need-returns-2 Inv-loop μ-loop
 returns-2 c =
-    let a = c .before .before .before .before .before .before .before .before .before .before .args in
+    let a = c .before .before .before .before .before .before .before .before .before .args in
     let s = a .text .now in
-    let l = c .before .before .before .before .before .before .before .loop in
-    let k = c .before .before .key in
-    let hr = pair-stop (read.value (a .room) s) s _ (k .result) (k .ensures) (stops (k .result) (c .before .match2 .keys2)) in
-    walked-stop (a .room) s (a .from) (l .strings) (l .places) (l .g) _ (k .result) (c .walk-end2 .result) (l .inv .0) (c .before .before .before .before .before .g .given .1) hr (c .before .match2 .keys2) (c .walk-end2 .ensures)
+    let l = c .before .before .before .before .before .before .loop in
+    let k = c .before .before .key-at in
+    let hr = pair-stop (read.value (a .room) s) s _ (k .result .begins) (k .ensures .begins) (stops (k .result .begins) (c .before .match2 .keys2)) in
+    walked-stop (a .room) s (a .from) (l .strings) _ (l .g) _ (k .result .begins) (c .walk-end2 .result) (l .inv .0) (c .before .before .before .before .g .given .1) hr (c .before .match2 .keys2) (c .walk-end2 .ensures)
 
-pair-at-requires : tie.Need-pair-at-requires Inv-loop μ-loop
-pair-at-requires c κs = search needs
+order-at-requires : tie.Need-order-at-requires Inv-loop μ-loop
+order-at-requires c κs = search needs
+
+enum-told : tie.Need-enum-told Inv-loop μ-loop
+enum-told c = search needs
+
+descr-at-requires : tie.Need-descr-at-requires Inv-loop μ-loop
+descr-at-requires c κs = search needs
+
+enum-told-2 : tie.Need-enum-told-2 Inv-loop μ-loop
+enum-told-2 c = search needs
+
+shape-at-requires : tie.Need-shape-at-requires Inv-loop μ-loop
+shape-at-requires c κs = search needs
+
+value-requires : tie.Need-value-requires Inv-loop μ-loop
+value-requires c κs = search needs
+
+-- where the arms meet: what is found behind the pair
+paired : (c : tie.At-match3-came Inv-loop μ-loop)
+    → PairIs (c .before .before .before .before .before .before .before .before .before .before .before .before .args .room) (c .before .before .before .before .before .before .before .before .before .before .before .before .args .text .now) (c .before .before .before .k .given .0 .0) (c .before .before .before .before .before .key-at .result .name) (record { descr = c .before .before .before .before .before .before .before .before .before .loop .descr; order = c .before .before .before .before .before .before .before .before .before .loop .order; shape = c .before .before .before .before .before .before .before .before .before .loop .shape }) (c .match3 .v)
+    (record { descr = c .match3 .descr; order = c .before .order-at .result; shape = c .match3 .shape })
+paired c =
+    let a = c .before .before .before .before .before .before .before .before .before .before .before .before .args in
+    let s = a .text .now in
+    let at = c .before .before .before .k .given .0 .0 in
+    let n = c .before .before .before .before .before .key-at .result .name in
+    let l = c .before .before .before .before .before .before .before .before .before .loop in
+    let o = c .before .order-at in
+    ⊎-elim
+    (λ w. pair-as (a .room) s at n (l .descr) (l .order) (o .result) (l .shape) (o .ensures) (w .3) (w .4) (w .5) (pair-descr (a .room) s at n (l .descr) (l .order) (o .result) (l .shape) (o .ensures) (w .1 .given .1) (w .2 .result) (w .2 .ensures)))
+    (⊎-elim
+    (λ w. pair-as (a .room) s at n (l .descr) (l .order) (o .result) (l .shape) (o .ensures) (w .3) (w .4) (w .5) (pair-shape (a .room) s at n (l .descr) (l .order) (o .result) (l .shape) (o .ensures) (w .1 .given .1) (w .2 .result) (w .2 .ensures)))
+    (λ w. pair-as (a .room) s at n (l .descr) (l .order) (o .result) (l .shape) (o .ensures) (w .2) (w .3) (w .4) (pair-else (a .room) s at n (l .descr) (l .order) (o .result) (l .shape) (o .ensures) (w .0 .keys3) (w .1 .result) (w .1 .ensures))))
+    (c .match3 .came)
 
 enum-known-v : tie.Need-enum-known-v Inv-loop μ-loop
 enum-known-v c = search needs
@@ -79,9 +111,9 @@ returns-3 c =
     let a = c .before .before .before .before .before .before .before .before .before .before .before .before .before .before .args in
     let s = a .text .now in
     let l = c .before .before .before .before .before .before .before .before .before .before .before .loop in
-    let v = c .before .before .pair-at in
-    let hr = v .ensures .ended ∙ pair-more (read.value (a .room) s) s _ _ (sym (c .before .before .before .before .k .given .1) ∙ c .before .before .before .before .before .before .key .ensures) in
-    walked-stop (a .room) s (a .from) (l .strings) (l .places) (l .g) _ (v .result .ended) (c .walk-end3 .result) (l .inv .0) (c .before .before .before .before .before .before .before .before .before .g .given .1) hr (c .before .match3 .keys2) (c .walk-end3 .ensures)
+    let v = c .before .before .match3 .v in
+    let hr = paired (c .before .before) .ended ∙ pair-more (read.value (a .room) s) s _ _ (sym (c .before .before .before .before .before .k .given .1) ∙ c .before .before .before .before .before .before .before .key-at .ensures .begins) in
+    walked-stop (a .room) s (a .from) (l .strings) _ (l .g) _ v (c .walk-end3 .result) (l .inv .0) (c .before .before .before .before .before .before .before .before .before .g .given .1) hr (c .before .match4 .keys2) (c .walk-end3 .ensures)
 
 is-string-requires : tie.Need-is-string-requires Inv-loop μ-loop
 is-string-requires c κs = search needs
@@ -91,29 +123,30 @@ then-at-requires c κs = search needs
 
 loop-less : tie.Need-loop-less Inv-loop μ-loop
 loop-less c =
-    let a = c .before .before .before .before .before .before .before .before .before .before .before .before .before .before .before .before .before .before .args in
+    let a = c .before .before .before .before .before .before .before .before .before .before .before .before .before .before .before .before .before .args in
     let s = a .text .now in
     let rd = read.value (a .room) s in
-    let v = c .before .before .before .before .before .before .pair-at in
-    let hr = v .ensures .ended ∙ pair-more rd s _ _ (sym (c .before .before .before .before .before .before .before .before .k .given .1) ∙ c .before .before .before .before .before .before .before .before .before .before .key .ensures) in
-    turn-less (pairBy rd s) s 125 (a .from) (pair-ahead rd s (value-ahead (a .room) s)) (lit< tt) (c .before .before .before .before .before .before .before .before .before .before .before .before .before .before .before .loop .g) (c .then-at .result) _ _ (v .result .ended) (c .before .before .before .before .before .before .before .before .before .before .before .before .before .g .given .1) (c .before .before .before .before .v .given .1) hr (c .then-at .ensures)
+    let v = c .before .before .before .before .before .match3 .v in
+    let hr = paired (c .before .before .before .before .before) .ended ∙ pair-more rd s _ _ (sym (c .before .before .before .before .before .before .before .before .k .given .1) ∙ c .before .before .before .before .before .before .before .before .before .before .key-at .ensures .begins) in
+    turn-less (pairBy rd s) s 125 (a .from) (pair-ahead rd s (value-ahead (a .room) s)) (lit< tt) (c .before .before .before .before .before .before .before .before .before .before .before .before .before .before .loop .g) (c .then-at .result) _ _ v (c .before .before .before .before .before .before .before .before .before .before .before .before .g .given .1) (c .before .before .before .v .given .1) hr (c .then-at .ensures)
 
 loop-again : tie.Need-loop-again Inv-loop μ-loop
 loop-again c =
-    let a = c .before .before .before .before .before .before .before .before .before .before .before .before .before .before .before .before .before .before .args in
+    let a = c .before .before .before .before .before .before .before .before .before .before .before .before .before .before .before .before .before .args in
     let s = a .text .now in
     let rd = read.value (a .room) s in
-    let l = c .before .before .before .before .before .before .before .before .before .before .before .before .before .before .before .loop in
-    let v = c .before .before .before .before .before .before .pair-at in
-    let ha = sym (c .before .before .before .before .before .before .before .before .k .given .1) ∙ c .before .before .before .before .before .before .before .before .before .before .key .ensures in
-    let hr = v .ensures .ended ∙ pair-more rd s _ _ ha in
-    let hg = c .before .before .before .before .before .before .before .before .before .before .before .before .before .g .given .1 in
-    let hv = c .before .before .before .before .v .given .1 in
-    let n = c .before .before .before .before .before .before .before .before .before .before .before .name-at in
-    let b = ap (λ (x : Bool). l .strings && x) (c .before .before .is-string .ensures) in (
-      turn-more (pairBy rd s) s 125 (a .from) (pair-ahead rd s (value-ahead (a .room) s)) (lit< tt) (l .g) (c .then-at .result) _ _ (v .result .ended) hg hv hr (c .then-at .ensures) (l .inv .0),
-      goes-more (pairBy rd s) s 125 (a .from) (Seen (a .room) s (l .strings) (l .places)) (Seen (a .room) s _ (v .result .places)) (l .g) (c .then-at .result) _ _ (v .result .ended) (l .inv .1) hg hv hr (c .then-at .ensures)
-          (λ u ps us hu h. seen-more (a .room) s (l .strings) _ (l .places) (v .result) (n .result) _ _ _ u ps us hu ha (n .ensures) (v .ensures) b h),
+    let l = c .before .before .before .before .before .before .before .before .before .before .before .before .before .before .loop in
+    let m = c .before .before .before .before .before .match3 in
+    let k = c .before .before .before .before .before .before .before .before .before .before .key-at in
+    let one = paired (c .before .before .before .before .before) in
+    let ha = sym (c .before .before .before .before .before .before .before .before .k .given .1) ∙ k .ensures .begins in
+    let hr = one .ended ∙ pair-more rd s _ _ ha in
+    let hg = c .before .before .before .before .before .before .before .before .before .before .before .before .g .given .1 in
+    let hv = c .before .before .before .v .given .1 in
+    let b = ap (λ (x : Bool). l .strings && x) (c .before .is-string .ensures) in (
+      turn-more (pairBy rd s) s 125 (a .from) (pair-ahead rd s (value-ahead (a .room) s)) (lit< tt) (l .g) (c .then-at .result) _ _ (m .v) hg hv hr (c .then-at .ensures) (l .inv .0),
+      goes-more (pairBy rd s) s 125 (a .from) (Seen (a .room) s (l .strings) _) (Seen (a .room) s _ _) (l .g) (c .then-at .result) _ _ (m .v) (l .inv .1) hg hv hr (c .then-at .ensures)
+          (λ u ps us hu h. seen-more (a .room) s (l .strings) _ _ _ (m .v) (k .result .name) _ _ _ u ps us hu ha (k .ensures .named) one b h),
     )
 
 pub keys-from-spec : {M : Type 1} → statement M
@@ -128,12 +161,16 @@ keys-from-spec =
     ended-requires
     walk-end-requires
     returns
-    name-at-requires
-    key-requires
+    key-at-requires
     enum-known-k
     walk-end-requires-2
     returns-2
-    pair-at-requires
+    order-at-requires
+    enum-told
+    descr-at-requires
+    enum-told-2
+    shape-at-requires
+    value-requires
     enum-known-v
     walk-end-requires-3
     returns-3

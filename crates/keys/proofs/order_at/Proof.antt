@@ -1,17 +1,22 @@
--- The order is that of the value that stands there. Assumes nothing.
+-- The key's own value, or the order as it was. Assumes nothing.
 use borrow.Author.Needs.{needs}
-use Rattle.keys.proofs.Seek.{pair-order}
+use Rattle.keys.proofs.Seek.{order-here, order-kept}
 use Rattle.keys.proofs.order_at.Statement.{statement}
 use Rattle.keys.proofs.order_at.Tie as tie
 
-value-requires : tie.Need-value-requires
-value-requires c κs = search needs
+enum-told : tie.Need-enum-told
+enum-told c = search needs
 
 word-at-requires : tie.Need-word-at-requires
 word-at-requires c κs = search needs
 
 returns : tie.Need-returns
-returns c = let a = c .before .before .before .args in pair-order (a .room) (a .text .now) (a .at) (a .was) _ _ (c .before .value .ensures) (c .word-at .ensures)
+returns c =
+    let a = c .before .before .before .before .args in
+    order-here (a .text .now) (a .at) (a .name) (a .was) (c .word-at .result) (c .before .enum-told .given .1) (c .word-at .ensures)
+
+returns-2 : tie.Need-returns-2
+returns-2 c = let a = c .before .before .args in order-kept (a .text .now) (a .at) (a .name) (a .was) (c .match .keys2)
 
 pub order-at-spec : {M : Type 1} → statement M
-order-at-spec = tie.close (tie.spec value-requires word-at-requires returns)
+order-at-spec = tie.close (tie.spec enum-told word-at-requires returns returns-2)

@@ -9,7 +9,7 @@ enum-told : tie.Need-enum-told
 enum-told c = search needs
 
 returns : tie.Need-returns
-returns c = let a = c .before .args in walk-stop (a .end) (a .strings) (a .places) (stops (a .end) (c .match .keys2))
+returns c = let a = c .before .args in walk-stop (a .end) (a .strings) _ (stops (a .end) (c .match .keys2))
 
 returns-2 : tie.Need-returns-2
 returns-2 c = rw (c .before .enum-told .given .1, c .if1 .taken)

@@ -4,7 +4,7 @@ use Rattle.counts.proofs.OneOutcome.{told}
 use Rattle.table.specs.Answer.{summary}
 use Rattle.table.specs.Checked.{checkedRecord}
 use Rattle.codes.specs.Given.{orderAnswer}
-use Rattle.npy.proofs.Given.{retold, then-told, none-told}
+use Rattle.codes.proofs.Named.{retold, then-told, none-told}
 use borrow.Author.Needs.{needs}
 use Rattle.npy.proofs.npy_check.Statement.{statement}
 use Rattle.npy.proofs.npy_check.Tie as tie

@@ -5,7 +5,7 @@ use Rattle.dtype.specs.Shape.{strides}
 use Rattle.shape.specs.Count.{stridesCount}
 use Rattle.shape.specs.Count as shape
 use Rattle.codes.specs.Given.{orderAnswer}
-use Rattle.npy.proofs.Given.{retold, then-told, none-told, then-left, none-left}
+use Rattle.codes.proofs.Named.{retold, then-told, none-told, then-left, none-left}
 use lib.ListN.{length}
 use borrow.Author.Needs.{needs}
 use Rattle.npy.proofs.npy_strides.Statement.{statement}

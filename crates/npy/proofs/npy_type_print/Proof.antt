@@ -3,7 +3,7 @@ use Rattle.counts.specs.Outcome.{then}
 use Rattle.counts.proofs.OneOutcome.{told}
 use Rattle.type_str.specs.Text.{typePrinted, typePlaced}
 use Rattle.entries.specs.Answer.{typeAnswer}
-use Rattle.npy.proofs.Given.{retold, then-told, none-told, then-left, none-left}
+use Rattle.codes.proofs.Named.{retold, then-told, none-told, then-left, none-left}
 use borrow.Author.Needs.{needs}
 use Rattle.npy.proofs.npy_type_print.Statement.{statement}
 use Rattle.npy.proofs.npy_type_print.Tie as tie

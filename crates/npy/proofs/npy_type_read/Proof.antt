@@ -1,6 +1,6 @@
 -- The answer told. Assumes nothing.
 use Rattle.counts.proofs.OneOutcome.{told}
-use Rattle.npy.proofs.Given.{retold}
+use Rattle.codes.proofs.Named.{retold}
 use borrow.Author.Needs.{needs}
 use Rattle.npy.proofs.npy_type_read.Statement.{statement}
 use Rattle.npy.proofs.npy_type_read.Tie as tie

@@ -3,7 +3,7 @@ use Rattle.counts.specs.Outcome.{then}
 use Rattle.counts.proofs.OneOutcome.{told}
 use Rattle.write.specs.Writes.{headerWritten, headerPlaced}
 use Rattle.codes.specs.Given.{orderAnswer}
-use Rattle.npy.proofs.Given.{retold, then-told, none-told, then-left, none-left}
+use Rattle.codes.proofs.Named.{retold, then-told, none-told, then-left, none-left}
 use borrow.Author.Needs.{needs}
 use Rattle.npy.proofs.npy_write_header.Statement.{statement}
 use Rattle.npy.proofs.npy_write_header.Tie as tie

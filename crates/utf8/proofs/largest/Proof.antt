@@ -5,7 +5,7 @@ use mathlib.Core.Logic.{⊎-elim}
 use native.Mathlib.Omega.{arith}
 use borrow.Author.Count.{below-more}
 use lib.ListN.{length, getD, List·getD-eq-default}
-use Rattle.utf8.proofs.Scalars.{side}
+use Rattle.scalar.proofs.Scalars.{side}
 use Rattle.utf8.proofs.largest.Statement.{statement}
 use Rattle.utf8.proofs.largest.Tie as tie
 

@@ -25,9 +25,9 @@ use Rattle.literal.proofs.+dict+key+list+pair+tuple+value.Lts-tuple as 
 use Rattle.literal.proofs.value.Reads as value
 use Rattle.literal.proofs.value.Kinds as value-kinds
 use Rattle.literal.proofs.+dict+key+list+pair+tuple+value.Lts-value as value-lts
-use Rattle.tokens.proofs.bytes.blanks.Reads as blanks-reads
 use Rattle.tokens.proofs.bytes.is_open.Reads as is-open-reads
 use Rattle.tokens.proofs.bytes.peek.Reads as peek-reads
+use Rattle.literal.proofs.gaps.colon_at.Reads as colon-at-reads
 use Rattle.literal.proofs.gaps.ended.Reads as ended-reads
 use Rattle.literal.proofs.gaps.gap_at.Reads as gap-at-reads
 use Rattle.literal.proofs.gaps.need.Reads as need-reads
@@ -95,7 +95,7 @@ abbrev pub dict-told : ℕ → dict-lts.Claims
 dict-told t = (gap-at-reads.Asked, gap-at-reads.Learnt, ended-reads.Asked, ended-reads.Learnt, pair-below t, pair.Post, then-at-reads.Asked, then-at-reads.Learnt)
 
 abbrev pub key-told : ℕ → key-lts.Claims
-key-told t = (value-below t, value.Post, need-reads.Asked, need-reads.Learnt, blanks-reads.Asked, blanks-reads.Learnt)
+key-told t = (value-below t, value.Post, colon-at-reads.Asked, colon-at-reads.Learnt)
 
 abbrev pub list-told : ℕ → list-lts.Claims
 list-told t = (gap-at-reads.Asked, gap-at-reads.Learnt, ended-reads.Asked, ended-reads.Learnt, value-below t, value.Post, then-at-reads.Asked, then-at-reads.Learnt)

@@ -4,8 +4,7 @@ use native.Mathlib.Omega.{arith}
 use borrow.Author.Needs.{needs}
 use mathlib.Core.Path.{sym, _∙_}
 use Rattle.literal.specs.Literal.{value as valueOf}
-use Rattle.literal.proofs.Steps.{stops, key-stop, key-colon, key-done}
-use Prim.Native.Nat.{ℕ}
+use Rattle.literal.proofs.Steps.{stops, key-stop, key-colon}
 use Rattle.literal.proofs.key.Reads as key
 use Rattle.literal.proofs.+dict+key+list+pair+tuple+value.Lts-key as key-lts
 use Rattle.literal.proofs.+dict+key+list+pair+tuple+value.Proof.Base.{key-at, key-told}
@@ -23,28 +22,13 @@ key-returns t c =
     let rd = valueOf (c .before .before .before .args .room) s in
     key-stop rd s at (c .before .value .result) (c .before .value .ensures) (stops (c .before .value .result) (c .match .keys2))
 
-pub key-need-requires : (t : ℕ) → key-lts.Need-need-requires (key-told t) (key-at t) key.Post
-key-need-requires t c κs = search needs
-
-pub key-enum-known-c : (t : ℕ) → key-lts.Need-enum-known-c (key-told t) (key-at t) key.Post
-key-enum-known-c t c = search needs
+pub key-colon-at-requires : (t : ℕ) → key-lts.Need-colon-at-requires (key-told t) (key-at t) key.Post
+key-colon-at-requires t c κs = search needs
 
 pub key-returns-2 : (t : ℕ) → key-lts.Need-returns-2 (key-told t) (key-at t) key.Post
 key-returns-2 t c =
-    let s = c .before .before .before .before .before .before .before .args .text .now in
-    let at = c .before .before .before .before .before .before .before .args .at in
-    let rd = valueOf (c .before .before .before .before .before .before .before .args .room) s in
-    let hr = sym (c .before .before .before .r .given .1) ∙ c .before .before .before .before .before .value .ensures in
-    key-colon rd s at _ (c .before .need .result) hr (c .before .need .ensures) (stops (c .before .need .result) (c .match2 .keys2))
-
-pub key-blanks-requires : (t : ℕ) → key-lts.Need-blanks-requires (key-told t) (key-at t) key.Post
-key-blanks-requires t c κs = search needs
-
-pub key-returns-3 : (t : ℕ) → key-lts.Need-returns-3 (key-told t) (key-at t) key.Post
-key-returns-3 t c =
-    let s = c .before .before .before .before .before .before .before .before .before .before .args .text .now in
-    let at = c .before .before .before .before .before .before .before .before .before .before .args .at in
-    let rd = valueOf (c .before .before .before .before .before .before .before .before .before .before .args .room) s in
-    let hr = sym (c .before .before .before .before .before .before .r .given .1) ∙ c .before .before .before .before .before .before .before .before .value .ensures in
-    let hn = sym (c .before .before .c .given .1) ∙ c .before .before .before .before .need .ensures in
-    key-done rd s at _ _ (c .blanks .result) hr hn (c .blanks .ensures)
+    let s = c .before .before .before .before .before .before .args .text .now in
+    let at = c .before .before .before .before .before .before .args .at in
+    let rd = valueOf (c .before .before .before .before .before .before .args .room) s in
+    let hr = sym (c .before .before .r .given .1) ∙ c .before .before .before .before .value .ensures in
+    c .colon-at .ensures ∙ key-colon rd s at _ hr

@@ -1,56 +1,29 @@
--- The byte behind the blanks decides, as in the definition; where it is a byte it stands in the text, so the position behind it fits. Assumes nothing.
-use borrow.Author.Tests.{eq-eqb, ne-eqb}
+-- Three bytes tell an item; else it is asked as ever. Assumes nothing.
 use mathlib.Core.Path.{sym, _∙_}
-use native.Mathlib.Omega.{arith}
-use lib.Dec.{lit<}
-use Rattle.tokens.proofs.Positions.{byte-in}
-use Rattle.literal.specs.Brackets.{thenAt}
 use borrow.Author.Needs.{needs}
+use native.Mathlib.Omega.{arith}
+use Rattle.literal.proofs.Near.{near-in, near-then}
 use Rattle.literal.proofs.gaps.then_at.Statement.{statement}
 use Rattle.literal.proofs.gaps.then_at.Tie as tie
 
-blanks-requires : tie.Need-blanks-requires
-blanks-requires c κs = search needs
+near-requires : tie.Need-near-requires
+near-requires c κs = search needs
 
-peek-requires : tie.Need-peek-requires
-peek-requires c κs = search needs
-
-add-t8 : tie.Need-add-t8
-add-t8 c =
-    let s = c .before .before .before .before .args .text .now in
-    let lt = byte-in s (c .before .before .blanks .result) (c .before .before .before .before .args .close) (sym (c .before .peek .ensures) ∙ c .if1 .taken) (c .before .before .before .before .fits .close .fits) in
-    omega arith
+add-t5 : tie.Need-add-t5
+add-t5 c =
+    let a = c .before .before .before .args in
+    omega (arith, near-in (a .text .now) (a .at) (a .close) (sym (c .before .near .ensures) ∙ c .if1 .taken))
 
 returns : tie.Need-returns
-unfolding thenAt
-returns c = simp (thenAt, sym (c .before .before .blanks .ensures), sym (c .before .peek .ensures), eq-eqb _ _ (c .if1 .taken))
+returns c =
+    let a = c .before .before .before .args in
+    sym (near-then (a .text .now) (a .at) (a .close) (sym (c .before .near .ensures) ∙ c .if1 .taken))
 
-add-gap-at : tie.Need-add-gap-at
-add-gap-at c =
-    let s = c .before .before .before .before .before .args .text .now in
-    let lt = byte-in s (c .before .before .before .blanks .result) 44 (sym (c .before .before .peek .ensures) ∙ c .if2 .taken) (lit< tt) in
-    omega arith
-
-gap-at-requires : tie.Need-gap-at-requires
-gap-at-requires c κs = search needs
+then-any-requires : tie.Need-then-any-requires
+then-any-requires c κs = search needs
 
 returns-2 : tie.Need-returns-2
-unfolding thenAt
-returns-2 c = simp (thenAt, sym (c .before .before .before .before .blanks .ensures), sym (c .before .before .before .peek .ensures), ne-eqb _ _ (c .before .before .if1 .left), eq-eqb _ _ (c .before .if2 .taken)) (c .gap-at .ensures)
-
-returns-3 : tie.Need-returns-3
-unfolding thenAt
-returns-3 c = simp (thenAt, sym (c .before .before .before .blanks .ensures), sym (c .before .before .peek .ensures), ne-eqb _ _ (c .before .if1 .left), ne-eqb _ _ (c .if2 .left))
+returns-2 c = search needs
 
 pub then-at-spec : {M : Type 1} → statement M
-then-at-spec =
-    tie.close
-    (tie.spec
-    blanks-requires
-    peek-requires
-    add-t8
-    returns
-    add-gap-at
-    gap-at-requires
-    returns-2
-    returns-3)
+then-at-spec = tie.close (tie.spec near-requires add-t5 returns then-any-requires returns-2)

@@ -21,10 +21,10 @@ use Rattle.print.proofs.inner.put_fields.Reads as put-fields
 use Rattle.print.proofs.inner.put_fields.Kinds as put-fields-kinds
 use Rattle.print.proofs.inner.+put_descr+put_fields.Lts-put_fields as put-fields-lts
 use Rattle.emit.proofs.put.Reads as put-reads
-use Rattle.print.proofs.inner.close_field.Reads as close-field-reads
+use Rattle.pieces.proofs.close_field.Reads as close-field-reads
 use Rattle.depth.proofs.innermost.Reads as innermost-reads
-use Rattle.print.proofs.inner.open_field.Reads as open-field-reads
-use Rattle.print.proofs.inner.put_type.Reads as put-type-reads
+use Rattle.pieces.proofs.open_field.Reads as open-field-reads
+use Rattle.pieces.proofs.put_type.Reads as put-type-reads
 use Rattle.entries.proofs.entry_at.Reads as entry-at-reads
 use Rattle.print.proofs.inner.+put_descr+put_fields.{statement}
 use Rattle.print.proofs.inner.+put_descr+put_fields.Tie.{close}
@@ -149,11 +149,7 @@ put-fields-put-descr-requires t c κs =
     (omega (arith, g .further), (y .1, y .2 .inner))
 
 put-fields-close-field-requires : (t : ℕ) → put-fields-lts.Need-close-field-requires (put-fields-told t) (put-fields-at t) put-fields.Post put-fields-Inv-loop put-fields-μ-loop
-put-fields-close-field-requires t c κs =
-    let x = c .before .before .before .before .before .before .before .before .before .before .before .before .before .before .before .before .pre .1 in
-    let l = c .before .before .before .before .before .before .before .before .before .before .before .before .loop in
-    let y = going-next _ _ (l .c) (l .start) _ (c .before .before .before .before .before .before .before .before .before .before .entry-at .ensures) _ _ _ _ _ (l .p) (l .left) (x .0) (l .inv (x .0) (x .1) (x .2)) (c .before .before .before .before .before .before .before .before .before .before .before .loop-test .taken) in
-    (y .1, y .2 .inner .listed)
+put-fields-close-field-requires t c κs = search needs
 
 put-fields-sub-left : (t : ℕ) → put-fields-lts.Need-sub-left (put-fields-told t) (put-fields-at t) put-fields.Post put-fields-Inv-loop put-fields-μ-loop
 put-fields-sub-left t c = search needs

@@ -1,55 +1,80 @@
--- The invariant: the run from `from` on ends where the run from `at` on ends. Assumes nothing.
-use Prim.Native.Nat.{_-_}
-use mathlib.Core.Path.{_≡_, refl}
-use lib.ListN.{length}
-use Rattle.tokens.specs.Text.{past}
+-- The run ends at the first of the two bytes that is no blank, or goes on behind both. Assumes nothing.
+use Prim.Native.Nat.{_+_}
+use mathlib.Core.Path.{refl, sym, _∙_}
 use Rattle.grammar.specs.Bytes.{isBlank}
 use borrow.Author.Needs.{needs}
 use Rattle.tokens.proofs.Positions.{run-stops, run-goes-on, run-over}
 use Rattle.tokens.proofs.bytes.blanks.Statement.{statement}
 use Rattle.tokens.proofs.bytes.blanks.Tie as tie
 
-abbrev Inv-loop : tie.InvT-loop
-Inv-loop text from at₀ at = past isBlank text from ≡ past isBlank text at
+returns : tie.Need-returns
+returns c =
+    let s = c .before .before .args .text .now in
+    let from = c .before .before .args .from in
+    run-over isBlank s from from refl (c .if1 .taken)
 
-abbrev μ-loop : tie.MeasureT-loop
-μ-loop text from at₀ at = length text - at
-
-loop-holds : tie.Need-loop-holds Inv-loop μ-loop
-loop-holds c = refl
-
-shared-slice-read-is-blank : tie.Need-shared-slice-read-is-blank Inv-loop μ-loop
+shared-slice-read-is-blank : tie.Need-shared-slice-read-is-blank
 shared-slice-read-is-blank c = search needs
 
-is-blank-requires : tie.Need-is-blank-requires Inv-loop μ-loop
+is-blank-requires : tie.Need-is-blank-requires
 is-blank-requires c κs = search needs
 
-returns : tie.Need-returns Inv-loop μ-loop
-returns c = run-stops isBlank _ _ (c .before .before .before .before .loop .at) (c .before .before .before .before .loop .inv) (c .before .before .before .loop-test .taken) _ (c .before .is-blank .ensures) (c .if1 .taken)
+returns-2 : tie.Need-returns-2
+returns-2 c =
+    let s = c .before .before .before .before .before .args .text .now in
+    let from = c .before .before .before .before .before .args .from in
+    run-stops isBlank s from from refl (c .before .before .before .if1 .left) _ (c .before .is-blank .ensures) (c .if2 .taken)
 
-add-at : tie.Need-add-at Inv-loop μ-loop
-add-at c = search needs
+add-next : tie.Need-add-next
+add-next c = search needs
 
-loop-less : tie.Need-loop-less Inv-loop μ-loop
-loop-less c = search needs
+returns-3 : tie.Need-returns-3
+returns-3 c =
+    let s = c .before .before .before .before .before .before .args .text .now in
+    let from = c .before .before .before .before .before .before .args .from in
+    let one = run-goes-on isBlank s from from refl (c .before .before .before .before .if1 .left) _ (c .before .before .is-blank .ensures) (c .before .if2 .left) in
+    run-over isBlank s from (from + 1) one (c .if3 .taken)
 
-loop-again : tie.Need-loop-again Inv-loop μ-loop
-loop-again c = run-goes-on isBlank _ _ (c .before .before .before .before .loop .at) (c .before .before .before .before .loop .inv) (c .before .before .before .loop-test .taken) _ (c .before .is-blank .ensures) (c .if1 .left)
+shared-slice-read-is-blank-2 : tie.Need-shared-slice-read-is-blank-2
+shared-slice-read-is-blank-2 c = search needs
 
-returns-2 : tie.Need-returns-2 Inv-loop μ-loop
-returns-2 c = run-over isBlank _ _ (c .before .loop .at) (c .before .loop .inv) (c .loop-test .left)
+is-blank-requires-2 : tie.Need-is-blank-requires-2
+is-blank-requires-2 c κs = search needs
+
+returns-4 : tie.Need-returns-4
+returns-4 c =
+    let s = c .before .before .before .before .before .before .before .before .before .args .text .now in
+    let from = c .before .before .before .before .before .before .before .before .before .args .from in
+    let one = run-goes-on isBlank s from from refl (c .before .before .before .before .before .before .before .if1 .left) _ (c .before .before .before .before .before .is-blank .ensures) (c .before .before .before .before .if2 .left) in
+    run-stops isBlank s from (from + 1) one (c .before .before .before .if3 .left) _ (c .before .is-blank2 .ensures) (c .if4 .taken)
+
+add-blanks-far : tie.Need-add-blanks-far
+add-blanks-far c = search needs
+
+blanks-far-requires : tie.Need-blanks-far-requires
+blanks-far-requires c κs = search needs
+
+returns-5 : tie.Need-returns-5
+returns-5 c =
+    let s = c .before .before .before .before .before .before .before .before .before .before .args .text .now in
+    let from = c .before .before .before .before .before .before .before .before .before .before .args .from in
+    let one = run-goes-on isBlank s from from refl (c .before .before .before .before .before .before .before .before .if1 .left) _ (c .before .before .before .before .before .before .is-blank .ensures) (c .before .before .before .before .before .if2 .left) in
+    let two = run-goes-on isBlank s from (from + 1) one (c .before .before .before .before .if3 .left) _ (c .before .before .is-blank2 .ensures) (c .before .if4 .left) in
+    c .blanks-far .ensures ∙ sym two
 
 pub blanks-spec : {M : Type 1} → statement M
 blanks-spec =
     tie.close
     (tie.spec
-    Inv-loop
-    μ-loop
-    loop-holds
+    returns
     shared-slice-read-is-blank
     is-blank-requires
-    returns
-    add-at
-    loop-less
-    loop-again
-    returns-2)
+    returns-2
+    add-next
+    returns-3
+    shared-slice-read-is-blank-2
+    is-blank-requires-2
+    returns-4
+    add-blanks-far
+    blanks-far-requires
+    returns-5)

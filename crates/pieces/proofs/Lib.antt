@@ -1,0 +1,4 @@
+pub mod Types
+pub mod Levels
+pub mod Rest
+pub mod Outcomes
