@@ -8,6 +8,5 @@ pub mod AgreeTokens
 pub mod AgreeBrackets
 pub mod AgreeValue
 pub mod Meaning
-pub mod Escapes
 pub mod Outcomes
 pub mod Examples

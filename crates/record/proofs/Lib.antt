@@ -9,6 +9,5 @@ pub mod Files
 pub mod Printed
 pub mod RoundTrips
 pub mod OneHeader
-pub mod Filled
 pub mod Fronts
 pub mod Examples

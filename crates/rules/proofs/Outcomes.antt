@@ -11,8 +11,8 @@ use Rattle.spelling.specs.declared.TypeChar.{TypeChar}
 pub is-irrelevant-one : (o : Endianness) → OneOutcome {A = Bool} (λ r. r ≡ isIrrelevant o)
 is-irrelevant-one o = by-equation (isIrrelevant o)
 
-pub requires-endianness-one : (l : TypeChar) (n : ℕ) → OneOutcome {A = Bool} (λ r. r ≡ needsOrder l n)
-requires-endianness-one l n = by-equation (needsOrder l n)
+pub needs-endianness-one : (l : TypeChar) (n : ℕ) → OneOutcome {A = Bool} (λ r. r ≡ needsOrder l n)
+needs-endianness-one l n = by-equation (needsOrder l n)
 
 pub valid-size-one : (l : TypeChar) (n : ℕ) → OneOutcome {A = Bool} (λ r. r ≡ allows l n)
 valid-size-one l n = by-equation (allows l n)

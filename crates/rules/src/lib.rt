@@ -18,7 +18,7 @@ pub fn is_irrelevant(order: Endianness) -> bool
 }
 
 // Whether `|` is refused at this size.
-pub fn requires_endianness(letter: TypeChar, size: u64) -> bool
+pub fn needs_endianness(letter: TypeChar, size: u64) -> bool
     ensures { λ r. ⌜ r ≡ needsOrder letter size ⌝ }
 {
     match letter {

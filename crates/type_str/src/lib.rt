@@ -60,7 +60,7 @@ impl TypeStr {
         let order = self.order;
         let letter = self.letter;
         if rules::is_irrelevant(order) {
-            rules::requires_endianness(letter, self.size)
+            rules::needs_endianness(letter, self.size)
         } else {
             false
         }
