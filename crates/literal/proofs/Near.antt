@@ -1,5 +1,6 @@
--- Where a comma, one space and a byte above it stand, an item begins at that byte: no blank stands before the comma, and none behind the space. Assumes nothing.
-use Prim.Native.Nat.{ℕ, _+_, _≤_}
+-- Where a comma, one space and a byte above it stand, an item begins at that byte: no blank stands before the comma, and none behind the space. Where the
+-- closing bracket stands, no blank stands before it. Assumes nothing.
+use Prim.Native.Nat.{ℕ, _+_, _<_, _≤_}
 use native.Mathlib.Omega.{arith}
 use mathlib.Core.Path.{_≡_, refl, sym, ap, _∙_}
 use mathlib.Core.List.{List}
@@ -11,8 +12,8 @@ use Rattle.grammar.specs.Bytes.{isBlank}
 use Rattle.counts.proofs.Alike.{and-left, and-right}
 use Rattle.tokens.specs.Text.{byteAt, skip}
 use Rattle.tokens.proofs.Positions.{past-stop, past-more}
-use Rattle.literal.specs.Brackets.{gapAt, thenAt, nearAt}
-use Rattle.literal.specs.declared.gaps.Gap.the-variants.{Item}
+use Rattle.literal.specs.Brackets.{gapAt, thenAt, nearAt, shutAt}
+use Rattle.literal.specs.declared.gaps.Gap.the-variants.{Shut, Item}
 
 -- no byte above the space is a blank
 above-blank : (b : ℕ) → ltb 32 b ≡ true → isBlank b ≡ false
@@ -61,3 +62,16 @@ module _ (s : List ℕ) (at close : ℕ) where
         (above-blank (byteAt s (at + 2)) (and-right (comma && space) above three))
         (not-true (eqb (byteAt s (at + 2)) close) (and-right (comma && space && above) stays four))
         (not-true (eqb close 44) (and-right (comma && space && above && stays) other five))
+
+  module _ (h : shutAt s at close ≡ true) where
+    pub shut-in : at < length s
+    shut-in = ltb-true at (length s) (and-left (ltb at (length s)) _ h)
+
+    pub shut-then : thenAt s at close ≡ Shut (at + 1)
+    unfolding thenAt
+    shut-then =
+        let closes = eqb (byteAt s at) close in
+        let two = and-right (ltb at (length s)) (closes && ltb 32 close) h in
+        let is = eqb-true (byteAt s at) close (and-left closes (ltb 32 close) two) in
+        let here : skip s at ≡ at = past-stop isBlank s at (ap isBlank is ∙ above-blank close (and-right closes (ltb 32 close) two)) in
+        rw (here, and-left closes (ltb 32 close) two)

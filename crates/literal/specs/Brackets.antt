@@ -26,6 +26,10 @@ thenAt s at close = cond (eqb (byteAt s (skip s at)) close) (Shut (skip s at + 1
 abbrev pub nearAt : List ℕ → ℕ → ℕ → Bool
 nearAt s at close = leb (at + 3) (length s) && ((((eqb (byteAt s at) 44 && eqb (byteAt s (at + 1)) 32) && ltb 32 (byteAt s (at + 2))) && not (eqb (byteAt s (at + 2)) close)) && not (eqb close 44))
 
+-- whether one byte tells that the bracket closes; no closing bracket is a blank
+abbrev pub shutAt : List ℕ → ℕ → ℕ → Bool
+shutAt s at close = ltb at (length s) && (eqb (byteAt s at) close && ltb 32 close)
+
 -- behind blanks: a byte that has to stand there
 unfoldable pub needAt : List ℕ → ℕ → ℕ → Parsed
 needAt s at b = cond (eqb (byteAt s (skip s at)) b) (Value (skip s at + 1)) (Fault (skip s at))

@@ -1,6 +1,6 @@
 // What stands between the items of a bracket. No function here has a `requires`. `close` is the closing bracket.
 ghost use mathlib.Core.Path.{_≡_};
-ghost use Rattle.literal.specs.Brackets.{gapAt, nearAt, thenAt, needAt, colonAt, endedAt};
+ghost use Rattle.literal.specs.Brackets.{gapAt, nearAt, shutAt, thenAt, needAt, colonAt, endedAt};
 use tokens::Parsed;
 use tokens::bytes::blanks;
 use tokens::bytes::peek;
@@ -53,10 +53,23 @@ fn then_any(text: &[u8], at: usize, close: u8) -> Gap
     Gap::Stray(p)
 }
 
-// The same, where nearly every comma has one blank behind it: three bytes tell that.
+// Whether the closing bracket stands at `at`.
+fn shut_at(text: &[u8], at: usize, close: u8) -> bool
+    ensures { λ r. ⌜ r ≡ shutAt (now (text .entry)) at close ⌝ }
+{
+    if text.len() <= at {
+        return false;
+    }
+    (text[at] == close) & (32 < close)
+}
+
+// The same, where the bracket mostly closes at once, and nearly every comma has one blank behind it: three bytes tell that.
 pub fn then_at(text: &[u8], at: usize, close: u8) -> Gap
     ensures { λ r. ⌜ r ≡ thenAt (now (text .entry)) at close ⌝ }
 {
+    if shut_at(text, at, close) {
+        return Gap::Shut(at + 1);
+    }
     if near(text, at, close) {
         return Gap::Item(at + 2);
     }

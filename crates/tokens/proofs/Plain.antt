@@ -5,19 +5,20 @@ use native.Mathlib.Omega.{arith}
 use native.Mathlib.Numerals.{add-one}
 use mathlib.Core.Path.{_≡_, refl, sym, ap, subst, _∙_}
 use mathlib.Core.List.{List, [], _∷_, _++_, append-nil}
-use mathlib.Core.Bool.{Bool, true, false, _||_, not, cond, or-false}
+use mathlib.Core.Bool.{Bool, true, false, _||_, _&&_, not, cond, or-false}
 use lib.ListN.{length, getD, take, drop, length-append, length-drop}
 use lib.Seq.{append-snoc, drop-cons, getD-drop, length-take-le}
 use lib.Dec.{eqb, ltb}
-use borrow.Author.Tests.{lt-ltb, le-ltb}
+use borrow.Author.Tests.{lt-ltb, le-ltb, ltb-true}
+use Rattle.counts.proofs.Alike.{and-left, and-right}
 use Rattle.grammar.specs.Bytes.{isBreak}
 use Rattle.grammar.proofs.Texts.{true-false}
 use Rattle.tokens.proofs.Positions.{past-from}
 use Rattle.tokens.proofs.Ends.{run-within, past-within}
-use Rattle.tokens.proofs.Spelling.{byte-ahead, Along, along-start, along-bad, along-byte}
+use Rattle.tokens.proofs.Spelling.{byte-ahead, Along, along-start, along-close, along-bad, along-byte}
 use Rattle.tokens.specs.Text.{byteAt, part, run, past}
-use Rattle.tokens.specs.Strings.{escapeAt, pieceBy, pieceAt, isPlain, ends, spelled}
-use Rattle.tokens.specs.declared.Parsed.the-variants.{Fault}
+use Rattle.tokens.specs.Strings.{escapeAt, pieceBy, pieceAt, isPlain, ends, spelled, scanned}
+use Rattle.tokens.specs.declared.Parsed.the-variants.{Value, Fault}
 use Rattle.tokens.specs.declared.strings.Piece.{Piece}
 use Rattle.tokens.specs.declared.strings.Piece.the-variants.{Close, Byte, Bad}
 
@@ -115,6 +116,23 @@ module _ (q : ℕ) (s : List ℕ) where
     -- the whole run
     pub along-plain : (at to : ℕ) (us : List ℕ) (e : Bool) → to ≡ past (isPlain q) s at → Along q s from at us e → Along q s from to (us ++ part s at to) e
     along-plain at to us e h w = along-as (omega (arith, plain-from at to h)) refl refl (along-run (to - at) at us e (run-is at to h) w)
+
+  -- what `stands` tells of the quote behind a run: it ends the string
+  module _ (from to : ℕ) (h : to ≡ past (isPlain q) s from) (t : Bool) (said : t ≡ (ltb to (length s) && eqb (byteAt s to) q)) (yes : t ≡ true) where
+    stood : (ltb to (length s) && eqb (byteAt s to) q) ≡ true
+    stood = sym said ∙ yes
+
+    pub plain-before : to < length s
+    plain-before = ltb-true to (length s) (and-left (ltb to (length s)) (eqb (byteAt s to) q) stood)
+
+    pub plain-string : spelled q s from ≡ record { bytes = part s from to; escape = false; ended = Value (to + 1) }
+    unfolding pieceAt
+    plain-string =
+        let p : pieceAt q s to ≡ Close (to + 1) = rw (and-left (ltb to (length s)) (eqb (byteAt s to) q) stood, and-right (ltb to (length s)) (eqb (byteAt s to) q) stood) in
+        along-close q s from to (part s from to) false (to + 1) (along-plain from from to [] false h (along-start q s from)) p
+
+    pub plain-scan : record { ended = Value (to + 1); len = to - from; escape = false } ≡ scanned (spelled q s from)
+    plain-scan = let n : to - from ≡ length (part s from to) = omega (arith, plain-count from to h [] 0 refl) in rw n (sym (ap scanned plain-string))
 
   -- a string that begins past the end has no bytes, and a fault there
   pub spelled-outside : (from : ℕ) → length s ≤ from → spelled q s from ≡ ends (Fault from)

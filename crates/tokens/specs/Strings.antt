@@ -26,6 +26,13 @@ pieceBy q s at = cond (eqb (byteAt s at) q) (Close (at + 1)) (cond (isBreak (byt
 unfoldable pub isPlain : ℕ → ℕ → Bool
 isPlain q b = not (eqb b q || isBreak b || eqb b 92)
 
+-- a byte below `(`, as both quotes and the breaks are, or a backslash; and any other, which stands for itself behind such a quote
+unfoldable pub isLow : ℕ → Bool
+isLow b = ltb b 40 || eqb b 92
+
+abbrev pub isHigh : ℕ → Bool
+isHigh b = not (isLow b)
+
 -- the piece at a position; the text's end is a fault
 unfoldable pub pieceAt : ℕ → List ℕ → ℕ → Piece
 pieceAt q s at = cond (ltb at (length s)) (pieceBy q s at) (Bad at)

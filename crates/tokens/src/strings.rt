@@ -1,12 +1,12 @@
 // Strings, decoded in one place: `piece_at`, behind the bytes that stand for themselves (`plain_to`). No function here has a `requires`. A string's `from` is the position behind its opening quote, and
 // `quote` is that quote.
 ghost use mathlib.Core.Path.{_≡_};
-ghost use mathlib.Core.Bool.{cond};
-ghost use lib.Dec.{ltb};
-ghost use lib.ListN.{set};
+ghost use mathlib.Core.Bool.{cond, _&&_};
+ghost use lib.Dec.{eqb, ltb};
+ghost use lib.ListN.{length, set};
 ghost use lib.Seq.{sets};
-ghost use Rattle.tokens.specs.Strings.{escapeAt, pieceAt, isPlain, endBy, spelled, scanned};
-ghost use Rattle.tokens.specs.Text.{past, all, blockAt};
+ghost use Rattle.tokens.specs.Strings.{escapeAt, pieceAt, isPlain, isLow, isHigh, endBy, spelled, scanned};
+ghost use Rattle.tokens.specs.Text.{byteAt, run, past, all, blockAt};
 ghost use Rattle.counts.specs.Same.{same};
 use super::Parsed;
 use super::bytes::is_break;
@@ -132,20 +132,67 @@ fn plain_far(text: &[u8], from: usize, quote: u8) -> usize
     plain_rest(text, at, quote)
 }
 
-// The same for a run of which nothing is known. Most are short, and a block would be in vain: it is tried behind 16 bytes.
+// Whether a byte stands below `(` or is a backslash. In a string behind `'` or `"` a byte that is neither stands for itself.
+fn is_low(b: u8) -> bool
+    ensures { λ r. ⌜ r ≡ isLow b ⌝ }
+{
+    (b < 40) | (b == 92)
+}
+
+// The place i where the byte there is low, and 16 where it is not.
+fn low_place(b: u8, i: u8) -> u8
+    ensures { λ r. ⌜ r ≡ cond (isLow b) i 16 ⌝ }
+{
+    if is_low(b) { i } else { 16 }
+}
+
+fn lesser(a: u8, b: u8) -> u8
+    ensures { λ r. ⌜ r ≡ cond (ltb a b) a b ⌝ }
+{
+    if a < b { a } else { b }
+}
+
+// The place of the first low byte of a block of 16, or 16 where there is none: one pass that no byte ends early, so that the compiler takes the whole
+// block at a time.
+fn first_low(block: &[u8]) -> u8
+    requires { ⌜ length (now block) ≡ 16 ⌝ }
+    ensures { λ r. ⌜ r ≡ run isHigh (now (block .entry)) ⌝ }
+{
+    let mut first: u8 = 16;
+    let mut i: u8 = 0;
+    while i < 16 {
+        first = lesser(first, low_place(block[i as usize], i));
+        i += 1;
+    }
+    first
+}
+
+// Whether the byte b stands at `at`.
+fn stands(text: &[u8], at: usize, b: u8) -> bool
+    ensures { λ r. ⌜ r ≡ (ltb at (length (now (text .entry))) && eqb (byteAt (now (text .entry)) at) b) ⌝ }
+{
+    if text.len() <= at {
+        return false;
+    }
+    text[at] == b
+}
+
+// The same for a run of which nothing is known. Most end at the quote within 16 bytes.
 fn plain_any(text: &[u8], from: usize, quote: u8) -> usize
     ensures { λ r. ⌜ r ≡ past (isPlain quote) (now (text .entry)) from ⌝ }
 {
-    if text.len() <= from {
-        return from;
+    if 39 < quote {
+        return plain_rest(text, from, quote);
     }
-    let near = from + least(text.len() - from, 16);
-    let mut at = from;
-    while at < near {
-        if !is_plain(text[at], quote) {
-            return at;
-        }
-        at += 1;
+    if text.len() < 16 {
+        return plain_rest(text, from, quote);
+    }
+    if text.len() - 16 < from {
+        return plain_rest(text, from, quote);
+    }
+    let at = from + first_low(&text[from..from + 16]) as usize;
+    if stands(text, at, quote) {
+        return at;
     }
     plain_far(text, at, quote)
 }
@@ -161,8 +208,8 @@ fn plain_to(text: &[u8], from: usize, quote: u8, escape: bool) -> usize
     }
 }
 
-// Passes over a string, up to its end or its fault.
-pub fn scan_at(text: &[u8], from: usize, quote: u8) -> Scan
+// Passes over a string, up to its end or its fault, piece by piece.
+fn scan_from(text: &[u8], from: usize, quote: u8) -> Scan
     ensures { λ r. ⌜ r ≡ scanned (spelled quote (now (text .entry)) from) ⌝ }
 {
     let mut at = from;
@@ -194,6 +241,21 @@ pub fn scan_at(text: &[u8], from: usize, quote: u8) -> Scan
             }
         }
     }
+}
+
+// The same of any string. In most no escape stands.
+pub fn scan_at(text: &[u8], from: usize, quote: u8) -> Scan
+    ensures { λ r. ⌜ r ≡ scanned (spelled quote (now (text .entry)) from) ⌝ }
+{
+    let to = plain_any(text, from, quote);
+    if stands(text, to, quote) {
+        return Scan {
+            ended: Parsed::Value(to + 1),
+            len: to - from,
+            escape: false,
+        };
+    }
+    scan_from(text, from, quote)
 }
 
 // A store where there is room for it.
@@ -231,8 +293,8 @@ fn end_by(p: Piece) -> Parsed
     }
 }
 
-// Writes the bytes that the string stands for to the front of `out`, as many as have room there, and answers what a scan of it tells.
-pub fn decode(text: &[u8], from: usize, quote: u8, out: &mut [u8]) -> Scan
+// Writes the bytes that the string stands for to the front of `out`, as many as have room there, and answers what a scan of it tells: piece by piece.
+fn decode_from(text: &[u8], from: usize, quote: u8, out: &mut [u8]) -> Scan
     ensures { λ r. ⌜ r ≡ scanned (spelled quote (now (text .entry)) from) ⌝ }
     ensures { λ _. ⌜ now (out .exit) ≡ sets (now (out .entry)) 0 (spelled quote (now (text .entry)) from .bytes) ⌝ }
 {
@@ -263,6 +325,23 @@ pub fn decode(text: &[u8], from: usize, quote: u8, out: &mut [u8]) -> Scan
         len += 1;
         at = e;
     }
+}
+
+// The same of any string. In most no escape stands.
+pub fn decode(text: &[u8], from: usize, quote: u8, out: &mut [u8]) -> Scan
+    ensures { λ r. ⌜ r ≡ scanned (spelled quote (now (text .entry)) from) ⌝ }
+    ensures { λ _. ⌜ now (out .exit) ≡ sets (now (out .entry)) 0 (spelled quote (now (text .entry)) from .bytes) ⌝ }
+{
+    let to = plain_any(text, from, quote);
+    if stands(text, to, quote) {
+        put_run(out, 0, &text[from..to]);
+        return Scan {
+            ended: Parsed::Value(to + 1),
+            len: to - from,
+            escape: false,
+        };
+    }
+    decode_from(text, from, quote, out)
 }
 
 // Whether the string stands for the bytes of `key`.

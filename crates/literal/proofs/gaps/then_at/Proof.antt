@@ -1,29 +1,42 @@
--- Three bytes tell an item; else it is asked as ever. Assumes nothing.
+-- One byte tells the closing bracket, and three an item; else it is asked as ever. Assumes nothing.
 use mathlib.Core.Path.{sym, _∙_}
 use borrow.Author.Needs.{needs}
 use native.Mathlib.Omega.{arith}
-use Rattle.literal.proofs.Near.{near-in, near-then}
+use Rattle.literal.proofs.Near.{near-in, near-then, shut-in, shut-then}
 use Rattle.literal.proofs.gaps.then_at.Statement.{statement}
 use Rattle.literal.proofs.gaps.then_at.Tie as tie
 
-near-requires : tie.Need-near-requires
-near-requires c κs = search needs
+shut-at-requires : tie.Need-shut-at-requires
+shut-at-requires c κs = search needs
 
 add-t5 : tie.Need-add-t5
 add-t5 c =
     let a = c .before .before .before .args in
-    omega (arith, near-in (a .text .now) (a .at) (a .close) (sym (c .before .near .ensures) ∙ c .if1 .taken))
+    omega (arith, shut-in (a .text .now) (a .at) (a .close) (sym (c .before .shut-at .ensures) ∙ c .if1 .taken))
 
 returns : tie.Need-returns
 returns c =
     let a = c .before .before .before .args in
-    sym (near-then (a .text .now) (a .at) (a .close) (sym (c .before .near .ensures) ∙ c .if1 .taken))
+    sym (shut-then (a .text .now) (a .at) (a .close) (sym (c .before .shut-at .ensures) ∙ c .if1 .taken))
+
+near-requires : tie.Need-near-requires
+near-requires c κs = search needs
+
+add-t7 : tie.Need-add-t7
+add-t7 c =
+    let a = c .before .before .before .before .before .args in
+    omega (arith, near-in (a .text .now) (a .at) (a .close) (sym (c .before .near .ensures) ∙ c .if2 .taken))
+
+returns-2 : tie.Need-returns-2
+returns-2 c =
+    let a = c .before .before .before .before .before .args in
+    sym (near-then (a .text .now) (a .at) (a .close) (sym (c .before .near .ensures) ∙ c .if2 .taken))
 
 then-any-requires : tie.Need-then-any-requires
 then-any-requires c κs = search needs
 
-returns-2 : tie.Need-returns-2
-returns-2 c = search needs
+returns-3 : tie.Need-returns-3
+returns-3 c = search needs
 
 pub then-at-spec : {M : Type 1} → statement M
-then-at-spec = tie.close (tie.spec near-requires add-t5 returns then-any-requires returns-2)
+then-at-spec = tie.close (tie.spec shut-at-requires add-t5 returns near-requires add-t7 returns-2 then-any-requires returns-3)

@@ -1,94 +1,90 @@
--- The invariant: the run from `from` on ends where the run from `at` on ends. Assumes nothing.
-use Prim.Native.Nat.{_-_, _<_}
-use mathlib.Core.Path.{_≡_, refl, sym, _∙_}
+-- Behind bytes that are not low the run goes on; a quote ends it. Assumes nothing.
+use Prim.Native.Nat.{_+_}
+use mathlib.Core.Path.{sym, _∙_}
 use native.Mathlib.Omega.{arith}
-use lib.ListN.{length}
-use Rattle.tokens.specs.Text.{past}
-use Rattle.tokens.specs.Strings.{isPlain}
+use Rattle.tokens.proofs.Firsts.{high-on, high-to}
 use borrow.Author.Needs.{needs}
-use Rattle.tokens.proofs.Positions.{past-end, run-stops, run-goes-on}
-use Rattle.tokens.proofs.Matching.{least-first}
 use Rattle.tokens.proofs.strings.plain_any.Statement.{statement}
 use Rattle.tokens.proofs.strings.plain_any.Tie as tie
 
-abbrev Inv-loop : tie.InvT-loop
-Inv-loop text from quote near at₀ at = past (isPlain quote) text from ≡ past (isPlain quote) text at
+plain-rest-requires : tie.Need-plain-rest-requires
+plain-rest-requires c κs = search needs
 
-abbrev μ-loop : tie.MeasureT-loop
-μ-loop text from quote near at₀ at = near - at
+returns : tie.Need-returns
+returns c = search needs
 
-returns : tie.Need-returns Inv-loop μ-loop
-returns c = sym (past-end (isPlain (c .before .before .args .quote)) (c .before .before .args .text .now) (c .before .before .args .from) (c .if1 .taken))
+plain-rest-requires-2 : tie.Need-plain-rest-requires-2
+plain-rest-requires-2 c κs = search needs
 
-sub-least : tie.Need-sub-least Inv-loop μ-loop
-sub-least c = search needs
+returns-2 : tie.Need-returns-2
+returns-2 c = search needs
 
-least-requires : tie.Need-least-requires Inv-loop μ-loop
-least-requires c κs = search needs
+sub-if3 : tie.Need-sub-if3
+sub-if3 c = search needs
 
-add-near : tie.Need-add-near Inv-loop μ-loop
-add-near c =
-    let a = c .before .before .before .args in
-    let le = least-first (length (a .text .now) - a .from) 16 in
-    omega (arith, c .least .ensures)
+plain-rest-requires-3 : tie.Need-plain-rest-requires-3
+plain-rest-requires-3 c κs = search needs
 
-loop-holds : tie.Need-loop-holds Inv-loop μ-loop
-loop-holds c = refl
+returns-3 : tie.Need-returns-3
+returns-3 c = search needs
 
-shared-slice-read-is-plain : tie.Need-shared-slice-read-is-plain Inv-loop μ-loop
-shared-slice-read-is-plain c =
-    let a = c .before .before .before .before .before .before .args in
-    let le = least-first (length (a .text .now) - a .from) 16 in
-    omega (arith, c .before .before .before .least .ensures)
+add-first-low : tie.Need-add-first-low
+add-first-low c = search needs
 
-is-plain-requires : tie.Need-is-plain-requires Inv-loop μ-loop
-is-plain-requires c κs = search needs
+sub-first-low : tie.Need-sub-first-low
+sub-first-low c = search needs
 
-returns-2 : tie.Need-returns-2 Inv-loop μ-loop
-returns-2 c =
+part-first-low-start : tie.Need-part-first-low-start
+part-first-low-start c = search needs
+
+part-first-low-end : tie.Need-part-first-low-end
+part-first-low-end c = search needs
+
+first-low-requires : tie.Need-first-low-requires
+first-low-requires c κs = search needs
+
+cast-at : tie.Need-cast-at
+cast-at c = search needs
+
+add-at : tie.Need-add-at
+add-at c = search needs
+
+stands-requires : tie.Need-stands-requires
+stands-requires c κs = search needs
+
+returns-4 : tie.Need-returns-4
+returns-4 c =
     let a = c .before .before .before .before .before .before .before .before .args in
-    let le = least-first (length (a .text .now) - a .from) 16 in
-    let lt : c .before .before .before .before .loop .at < length (a .text .now) = omega (arith, c .before .before .before .before .before .least .ensures) in
-    run-stops (isPlain (a .quote)) _ _ (c .before .before .before .before .loop .at) (c .before .before .before .before .loop .inv) lt _ (c .before .is-plain .ensures) (c .if2 .taken)
+    let n = c .before .before .first-low .result in
+    high-to (a .quote) (a .text .now) (a .from) (a .from + 16) n (omega arith) (c .before .before .first-low .ensures) _ (c .before .stands .ensures) (c .if4 .taken)
 
-add-at : tie.Need-add-at Inv-loop μ-loop
-add-at c =
-    let a = c .before .before .before .before .before .before .before .before .args in
-    let le = least-first (length (a .text .now) - a .from) 16 in
-    omega (arith, c .before .before .before .before .before .least .ensures)
-
-loop-less : tie.Need-loop-less Inv-loop μ-loop
-loop-less c = search needs
-
-loop-again : tie.Need-loop-again Inv-loop μ-loop
-loop-again c =
-    let a = c .before .before .before .before .before .before .before .before .args in
-    let le = least-first (length (a .text .now) - a .from) 16 in
-    let lt : c .before .before .before .before .loop .at < length (a .text .now) = omega (arith, c .before .before .before .before .before .least .ensures) in
-    run-goes-on (isPlain (a .quote)) _ _ (c .before .before .before .before .loop .at) (c .before .before .before .before .loop .inv) lt _ (c .before .is-plain .ensures) (c .if2 .left)
-
-plain-far-requires : tie.Need-plain-far-requires Inv-loop μ-loop
+plain-far-requires : tie.Need-plain-far-requires
 plain-far-requires c κs = search needs
 
-returns-3 : tie.Need-returns-3 Inv-loop μ-loop
-returns-3 c = c .plain-far .ensures ∙ sym (c .before .before .loop .inv)
+returns-5 : tie.Need-returns-5
+returns-5 c =
+    let a = c .before .before .before .before .before .before .before .before .before .args in
+    c .plain-far .ensures ∙ sym (high-on (a .quote) (a .text .now) (a .from) (a .from + 16) (c .before .before .before .first-low .result) (omega arith) (c .before .before .before .first-low .ensures))
 
 pub plain-any-spec : {M : Type 1} → statement M
 plain-any-spec =
     tie.close
     (tie.spec
-    Inv-loop
-    μ-loop
+    plain-rest-requires
     returns
-    sub-least
-    least-requires
-    add-near
-    loop-holds
-    shared-slice-read-is-plain
-    is-plain-requires
+    plain-rest-requires-2
     returns-2
+    sub-if3
+    plain-rest-requires-3
+    returns-3
+    add-first-low
+    sub-first-low
+    part-first-low-start
+    part-first-low-end
+    first-low-requires
+    cast-at
     add-at
-    loop-less
-    loop-again
+    stands-requires
+    returns-4
     plain-far-requires
-    returns-3)
+    returns-5)
