@@ -1,3 +1,0 @@
-pub mod Counting
-pub mod Integers
-pub mod Outcomes
