@@ -40,14 +40,16 @@ use Rattle.literal.proofs.Ends.{Ahead, value-ahead, then-ahead}
 use Rattle.literal.proofs.Steps.{gapLeft, gap-falls}
 use Rattle.fill.specs.declared.Spot.{Spot}
 use Rattle.fill.specs.declared.Many.{Many}
+use Rattle.fill.specs.declared.Head.{Head}
+use Rattle.dims.specs.Walk.{closingOf}
 use Rattle.field.specs.declared.Typed.{Typed}
 use Rattle.field.specs.Begins.{gapPlace, isString}
 use Rattle.entry.specs.Written.{typeIn, put, bare, above}
 use Rattle.entry.proofs.Stores.{sets-append, flat-front, names-front}
 use Rattle.entry.proofs.Levels.{put-room, entry-before, size-over, arrays-entries}
 use Rattle.entry.proofs.Lifts.{above-flat}
-use Rattle.fill.specs.Filled.{Narrow, NarrowIn, DueShape, Shapes, Due, Fills, Filled, DueFields, DueFieldsFrom, FillsFields, FilledFields, DueField, FilledField}
-use Rattle.fill.proofs.Parted.{refused-gives, read-back, row-none, Opened}
+use Rattle.fill.specs.Filled.{Narrow, NarrowIn, nameSpelled, DueHead, Headed, DueShape, DueShapeAt, Shapes, Due, DueAt, Fills, Filled, DueFields, DueFieldsFrom, FillsFields, FilledFields, DueField, FilledField}
+use Rattle.fill.proofs.Parted.{refused-gives, read-back, row-none, Opened, opened}
 
 -- ---- a type string
 plain-back : (o : Outcome TypeStr) (d : Dtype) → each plain o ≡ gives d → (t : TypeStr) × (o ≡ gives t) × (d ≡ plain t)
@@ -174,6 +176,19 @@ name-put f gs byte names =
     ap (λ (l : List ℕ). sets names byte (w ++ l)) (names-front (f .type) more) ∙ ap (sets names byte) (sym (append-assoc w (namesOf (f .type) []) more))
     ∙ sets-append names byte (w ++ namesOf (f .type) []) more ∙ ap (λ (j : ℕ). sets (sets names byte (w ++ namesOf (f .type) [])) j more) i
 
+-- a field changes no length
+field-long : {e entry up byte : ℕ} {f : Field} {table names table′ names′ : List ℕ} {r : Spot} → FilledField e entry up byte f table names table′ names′ r → (length table′ ≡ length table) × (length names′ ≡ length names)
+field-long {entry = entry} {up} {byte} {f} {table} {names} w = (
+  ap length (w .table-after) ∙ length-sets table (entry-width * entry) (flat (f .type) entry up (length (f .name)) []),
+  ap length (w .names-after) ∙ length-sets names byte (f .name ++ namesOf (f .type) []),
+)
+
+-- a field ends behind where it begins
+field-less : (k : ℕ) (s : List ℕ) (p q : ℕ) (v : Node) (g g′ : Gap) (end : ℕ) → g ≡ Item p → value k s p ≡ got v q → end ≡ q → g′ ≡ thenAt s end 93 → gapLeft (length s) g′ < gapLeft (length s) g
+field-less k s p q v g g′ end hg hv he hg′ =
+    let a : (p < q) × (q ≤ length s) = subst (λ (x : Got Node). Ahead p (length s) (pos x)) hv (value-ahead k s p) in
+    rw (hg, hg′, he) (gap-falls p q (length s) (thenAt s q 93) (a .0) (a .1) (then-ahead s q 93 (omega arith)))
+
 module _ (k : ℕ) (s : List ℕ) (from entry up byte : ℕ) (table0 names0 : List ℕ) where
   pub record Left (g : Gap) (at b count size : ℕ) (table names : List ℕ) (fs : Fields) (e : ℕ) : Type 0 where
     pub us : List Node
@@ -241,52 +256,61 @@ module _ (k : ℕ) (s : List ℕ) (from entry up byte : ℕ) (table0 names0 : Li
           },
         )
 
-    pub filling-more : (p : ℕ) → g ≡ Item p → (r : Spot) (g′ : Gap) (table′ names′ : List ℕ) (size′ : ℕ) → g′ ≡ thenAt s (r .end) 93 → size′ ≡ saturated (size + r .size)
-        → ((v : Node) (q : ℕ) (f : Field) → DueField k s p at table b names v q f → FilledField q at up b f table names table′ names′ r)
-        → length table′ ≡ length table → length names′ ≡ length names → at < r .entry → Filling g′ (r .entry) (r .byte) (count + 1) size′ table′ names′
-    filling-more p hg r g′ table′ names′ size′ hg′ hs hf hl hn up′ =
-        record {
-          long = hl ∙ w .long;
-          long-names = hn ∙ w .long-names;
-          low = omega (arith, w .low);
-          fits = omega arith;
-          goes = λ ns e fs h.
-              let l = w .goes ns e fs h in
-              let x = row-step (value k s) s 93 (l .us) p e (subst (λ (y : Gap). Row (value k s) s 93 (l .us) y e) hg (l .row)) in
-              let y = fields-back (x .0) (x .1) (l .gs) (sym (ap (λ (z : List Node). fieldsOf (forgetAll (nodes z))) (x .3)) ∙ l .is) in
-              let f = y .0 in
-              let gs = y .1 in
-              let nar : NarrowIn (field-then (f .name) (f .type) gs) = subst (λ (z : Fields). NarrowIn z) (y .4) (l .narrow) in
-              let m1 : entriesIn (l .gs) ≡ entriesOf (f .type) + entriesIn gs = ap entriesIn (y .4) in
-              let m2 : nameBytesIn (l .gs) ≡ length (f .name) + (nameBytes (f .type) + nameBytesIn gs) = ap nameBytesIn (y .4) in
-              let m3 : fieldCount (l .gs) ≡ suc (fieldCount gs) = ap fieldCount (y .4) in
-              let m4 : sizesOf (l .gs) ≡ sizeOf (f .type) + sizesOf gs = ap sizesOf (y .4) in
-              let due : DueField k s p at table b names (x .0) (x .2) f =
-              record {
-                one = record { stands = x .4; is = y .2 };
-                narrow = nar .0;
-                room = omega (arith, l .adds, m1, h .room, w .long);
-                name-room = omega (arith, l .adds-names, m2, h .name-room, w .long-names);
-              } in
-              let z = hf (x .0) (x .2) f due in
-              record {
-                us = x .1;
-                gs = gs;
-                row = subst (λ (q : Gap). Row (value k s) s 93 (x .1) q e) (ap (λ (q : ℕ). thenAt s q 93) (sym (z .ends)) ∙ sym hg′) (x .5);
-                is = y .3;
-                narrow = nar .1;
-                adds = omega (arith, z .next, m1, l .adds);
-                adds-names = omega (arith, z .next-name, m2, l .adds-names);
-                counts = omega (arith, m3, l .counts);
-                sizes = omega (arith, hs, z .sized, m4, l .sizes);
-                due = ap (λ (q : List ℕ). sets q (entry-width * r .entry) (flats gs (r .entry) up [])) (z .table-after)
-                    ∙ ap (λ (q : ℕ). sets (sets table (entry-width * at) (flat (f .type) at up (length (f .name)) [])) (entry-width * q) (flats gs q up [])) (z .next)
-                    ∙ sym (field-put f gs at up table) ∙ ap (λ (q : Fields). sets table (entry-width * at) (flats q at up [])) (sym (y .4)) ∙ l .due;
-                due-names = ap (λ (q : List ℕ). sets q (r .byte) (namesIn gs [])) (z .names-after)
-                    ∙ ap (λ (q : ℕ). sets (sets names b (f .name ++ namesOf (f .type) [])) q (namesIn gs [])) (z .next-name)
-                    ∙ sym (name-put f gs b names) ∙ ap (λ (q : Fields). sets names b (namesIn q [])) (sym (y .4)) ∙ l .due-names;
-              };
-        }
+    -- the field was filled, and what is left is less and goes on behind it
+    module _ (p : ℕ) (hg : g ≡ Item p) (r : Spot) (g′ : Gap) (table′ names′ : List ℕ) (hg′ : g′ ≡ thenAt s (r .end) 93)
+        (hf : (v : Node) (q : ℕ) (f : Field) → DueField k s p at table b names v q f → FilledField q at up b f table names table′ names′ r)
+        (ns₀ : List Node) (e₀ : ℕ) (fs₀ : Fields) (h₀ : DueFields k s from entry table0 byte names0 ns₀ e₀ fs₀) where
+      pub filling-less : gapLeft (length s) g′ < gapLeft (length s) g
+      filling-less =
+          let x = filling-field p hg ns₀ e₀ fs₀ h₀ in
+          field-less k s p (x .1) (x .0) g g′ (r .end) hg (x .3 .one .stands) (hf (x .0) (x .1) (x .2) (x .3) .ends) hg′
+
+      pub filling-more : (size′ : ℕ) → size′ ≡ saturated (size + r .size) → Filling g′ (r .entry) (r .byte) (count + 1) size′ table′ names′
+      filling-more size′ hs =
+          let x₀ = filling-field p hg ns₀ e₀ fs₀ h₀ in
+          let z₀ = hf (x₀ .0) (x₀ .1) (x₀ .2) (x₀ .3) in
+          record {
+            long = field-long z₀ .0 ∙ w .long;
+            long-names = field-long z₀ .1 ∙ w .long-names;
+            low = omega (arith, w .low, z₀ .next, some-entry (x₀ .2 .type));
+            fits = omega arith;
+            goes = λ ns e fs h.
+                let l = w .goes ns e fs h in
+                let x = row-step (value k s) s 93 (l .us) p e (subst (λ (y : Gap). Row (value k s) s 93 (l .us) y e) hg (l .row)) in
+                let y = fields-back (x .0) (x .1) (l .gs) (sym (ap (λ (z : List Node). fieldsOf (forgetAll (nodes z))) (x .3)) ∙ l .is) in
+                let f = y .0 in
+                let gs = y .1 in
+                let nar : NarrowIn (field-then (f .name) (f .type) gs) = subst (λ (z : Fields). NarrowIn z) (y .4) (l .narrow) in
+                let m1 : entriesIn (l .gs) ≡ entriesOf (f .type) + entriesIn gs = ap entriesIn (y .4) in
+                let m2 : nameBytesIn (l .gs) ≡ length (f .name) + (nameBytes (f .type) + nameBytesIn gs) = ap nameBytesIn (y .4) in
+                let m3 : fieldCount (l .gs) ≡ suc (fieldCount gs) = ap fieldCount (y .4) in
+                let m4 : sizesOf (l .gs) ≡ sizeOf (f .type) + sizesOf gs = ap sizesOf (y .4) in
+                let due : DueField k s p at table b names (x .0) (x .2) f =
+                record {
+                  one = record { stands = x .4; is = y .2 };
+                  narrow = nar .0;
+                  room = omega (arith, l .adds, m1, h .room, w .long);
+                  name-room = omega (arith, l .adds-names, m2, h .name-room, w .long-names);
+                } in
+                let z = hf (x .0) (x .2) f due in
+                record {
+                  us = x .1;
+                  gs = gs;
+                  row = subst (λ (q : Gap). Row (value k s) s 93 (x .1) q e) (ap (λ (q : ℕ). thenAt s q 93) (sym (z .ends)) ∙ sym hg′) (x .5);
+                  is = y .3;
+                  narrow = nar .1;
+                  adds = omega (arith, z .next, m1, l .adds);
+                  adds-names = omega (arith, z .next-name, m2, l .adds-names);
+                  counts = omega (arith, m3, l .counts);
+                  sizes = omega (arith, hs, z .sized, m4, l .sizes);
+                  due = ap (λ (q : List ℕ). sets q (entry-width * r .entry) (flats gs (r .entry) up [])) (z .table-after)
+                      ∙ ap (λ (q : ℕ). sets (sets table (entry-width * at) (flat (f .type) at up (length (f .name)) [])) (entry-width * q) (flats gs q up [])) (z .next)
+                      ∙ sym (field-put f gs at up table) ∙ ap (λ (q : Fields). sets table (entry-width * at) (flats q at up [])) (sym (y .4)) ∙ l .due;
+                  due-names = ap (λ (q : List ℕ). sets q (r .byte) (namesIn gs [])) (z .names-after)
+                      ∙ ap (λ (q : ℕ). sets (sets names b (f .name ++ namesOf (f .type) [])) q (namesIn gs [])) (z .next-name)
+                      ∙ sym (name-put f gs b names) ∙ ap (λ (q : Fields). sets names b (namesIn q [])) (sym (y .4)) ∙ l .due-names;
+                };
+          }
 
     pub filling-end : OneOf (0 ∷ 2 ∷ []) (tagOf the-type g) → (end : ℕ) → end ≡ gapPlace g → (ns : List Node) (e : ℕ) (fs : Fields) → DueFields k s from entry table0 byte names0 ns e fs
         → FilledFields e entry up byte fs table0 names0 table names (record { end = end; entry = at; byte = b; size = size; count = count })
@@ -340,7 +364,10 @@ arrays-names : (ns : List ℕ) (d : Dtype) (y : List ℕ) → namesOf (arrays ns
 arrays-names [] d y = refl
 arrays-names (n ∷ ns) d y = arrays-names ns d y
 
-module _ (k : ℕ) (s : List ℕ) (at entry up byte : ℕ) (table names : List ℕ) (n : Node) (e : ℕ) (f : Field) (close p1 p2 : ℕ) (due : DueField k s at entry table byte names n e f) (w : Opened k s close p1 p2 e f) where
+module _ (k : ℕ) (s : List ℕ) (at entry up byte : ℕ) (table names : List ℕ) (close : ℕ) (hc : close ≡ closingOf (kindOf (byteAt s at))) (n : Node) (e : ℕ) (f : Field) (due : DueField k s at entry table byte names n e f) where
+  w : Opened k s at close e f
+  w = opened k s at close hc n e f (due .one)
+
   entries-are : entriesOf (f .type) ≡ length (w .ns) + entriesOf (w .d)
   entries-are = ap entriesOf (w .typed) ∙ arrays-entries (w .ns) (w .d)
 
@@ -350,32 +377,38 @@ module _ (k : ℕ) (s : List ℕ) (at entry up byte : ℕ) (table names : List �
   few-levels : (length (w .ns) ≤ 32) × Narrow (w .d)
   few-levels = narrow-levels (w .ns) (w .d) (subst (λ (x : Dtype). Narrow x) (w .typed) (due .narrow))
 
-  pub name-fits : byte + length (spelled (byteAt s p1) s (p1 + 1) .bytes) ≤ length names
-  name-fits = let l = ap length (w .named) in omega (arith, due .name-room, l)
+  pub field-deep : 0 < k
+  field-deep = w .deep
 
-  module _ (m : ℕ) (names1 : List ℕ) (hm : m ≡ length (spelled (byteAt s p1) s (p1 + 1) .bytes)) (hn : names1 ≡ sets names byte (spelled (byteAt s p1) s (p1 + 1) .bytes)) where
-    length-is : m ≡ length (f .name)
-    length-is = hm ∙ sym (ap length (w .named))
+  pub head-due : DueHead s at close byte names
+  head-due = let l = ap length (w .named) in record { inside = w .inside; begins = w .begins; room = omega (arith, due .name-room, l) }
 
-    pub inner-due : Due (k - 1) s p2 entry table (byte + m) names1 (w .node) (w .end-of-node) (w .d)
-    inner-due =
-        let len = ap length hn ∙ length-sets names byte (spelled (byteAt s p1) s (p1 + 1) .bytes) in
+  module _ (h : Head) (names1 : List ℕ) (hh : Headed s at close byte names names1 h) where
+    length-is : h .len ≡ length (f .name)
+    length-is = hh .counted ∙ sym (ap length (w .named))
+
+    inner : Due (k - 1) s (h .inner) entry table (h .byte) names1 (w .node) (w .end-of-node) (w .d)
+    inner =
+        let len = ap length (hh .names-after) ∙ length-sets names byte (nameSpelled s at close .bytes) in
         record {
-          stands = w .stands;
+          stands = ap (value (k - 1) s) (hh .goes-on) ∙ w .stands;
           is = w .is;
           narrow = few-levels .1;
           room = omega (arith, due .room, entries-are);
-          name-room = omega (arith, due .name-room, bytes-are, length-is, len);
+          name-room = omega (arith, due .name-room, bytes-are, length-is, hh .counted, hh .behind, len);
         }
 
-    module _ (table1 names2 : List ℕ) (r : Spot) (fills : Fills (k - 1) s p2 entry up m (byte + m) table names1 table1 names2 r) where
-      inner-filled : Filled (w .end-of-node) entry up m (byte + m) (w .d) table names1 table1 names2 r
-      inner-filled = fills (w .node) (w .end-of-node) (w .d) inner-due
+    pub inner-due : DueAt (k - 1) s (h .inner) entry table (h .byte) names1
+    inner-due = (w .node, w .end-of-node, w .d, inner)
 
-      pub shape-due : DueShape (k - 1) s close table1 r e (w .ns)
-      shape-due =
+    module _ (table1 names2 : List ℕ) (r : Spot) (fills : Fills (k - 1) s (h .inner) entry up (h .len) (h .byte) table names1 table1 names2 r) where
+      inner-filled : Filled (w .end-of-node) entry up (h .len) (h .byte) (w .d) table names1 table1 names2 r
+      inner-filled = fills (w .node) (w .end-of-node) (w .d) inner
+
+      behind-due : DueShape (k - 1) s close table1 r e (w .ns)
+      behind-due =
           let fl = inner-filled in
-          let long = ap length (fl .table-after) ∙ length-sets table (entry-width * entry) (flat (w .d) entry up m []) in
+          let long = ap length (fl .table-after) ∙ length-sets table (entry-width * entry) (flat (w .d) entry up (h .len) []) in
           record {
             behind = record {
               us = w .us;
@@ -387,23 +420,26 @@ module _ (k : ℕ) (s : List ℕ) (at entry up byte : ℕ) (table names : List �
             room = omega (arith, long, fl .next, due .room, entries-are);
           }
 
-      pub field-whole : length table < 2 ^ 64 → (table2 : List ℕ) (o : Spot) → Shapes (k - 1) s close entry up m table1 table2 r o → FilledField e entry up byte f table names table2 names2 o
+      pub shape-due : DueShapeAt (k - 1) s close table1 r
+      shape-due = (e, w .ns, behind-due)
+
+      pub field-whole : length table < 2 ^ 64 → (table2 : List ℕ) (o : Spot) → Shapes (k - 1) s close entry up (h .len) table1 table2 r o → FilledField e entry up byte f table names table2 names2 o
       field-whole big table2 o l =
           let fl = inner-filled in
-          let sh = l e (w .ns) shape-due in
-          let ws = spelled (byteAt s p1) s (p1 + 1) .bytes in
-          let inner = namesOf (w .d) [] in
+          let sh = l e (w .ns) behind-due in
+          let ws = nameSpelled s at close .bytes in
+          let more = namesOf (w .d) [] in
           record {
             ends = sh .ends;
             next = omega (arith, sh .next, fl .next, entries-are);
-            next-name = omega (arith, sh .next-name, fl .next-name, bytes-are, length-is);
+            next-name = omega (arith, sh .next-name, fl .next-name, bytes-are, length-is, hh .counted, hh .behind);
             sized = sh .sized ∙ size-over (w .ns) (w .d) (r .size) (fl .sized) ∙ ap (λ (x : Dtype). saturated (sizeOf x)) (sym (w .typed));
-            table-after = sh .table-after ∙ ap (above (w .ns) entry up m (r .entry) (r .size)) (fl .table-after)
-                ∙ above-flat (w .ns) (w .d) entry up m (r .entry) (r .size) table (fl .sized) (fl .next) (omega (arith, fl .next, due .room, entries-are)) big
+            table-after = sh .table-after ∙ ap (above (w .ns) entry up (h .len) (r .entry) (r .size)) (fl .table-after)
+                ∙ above-flat (w .ns) (w .d) entry up (h .len) (r .entry) (r .size) table (fl .sized) (fl .next) (omega (arith, fl .next, due .room, entries-are)) big
                 ∙ ap (λ (x : ℕ). sets table (entry-width * entry) (flat (arrays (w .ns) (w .d)) entry up x [])) length-is
                 ∙ ap (λ (x : Dtype). sets table (entry-width * entry) (flat x entry up (length (f .name)) [])) (sym (w .typed));
-            names-after = fl .names-after ∙ ap (λ (x : List ℕ). sets x (byte + m) inner) hn ∙ ap (λ (x : ℕ). sets (sets names byte ws) (byte + x) inner) hm
-                ∙ sym (sets-append names byte ws inner) ∙ ap (λ (x : List ℕ). sets names byte (x ++ inner)) (sym (w .named))
+            names-after = fl .names-after ∙ ap (λ (x : List ℕ). sets x (h .byte) more) (hh .names-after) ∙ ap (λ (x : ℕ). sets (sets names byte ws) x more) (hh .behind)
+                ∙ sym (sets-append names byte ws more) ∙ ap (λ (x : List ℕ). sets names byte (x ++ more)) (sym (w .named))
                 ∙ ap (λ (x : List ℕ). sets names byte (f .name ++ x)) (sym (arrays-names (w .ns) (w .d) []) ∙ ap (λ (x : Dtype). namesOf x []) (sym (w .typed)));
           }
 
@@ -466,19 +502,3 @@ module _ (k : ℕ) (s : List ℕ) (at entry up m byte : ℕ) (table names : List
 module _ {e entry up m byte : ℕ} {table names table′ names′ : List ℕ} where
   pub filled-long : {d : Dtype} {r : Spot} → Filled e entry up m byte d table names table′ names′ r → (length table′ ≡ length table) × (length names′ ≡ length names)
   filled-long {d} w = (ap length (w .table-after) ∙ length-sets table (entry-width * entry) (flat d entry up m []), ap length (w .names-after) ∙ length-sets names byte (namesOf d []))
-
-module _ {e entry up byte : ℕ} {table names table′ names′ : List ℕ} where
-  pub fields-long : {fs : Fields} {r : Many} → FilledFields e entry up byte fs table names table′ names′ r → (length table′ ≡ length table) × (length names′ ≡ length names)
-  fields-long {fs} w = (ap length (w .table-after) ∙ length-sets table (entry-width * entry) (flats fs entry up []), ap length (w .names-after) ∙ length-sets names byte (namesIn fs []))
-
-  pub field-long : {f : Field} {r : Spot} → FilledField e entry up byte f table names table′ names′ r → (length table′ ≡ length table) × (length names′ ≡ length names)
-  field-long {f} w = (
-    ap length (w .table-after) ∙ length-sets table (entry-width * entry) (flat (f .type) entry up (length (f .name)) []),
-    ap length (w .names-after) ∙ length-sets names byte (f .name ++ namesOf (f .type) []),
-  )
-
--- a field ends behind where it begins
-pub field-less : (k : ℕ) (s : List ℕ) (p q : ℕ) (v : Node) (g g′ : Gap) (end : ℕ) → g ≡ Item p → value k s p ≡ got v q → end ≡ q → g′ ≡ thenAt s end 93 → gapLeft (length s) g′ < gapLeft (length s) g
-field-less k s p q v g g′ end hg hv he hg′ =
-    let a : (p < q) × (q ≤ length s) = subst (λ (x : Got Node). Ahead p (length s) (pos x)) hv (value-ahead k s p) in
-    rw (hg, hg′, he) (gap-falls p q (length s) (thenAt s q 93) (a .0) (a .1) (then-ahead s q 93 (omega arith)))

@@ -44,7 +44,7 @@ use Rattle.entry.specs.Written.{sizeOver, above}
 use Rattle.dims.specs.Walk.{closingOf}
 use Rattle.dims.proofs.Held.{Bracket, bracket, no-bracket}
 use Rattle.field.specs.Begins.{gapPlace}
-use Rattle.fill.specs.Filled.{OneField, DueShape, Shaped}
+use Rattle.fill.specs.Filled.{OneField, namePlace, nameSpelled, innerPlace, DueShape, Shaped}
 use Rattle.fill.specs.declared.Spot.{Spot}
 
 pub refused-gives : {A B : Type 0} {a : A} {n : ℕ} → refused n ≡ gives a → B
@@ -134,7 +134,7 @@ items-back (a ∷ b ∷ c ∷ []) f h = items-by a b (c ∷ []) f (omega arith) 
 items-back (a ∷ b ∷ c ∷ d ∷ us) f h = refused-gives h
 
 -- ---- the bracket
-pub field-bracket : (k : ℕ) (s : List ℕ) (at e close : ℕ) (n : Node) (f : Field) → close ≡ closingOf (kindOf (byteAt s at)) → OneField k s at n e f → Bracket k s at n e close
+field-bracket : (k : ℕ) (s : List ℕ) (at e close : ℕ) (n : Node) (f : Field) → close ≡ closingOf (kindOf (byteAt s at)) → OneField k s at n e f → Bracket k s at n e close
 field-bracket k s at e close n f hc o = subst (Bracket k s at n e) (sym hc) (go (eqb (closingOf (kindOf (byteAt s at))) 0) refl)
   where
     go : (t : Bool) → eqb (closingOf (kindOf (byteAt s at))) 0 ≡ t → Bracket k s at n e (closingOf (kindOf (byteAt s at)))
@@ -143,7 +143,7 @@ field-bracket k s at e close n f hc o = subst (Bracket k s at n e) (sym hc) (go 
         refused-gives (sym (field-members (forget n) ∙ ap (λ (y : Outcome Values). then y itemsOf) x) ∙ o .is)
     go false z = bracket k s at e n (o .stands) (kindOf (byteAt s at)) refl (eqb-false _ _ z)
 
-pub field-items : (k : ℕ) (s : List ℕ) (at e close : ℕ) (n : Node) (f : Field) (b : Bracket k s at n e close) → OneField k s at n e f → Items (b .held) f
+field-items : (k : ℕ) (s : List ℕ) (at e close : ℕ) (n : Node) (f : Field) (b : Bracket k s at n e close) → OneField k s at n e f → Items (b .held) f
 field-items k s at e close n f b o = items-back (b .held) f (sym (field-members (forget n) ∙ ap (λ (y : Outcome Values). then y itemsOf) (b .holds 14)) ∙ o .is)
 
 -- ---- a name
@@ -165,14 +165,15 @@ name-is k s p q (tuple x ns) w hv hs = refused-gives hs
 name-is k s p q (dict x ps) w hv hs = refused-gives hs
 
 -- ---- the parts
--- a name at p1; an inner descr at p2 that gives d; behind it nothing or a sub-shape ns
-pub record Opened (k : ℕ) (s : List ℕ) (close p1 p2 e : ℕ) (f : Field) : Type 0 where
+-- a name; an inner descr that gives d; behind it nothing or a sub-shape ns
+pub record Opened (k : ℕ) (s : List ℕ) (at close e : ℕ) (f : Field) : Type 0 where
   pub deep : 0 < k
-  pub begins : p1 < length s
-  pub named : f .name ≡ spelled (byteAt s p1) s (p1 + 1) .bytes
+  pub inside : at < length s
+  pub begins : namePlace s at close < length s
+  pub named : f .name ≡ nameSpelled s at close .bytes
   pub node : Node
   pub end-of-node : ℕ
-  pub stands : read.value (k - 1) s p2 ≡ got node end-of-node
+  pub stands : read.value (k - 1) s (innerPlace s at close) ≡ got node end-of-node
   pub d : Dtype
   pub is : descrOf (forget node) ≡ gives d
   pub ns : List ℕ
@@ -182,24 +183,24 @@ pub record Opened (k : ℕ) (s : List ℕ) (close p1 p2 e : ℕ) (f : Field) : T
   pub shaped : perhaps (forgetAll (nodes us)) ≡ gives ns
   pub typed : f .type ≡ arrays ns d
 
-pub opened : (k : ℕ) (s : List ℕ) (at close p1 p2 e1 : ℕ) → close ≡ closingOf (kindOf (byteAt s at)) → p1 ≡ gapPlace (gapAt s (at + 1) close) → e1 ≡ place (spelled (byteAt s p1) s (p1 + 1) .ended)
-    → p2 ≡ gapPlace (thenAt s e1 close) → (n : Node) (e : ℕ) (f : Field) → OneField k s at n e f → Opened k s close p1 p2 e f
-opened k s at close p1 p2 e1 hc h1 he1 h2 n e f o =
+pub opened : (k : ℕ) (s : List ℕ) (at close : ℕ) → close ≡ closingOf (kindOf (byteAt s at)) → (n : Node) (e : ℕ) (f : Field) → OneField k s at n e f → Opened k s at close e f
+opened k s at close hc n e f o =
     let rd = read.value (k - 1) s in
     let br = field-bracket k s at e close n f hc o in
     let i = field-items k s at e close n f br o in
     let x = row-head rd s close (i .first) (i .second ∷ i .others) (gapAt s (at + 1) close) e (subst (λ (l : List Node). Row rd s close l (gapAt s (at + 1) close) e) (i .are) (br .row)) in
-    let v1 : rd p1 ≡ got (i .first) (x .0) = ap rd h1 ∙ x .1 in
-    let nm = name-is (k - 1) s p1 (x .0) (i .first) (f .name) v1 (i .named) in
-    let q1 : x .0 ≡ e1 = sym (he1 ∙ ap place (nm .2)) in
+    let nm = name-is (k - 1) s (namePlace s at close) (x .0) (i .first) (f .name) (x .1) (i .named) in
+    let e1 = place (nameSpelled s at close .ended) in
+    let q1 : x .0 ≡ e1 = sym (ap place (nm .2)) in
     let y = row-head rd s close (i .second) (i .others) (thenAt s e1 close) e (subst (λ (q : ℕ). Row rd s close (i .second ∷ i .others) (thenAt s q close) e) q1 (x .2)) in
     record {
       deep = br .room;
+      inside = br .inside;
       begins = nm .1;
       named = nm .0;
       node = i .second;
       end-of-node = y .0;
-      stands = ap rd h2 ∙ y .1;
+      stands = y .1;
       d = i .d;
       is = i .is;
       ns = i .dims;

@@ -1,7 +1,7 @@
 -- What the filling walk is asked and what it owes. Document 01, "The record": "The dtype table is listed depth first, left to right, parent first: one
 -- entry for each plain type, array level and record. Names are stored decoded, end to end in table order", and "The refusal numbers": "On success, room
 -- beyond what was needed is unchanged." The table and the names themselves are crate dtype's. Definitions only. Assumes nothing.
-use Prim.Native.Nat.{ℕ, _+_, _*_, _≤_}
+use Prim.Native.Nat.{ℕ, _+_, _*_, _≤_, _<_}
 use mathlib.Core.Path.{_≡_}
 use mathlib.Core.List.{List, [], _++_}
 use lib.ListN.{length}
@@ -14,6 +14,10 @@ use Rattle.dtype.specs.Flat.{entry-width, saturated, flat, flats}
 use Rattle.record.specs.Descr.{Field, perhaps, descrOf, fieldOf, fieldsOf}
 use Rattle.tokens.specs.Node.{Node, nodes}
 use Rattle.tokens.specs.Got.{got}
+use Rattle.tokens.specs.Text.{byteAt}
+use Rattle.tokens.specs.Strings.{Spelled, spelled}
+use Rattle.literal.specs.Answer.{place}
+use Rattle.field.specs.Begins.{gapPlace}
 use Rattle.literal.specs.Literal.{value}
 use Rattle.literal.specs.Brackets.{gapAt, thenAt}
 use Rattle.literal.specs.Rows.{Row}
@@ -21,6 +25,7 @@ use Rattle.literal.specs.Forget.{forget, forgetAll}
 use Rattle.entry.specs.Written.{sizeOver, above}
 use Rattle.fill.specs.declared.Spot.{Spot}
 use Rattle.fill.specs.declared.Many.{Many}
+use Rattle.fill.specs.declared.Head.{Head}
 
 -- no field has over 32 array levels
 abbrev mutual
@@ -38,6 +43,29 @@ abbrev mutual
 pub record OneField (k : ℕ) (s : List ℕ) (at : ℕ) (n : Node) (e : ℕ) (f : Field) : Type 0 where
   pub stands : value k s at ≡ got n e
   pub is : fieldOf (forget n) ≡ gives f
+
+-- ---- the head of a field that begins at `at` and is shut by `close`
+-- where its name begins, what that spells, and where the inner descr begins
+abbrev pub namePlace : (s : List ℕ) (at close : ℕ) → ℕ
+namePlace s at close = gapPlace (gapAt s (at + 1) close)
+
+abbrev pub nameSpelled : (s : List ℕ) (at close : ℕ) → Spelled
+nameSpelled s at close = spelled (byteAt s (namePlace s at close)) s (namePlace s at close + 1)
+
+abbrev pub innerPlace : (s : List ℕ) (at close : ℕ) → ℕ
+innerPlace s at close = gapPlace (thenAt s (place (nameSpelled s at close .ended)) close)
+
+-- the text goes on to the name, and there is room for it
+pub record DueHead (s : List ℕ) (at close byte : ℕ) (names : List ℕ) : Type 0 where
+  pub inside : at < length s
+  pub begins : namePlace s at close < length s
+  pub room : byte + length (nameSpelled s at close .bytes) ≤ length names
+
+pub record Headed (s : List ℕ) (at close byte : ℕ) (names names′ : List ℕ) (r : Head) : Type 0 where
+  pub counted : r .len ≡ length (nameSpelled s at close .bytes)
+  pub behind : r .byte ≡ byte + length (nameSpelled s at close .bytes)
+  pub goes-on : r .inner ≡ innerPlace s at close
+  pub names-after : names′ ≡ sets names byte (nameSpelled s at close .bytes)
 
 -- ---- what stands behind the inner descr of a field
 -- it ended at q, and then comes nothing or a sub-shape: its dimensions are ns, and the field ends at e
@@ -124,16 +152,16 @@ abbrev pub Fills : (k : ℕ) (s : List ℕ) (at entry up m byte : ℕ) (table na
 Fills k s at entry up m byte table names table′ names′ r =
     (n : Node) (e : ℕ) (d : Dtype) → Due k s at entry table byte names n e d → Filled e entry up m byte d table names table′ names′ r
 
+-- a type string has no names: whatever brackets may open and whatever the names are
+abbrev pub DuePlainAt : (s : List ℕ) (at entry : ℕ) (table : List ℕ) (byte : ℕ) → Type 0
+DuePlainAt s at entry table byte = (k : ℕ) × (names : List ℕ) × DueAt k s at entry table byte names
+
+abbrev pub FillsPlain : (s : List ℕ) (at entry up m byte : ℕ) (table table′ : List ℕ) → Spot → Type 0
+FillsPlain s at entry up m byte table table′ r = (k : ℕ) (names : List ℕ) → Fills k s at entry up m byte table names table′ names r
+
 abbrev pub DueFieldsFrom : (k : ℕ) (s : List ℕ) (from entry : ℕ) (table : List ℕ) (byte : ℕ) (names : List ℕ) → Type 0
 DueFieldsFrom k s from entry table byte names = (ns : List Node) × (e : ℕ) × (fs : Fields) × DueFields k s from entry table byte names ns e fs
 
 abbrev pub FillsFields : (k : ℕ) (s : List ℕ) (from entry up byte : ℕ) (table names table′ names′ : List ℕ) → Many → Type 0
 FillsFields k s from entry up byte table names table′ names′ r =
     (ns : List Node) (e : ℕ) (fs : Fields) → DueFields k s from entry table byte names ns e fs → FilledFields e entry up byte fs table names table′ names′ r
-
-abbrev pub DueFieldAt : (k : ℕ) (s : List ℕ) (at entry : ℕ) (table : List ℕ) (byte : ℕ) (names : List ℕ) → Type 0
-DueFieldAt k s at entry table byte names = (n : Node) × (e : ℕ) × (f : Field) × DueField k s at entry table byte names n e f
-
-abbrev pub FillsField : (k : ℕ) (s : List ℕ) (at entry up byte : ℕ) (table names table′ names′ : List ℕ) → Spot → Type 0
-FillsField k s at entry up byte table names table′ names′ r =
-    (n : Node) (e : ℕ) (f : Field) → DueField k s at entry table byte names n e f → FilledField e entry up byte f table names table′ names′ r

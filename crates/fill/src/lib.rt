@@ -1,7 +1,8 @@
 // The record of a header's text (document 01, "The record"): judged, and then its table, names and shape written to three lent rooms, or 23. Nothing is
-// written before the last refusal is ruled out, so that the walk which writes cannot fail: `fill`, `fields` and `field` call each other in a cycle, and each
-// bracket that opens leaves one fewer. A record's entry is written behind its fields', and the array levels of a sub-shape behind their type's: their sizes
-// are known then. No public function here has a `requires`.
+// written before the last refusal is ruled out, so that the walk which writes cannot fail: `fill`, `fill_record` and `fields` call each other in a cycle,
+// and each bracket that opens leaves one fewer. A type string and a field's name are written by functions that the cycle does not go through, so that they
+// can stand where they are called. A record's entry is written behind its fields', and the array levels of a sub-shape behind their type's: their sizes are
+// known then. No public function here has a `requires`.
 use dtype::ENTRY;
 use dtype::Order;
 use entry::inner::put_over;
@@ -24,16 +25,18 @@ use tokens::Parsed;
 use tokens::strings::Scan;
 use tokens::strings::decode;
 ghost use mathlib.Core.Path.{_≡_};
+ghost use mathlib.Core.Bool.{true, false};
 ghost use Prim.Native.Nat.{_+_, _≤_, _<_};
 ghost use lib.ListN.{length};
 ghost use lib.Seq.{sets};
+ghost use Rattle.field.specs.Begins.{isString};
 ghost use Rattle.literal.specs.Answer.{place};
 ghost use Rattle.tokens.specs.Strings.{spelled, scanned};
 ghost use Rattle.dtype.specs.Record.{Record};
-ghost use Rattle.tokens.specs.Text.{byteAt, skip};
+ghost use Rattle.tokens.specs.Text.{byteAt, kindOf, skip};
 ghost use Rattle.judge.specs.Judged.{PlanOf};
 ghost use Rattle.fill.specs.Text.{lent, ReadsText, Houses};
-ghost use Rattle.fill.specs.Filled.{DueShapeAt, Shapes, DueAt, Fills, DueFieldsFrom, FillsFields, DueFieldAt, FillsField};
+ghost use Rattle.fill.specs.Filled.{DueHead, Headed, DueShapeAt, Shapes, DueAt, Fills, DuePlainAt, FillsPlain, DueFieldsFrom, FillsFields};
 
 // What a record has beside its table, names and shape, which are in the lent rooms: its order, and how much of each room it takes.
 pub struct Said {
@@ -63,6 +66,13 @@ pub struct Many {
     pub byte: usize,
     pub size: u64,
     pub count: u64,
+}
+
+// How many bytes the name of a field has, the name byte that comes behind it, and where the inner descr begins.
+pub struct Head {
+    pub len: u64,
+    pub byte: usize,
+    pub inner: usize,
 }
 
 // The record of a header's text.
@@ -124,17 +134,53 @@ fn fill(
     ensures { λ r. ⌜ Fills room (now (text .entry)) at entry up name byte (now (table .entry)) (now (names .entry)) (now (table .exit)) (now (names .exit)) r ⌝ }
 {
     if string_at(text, at) {
-        let t = typed_at(text, at + 1, text[at]);
-        let ended = t.ended;
-        let read = t.read;
-        let size = put_plain(table, entry, type_of(read), up, name);
-        return Spot {
-            end: end_place(ended),
-            entry: entry + 1,
-            byte: byte,
-            size: size,
-        };
+        return fill_plain(text, at, table, entry, up, name, byte);
     }
+    fill_record(text, at, room, table, entry, up, name, names, byte)
+}
+
+// The same of a string, which is a type string: its entry, and no names.
+fn fill_plain(
+    text: &[u8],
+    at: usize,
+    table: &mut [u64],
+    entry: usize,
+    up: u64,
+    name: u64,
+    byte: usize,
+) -> Spot
+    requires { ⌜ isString (kindOf (byteAt (now text) at)) ≡ true ⌝ }
+    requires { ⌜ DuePlainAt (now text) at entry (now table) byte ⌝ }
+    ensures { λ r. ⌜ FillsPlain (now (text .entry)) at entry up name byte (now (table .entry)) (now (table .exit)) r ⌝ }
+{
+    let t = typed_at(text, at + 1, text[at]);
+    let ended = t.ended;
+    let read = t.read;
+    let size = put_plain(table, entry, type_of(read), up, name);
+    Spot {
+        end: end_place(ended),
+        entry: entry + 1,
+        byte: byte,
+        size: size,
+    }
+}
+
+// The same of anything else, which is a list of fields.
+fn fill_record(
+    text: &[u8],
+    at: usize,
+    room: usize,
+    table: &mut [u64],
+    entry: usize,
+    up: u64,
+    name: u64,
+    names: &mut [u8],
+    byte: usize,
+) -> Spot
+    requires { ⌜ isString (kindOf (byteAt (now text) at)) ≡ false ⌝ }
+    requires { ⌜ DueAt room (now text) at entry (now table) byte (now names) ⌝ }
+    ensures { λ r. ⌜ Fills room (now (text .entry)) at entry up name byte (now (table .entry)) (now (names .entry)) (now (table .exit)) (now (names .exit)) r ⌝ }
+{
     let own = entry as u64;
     let r = fields(text, at + 1, room - 1, table, entry + 1, own, names, byte);
     put_record(table, entry, up, name, r.count, r.entry, r.size);
@@ -146,7 +192,8 @@ fn fill(
     }
 }
 
-// The fields of a record, up to its closing bracket.
+// The fields of a record, up to its closing bracket: of each its name, its type, and then the levels of its sub-shape above the type. Where the inner descr
+// ends is known once it is written, so that no text is read once for each bracket around it.
 fn fields(
     text: &[u8],
     from: usize,
@@ -175,7 +222,10 @@ fn fields(
                 count: count,
             };
         };
-        let r = field(text, p, room, table, at, up, names, b);
+        let close = closing_at(text, p);
+        let h = head_at(text, p, close, names, b);
+        let q = fill(text, h.inner, room - 1, table, at, up, h.len, names, h.byte);
+        let r = shaped(text, close, room - 1, q, table, at, up, h.len);
         at = r.entry;
         b = r.byte;
         size = held_sum(size, r.size);
@@ -184,31 +234,20 @@ fn fields(
     }
 }
 
-// A field: its name, its type, and then the levels of its sub-shape above the type. Where the inner descr ends is known once it is written, so that no
-// text is read once for each bracket around it.
-fn field(
-    text: &[u8],
-    at: usize,
-    room: usize,
-    table: &mut [u64],
-    entry: usize,
-    up: u64,
-    names: &mut [u8],
-    byte: usize,
-) -> Spot
-    requires { ⌜ DueFieldAt room (now text) at entry (now table) byte (now names) ⌝ }
-    ensures { λ r. ⌜ FillsField room (now (text .entry)) at entry up byte (now (table .entry)) (now (names .entry)) (now (table .exit)) (now (names .exit)) r ⌝ }
+// The name of the field at `at`, which `close` shuts, written from byte `byte` on; and where its inner descr begins.
+fn head_at(text: &[u8], at: usize, close: u8, names: &mut [u8], byte: usize) -> Head
+    requires { ⌜ DueHead (now text) at close byte (now names) ⌝ }
+    ensures { λ r. ⌜ Headed (now (text .entry)) at close byte (now (names .entry)) (now (names .exit)) r ⌝ }
 {
-    let close = closing_at(text, at);
-    let deep = room - 1;
-    let p1 = place_of(gap_at(text, at + 1, close));
-    let m = name_at(text, p1, names, byte);
+    let p = place_of(gap_at(text, at + 1, close));
+    let m = name_at(text, p, names, byte);
     let ended = m.ended;
     let len = m.len;
-    let n = len as u64;
-    let p2 = place_of(then_at(text, end_place(ended), close));
-    let r = fill(text, p2, deep, table, entry, up, n, names, byte + len);
-    shaped(text, close, deep, r, table, entry, up, n)
+    Head {
+        len: len as u64,
+        byte: byte + len,
+        inner: place_of(then_at(text, end_place(ended), close)),
+    }
 }
 
 // The levels of the sub-shape behind a type that ended at `r`, where there is one, written above its entries, which move on for them.
