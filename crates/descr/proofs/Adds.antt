@@ -5,12 +5,12 @@ use Prim.Native.Nat.{ℕ, zero, suc, _+_, _*_, _^_, _≤_}
 use native.Mathlib.Omega.{arith}
 use mathlib.Core.Path.{_≡_, refl, sym, ap, _∙_}
 use mathlib.Core.List.{List}
-use mathlib.Core.Bool.{Bool, true, false, _||_, cond}
+use mathlib.Core.Bool.{Bool, true, false, _||_, not, cond}
 use lib.Dec.{ltb}
 use lib.ListN.{length}
 use native.Mathlib.Nat.{mul-suc}
 use borrow.Author.Tests.{leb-true}
-use Rattle.counts.specs.Outcome.{Outcome, gives, refused, then, each}
+use Rattle.counts.specs.Outcome.{Outcome, gives, refused, then, each, unless}
 use Rattle.counts.specs.declared.Number.{Number}
 use Rattle.grammar.specs.Value.{Value, Values, string, integer, True, False, None, list, tuple, dict, end-of-values, value-then}
 use Rattle.type_str.specs.declared.TypeStr.{TypeStr}
@@ -20,7 +20,7 @@ use Rattle.dtype.specs.Entries.{someEntryIn, levels}
 use Rattle.dtype.specs.Limits.{over, someOver, overLevels}
 use Rattle.record.specs.Parts.{stringOr}
 use Rattle.record.specs.Dimensions.{subShape}
-use Rattle.record.specs.Descr.{Field, arrays, descrOf, fieldsOf, fieldOf}
+use Rattle.record.specs.Descr.{Field, arrays, descrOf, fieldsOf, fieldOf, twoOrThree, namedOf}
 use Rattle.products.specs.Outline.{hasZero, behindZero, outlineOf, isOver, largestIn}
 use Rattle.products.proofs.Levels.{largest-is, arrays-outline, arrays-over, arrays-entries, arrays-wide, arrays-object, arrays-name-bytes}
 use Rattle.sums.specs.declared.Totals.{Totals}
@@ -28,7 +28,7 @@ use Rattle.sums.specs.Totals.{capped, largest, saturated, nothing, oneEntry, na
 use Rattle.sums.specs.Verdict.{both}
 use Rattle.sums.proofs.Sums.{totals-eq, or-true, or-false, over-never, over-not, over-more, over-number, saturated-number, cap-front}
 use Rattle.sums.proofs.Limits.{own-over}
-use Rattle.descr.specs.Judges.{nameBy, itemsBy}
+use Rattle.descr.specs.Judges.{nameBy}
 
 false-true : {A : Type 0} → false ≡ true → A
 false-true h = absurd (let z : _≡_ {A = ℕ} 0 1 = cc in omega arith)
@@ -205,6 +205,10 @@ three-by (gives w) (gives d) (gives ns) h = ap (λ (t : Totals). gives (together
 three-by (gives w) (gives d) (refused m) h = refl
 three-by (gives w) (refused m) sh h = refl
 three-by (refused n) o sh h = refl
+
+-- items as a field's: their count first
+abbrev pub itemsBy : Values → Outcome Totals
+itemsBy vs = each fieldTotals (unless (not (twoOrThree vs)) 14 (namedOf vs))
 
 pub two-items : (a b : Value) → both (nameBy a) (descrBy b) ≡ itemsBy (value-then a (value-then b end-of-values))
 two-items a b = two-by (stringOr 14 a) (descrOf b)

@@ -31,10 +31,10 @@ use Rattle.dims.specs.Answer as answers
 use Rattle.products.specs.Answer.{outlined}
 use Rattle.sums.specs.Totals.{nothing, arrayed}
 use Rattle.sums.specs.Verdict.{verdict, both}
-use Rattle.descr.specs.Judges.{Judges, JudgesFrom, itemsFrom, nameBy, behindBy, itemsBy}
+use Rattle.descr.specs.Judges.{Judges, JudgesFrom, itemsFrom, nameBy, behindBy}
 use Rattle.sums.proofs.Sums.{both-assoc, both-nothing}
-use Rattle.descr.proofs.Adds.{fieldsBy, fieldBy, descrBy, fields-step, fields-start, two-items, three-items}
-use Rattle.descr.proofs.Reach.{from-end, from-stop, from-more, row-over, row-behind, row-stops}
+use Rattle.descr.proofs.Adds.{fieldsBy, fieldBy, descrBy, itemsBy, fields-step, fields-start, two-items, three-items}
+use Rattle.descr.proofs.Reach.{inside, from-end, from-stop, from-more, row-over, row-behind, row-stops}
 
 abbrev pub valuesOf : List Node → Values
 valuesOf ns = forgetAll (nodes ns)
@@ -100,6 +100,11 @@ module _ (k : ℕ) (s : List ℕ) (from : ℕ) where
       }
 
 -- ---- a field's items, as they were judged
+-- what is owed for those that begin at `from`, behind the opening bracket
+pub record JudgesInside (k : ℕ) (s : List ℕ) (from close : ℕ) (r : Judged) : Type 0 where
+  pub ends : r .ended ≡ pos (inside k s from close)
+  pub of-row : (ns : List Node) (e : ℕ) → Row (value k s) s close ns (gapAt s from close) e → verdict (r .verdict) ≡ itemsBy (valuesOf ns)
+
 pub items-none : refused 14 ≡ itemsBy (valuesOf [])
 unfolding forgetAll
 items-none = refl

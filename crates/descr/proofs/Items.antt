@@ -24,10 +24,10 @@ use Rattle.products.specs.declared.Outline.{Outline}
 use Rattle.sums.specs.declared.Totals.{Totals}
 use Rattle.sums.specs.Verdict.{verdict, both}
 use Rattle.descr.specs.declared.Judged.{Judged}
-use Rattle.descr.specs.Judges.{Judges, JudgesFrom, JudgesInside, itemsFrom, inside, secondAt, nameBy, behindBy, itemsBy}
-use Rattle.descr.proofs.Adds.{descrBy}
-use Rattle.descr.proofs.Reach.{from-end, from-stop, from-more, inside-end, inside-stop, inside-more, row-over, row-next, row-behind, row-stops, second-over, second-item}
-use Rattle.descr.proofs.Along.{valuesOf, levelsOver, sub-judged, items-none, items-one, items-behind}
+use Rattle.descr.specs.Judges.{Judges, JudgesFrom, itemsFrom, secondAt, nameBy, behindBy}
+use Rattle.descr.proofs.Adds.{descrBy, itemsBy}
+use Rattle.descr.proofs.Reach.{inside, from-end, from-stop, from-more, inside-end, inside-stop, inside-more, row-over, row-next, row-behind, row-stops, second-over, second-item}
+use Rattle.descr.proofs.Along.{JudgesInside, valuesOf, levelsOver, sub-judged, items-none, items-one, items-behind}
 
 -- ---- behind the inner descr: x is the verdict on the name, y that on the descr
 module _ (k : ℕ) (s : List ℕ) (close : ℕ) (g : Gap) (x y : Outcome Totals) (r : Judged) where
@@ -83,7 +83,7 @@ module _ (k : ℕ) (s : List ℕ) (from close : ℕ) (g1 : Gap) (h1 : g1 ≡ gap
   row-first : (ns : List Node) (e : ℕ) → Row (value k s) s close ns (gapAt s from close) e → Row (value k s) s close ns g1 e
   row-first ns e h = subst (λ (x : Gap). Row (value k s) s close ns x e) (sym h1) h
 
-  pub items-empty : (r : Judged) → OneOf (0 ∷ 2 ∷ []) (tagOf the-type g1) → r .ended ≡ endedAt g1 → verdict (r .verdict) ≡ refused 14 → JudgesInside k s from close itemsBy r
+  pub items-empty : (r : Judged) → OneOf (0 ∷ 2 ∷ []) (tagOf the-type g1) → r .ended ≡ endedAt g1 → verdict (r .verdict) ≡ refused 14 → JudgesInside k s from close r
   items-empty r o he hv =
       record {
         ends = he ∙ inside-end k s from close g1 h1 o;
@@ -91,7 +91,7 @@ module _ (k : ℕ) (s : List ℕ) (from close : ℕ) (g1 : Gap) (h1 : g1 ≡ gap
       }
 
   module _ (p1 : ℕ) (i1 : g1 ≡ Item p1) (name : Judged) (hn : Judges k s p1 nameBy name) where
-    pub items-unread : (r : Judged) → Stops (name .ended) → r .ended ≡ name .ended → JudgesInside k s from close itemsBy r
+    pub items-unread : (r : Judged) → Stops (name .ended) → r .ended ≡ name .ended → JudgesInside k s from close r
     items-unread r st he =
         record {
           ends = he ∙ inside-stop k s from close g1 h1 p1 i1 (name .ended) (hn .ends) st;
@@ -108,7 +108,7 @@ module _ (k : ℕ) (s : List ℕ) (from close : ℕ) (g1 : Gap) (h1 : g1 ≡ gap
           → (n : Node) × (us : List Node) × (ns ≡ n ∷ us) × (value k s p1 ≡ got n q1) × Row (value k s) s close us (thenAt s q1 close) e
       first ns e h = row-behind k s close ns g1 p1 q1 e (name .ended) i1 e1 (hn .ends) (row-first ns e h)
 
-      pub items-alone : (r : Judged) → OneOf (0 ∷ 2 ∷ []) (tagOf the-type g2) → r .ended ≡ endedAt g2 → verdict (r .verdict) ≡ refused 14 → JudgesInside k s from close itemsBy r
+      pub items-alone : (r : Judged) → OneOf (0 ∷ 2 ∷ []) (tagOf the-type g2) → r .ended ≡ endedAt g2 → verdict (r .verdict) ≡ refused 14 → JudgesInside k s from close r
       items-alone r o he hv =
           record {
             ends = he ∙ (from-end k s close g2 o ∙ sym second-ends);
@@ -123,7 +123,7 @@ module _ (k : ℕ) (s : List ℕ) (from close : ℕ) (g1 : Gap) (h1 : g1 ≡ gap
         second : (us : List Node) (e : ℕ) → Row (value k s) s close us (thenAt s q1 close) e → Row (value k s) s close us g2 e
         second us e h = subst (λ (x : Gap). Row (value k s) s close us x e) (second-item k s close q1 g2 h2 p2 i2 ∙ sym i2) h
 
-        pub items-broken : (r : Judged) → Stops (inner .ended) → r .ended ≡ inner .ended → JudgesInside k s from close itemsBy r
+        pub items-broken : (r : Judged) → Stops (inner .ended) → r .ended ≡ inner .ended → JudgesInside k s from close r
         items-broken r st he =
             record {
               ends = he ∙ (from-stop k s close g2 p2 (inner .ended) i2 (hj .ends) st ∙ sym second-ends);
@@ -131,7 +131,7 @@ module _ (k : ℕ) (s : List ℕ) (from close : ℕ) (g1 : Gap) (h1 : g1 ≡ gap
             }
 
         pub items-whole : (q2 : ℕ) → inner .ended ≡ Value q2 → (g3 : Gap) → g3 ≡ thenAt s q2 close → (r : Judged) → JudgesFrom k s close g3 (behindBy (verdict (name .verdict)) (verdict (inner .verdict))) r
-            → JudgesInside k s from close itemsBy r
+            → JudgesInside k s from close r
         items-whole q2 e2 g3 h3 r b =
             record {
               ends = b .ends ∙ sym (second-ends ∙ from-more k s close small g2 g3 p2 q2 (inner .ended) i2 e2 (hj .ends) h3);

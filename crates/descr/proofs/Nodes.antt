@@ -38,10 +38,10 @@ use Rattle.sums.specs.Verdict.{verdict, both}
 use Rattle.field.specs.Begins.{isString}
 use Rattle.field.proofs.Begins.{string-kind}
 use Rattle.descr.specs.declared.Judged.{Judged}
-use Rattle.descr.specs.Judges.{Judges, JudgesFrom, JudgesInside, inside, typedAt, nameBy, itemsBy}
-use Rattle.descr.proofs.Adds.{fieldsBy, fieldBy, descrBy, record-step}
-use Rattle.descr.proofs.Reach.{list-from}
-use Rattle.descr.proofs.Along.{valuesOf}
+use Rattle.descr.specs.Judges.{Judges, JudgesFrom, typedAt, nameBy}
+use Rattle.descr.proofs.Adds.{fieldsBy, fieldBy, descrBy, itemsBy, record-step}
+use Rattle.descr.proofs.Reach.{inside, list-from}
+use Rattle.descr.proofs.Along.{JudgesInside, valuesOf}
 
 true-false : {A : Type 0} → true ≡ false → A
 true-false h = absurd (let z : _≡_ {A = ℕ} 0 1 = cc in omega arith)
@@ -218,6 +218,9 @@ module _ (k : ℕ) (s : List ℕ) (at : ℕ) where
     pub bracket-in : at < length s
     bracket-in = open-in s at opens
 
+    pub bracket-small : close < 256
+    bracket-small = ⊎-elim (λ z. omega (arith, z .1)) (λ z. omega (arith, z .1)) (opening-byte (byteAt s at) close hc some)
+
     -- which may not open
     pub too-deep : (f : value.Value → Outcome Totals) (r : Judged) → k ≡ 0 → r .ended ≡ Deep at → Judges k s at f r
     too-deep f r z he =
@@ -234,7 +237,7 @@ module _ (k : ℕ) (s : List ℕ) (at : ℕ) where
           round : (byteAt s at ≡ 40) × (close ≡ 41) → pos (inside (k - 1) s (at + 1) close) ≡ pos (valueOf k s at)
           round z = ap (λ (c : ℕ). pos (inside (k - 1) s (at + 1) c)) (z .1) ∙ value-tuple s at opens k room (λ y. absurd (omega (arith, z .0))) (z .0)
 
-      pub field-judged : (r : Judged) → JudgesInside (k - 1) s (at + 1) close itemsBy r → Judges k s at fieldBy r
+      pub field-judged : (r : Judged) → JudgesInside (k - 1) s (at + 1) close r → Judges k s at fieldBy r
       field-judged r j =
           record {
             ends = j .ends ∙ inside-ends;

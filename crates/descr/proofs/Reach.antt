@@ -28,7 +28,7 @@ use Rattle.literal.proofs.Ends.{pos-with, Ahead, value-ahead, then-ahead}
 use Rattle.literal.proofs.Rows as literal
 use Rattle.literal.proofs.Rows.{row-step, row-shut, row-stray, row-reads}
 use Rattle.literal.proofs.Steps.{Stops, thing, gapLeft, gap-enough, gap-falls, tuple-end, tuple-stop, tuple-comma, tuple-more}
-use Rattle.descr.specs.Judges.{itemsFrom, inside, commaThen, secondAt}
+use Rattle.descr.specs.Judges.{itemsFrom, commaThen, secondAt}
 
 module _ (k : ℕ) (s : List ℕ) (close : ℕ) where
   end-by : (m : ℕ) (g : Gap) → gapLeft (length s) g < m → OneOf (0 ∷ 2 ∷ []) (tagOf the-type g) → endedAt g ≡ pos (items (value k s) s close m g)
@@ -100,6 +100,10 @@ module _ (k : ℕ) (s : List ℕ) (from close : ℕ) where
   list-from = refl
 
 -- ---- of a list or tuple
+-- its items from `from` up to its bracket
+abbrev pub inside : ℕ → List ℕ → ℕ → ℕ → Got (List Node)
+inside k s from close = cond (eqb close 41) (tupleBy (value k s) s from) (listBy (value k s) s from close)
+
 no-deep : (s : List ℕ) (q e : ℕ) → Deep e ≡ needAt s q 44 → ⊥
 unfolding needAt
 no-deep s q e h = go (eqb (byteAt s (skip s q)) 44) h
@@ -199,6 +203,11 @@ second-by s q close = go (eqb close 41) refl
 -- as the code looks for it
 pub second-list : (s : List ℕ) (q close : ℕ) → (close ≡ 41 → ⊥) → thenAt s q close ≡ secondAt s q close
 second-list s q close h = sym (ap (λ (t : Bool). cond t (commaThen s (needAt s q 44)) (thenAt s q close)) (ne-eqb close 41 h))
+
+-- of a tuple an item stands there only behind the comma
+pub second-there : (s : List ℕ) (q close : ℕ) (g : Gap) (p : ℕ) → g ≡ thenAt s q close → g ≡ Item p → g ≡ secondAt s q close
+second-there s q close g p hg hp =
+    ⊎-elim (λ z. hg ∙ sym z) (λ z. absurd (miss (0 ∷ 2 ∷ []) 1 tt (subst (λ (x : Gap). OneOf (0 ∷ 2 ∷ []) (tagOf the-type x)) (sym hg ∙ hp) (z .2)))) (second-by s q close)
 
 pub second-tuple : (s : List ℕ) (q close : ℕ) (c : Parsed) → close ≡ 41 → needAt s q 44 ≡ c → commaThen s c ≡ secondAt s q close
 second-tuple s q close c h hc = sym (ap (λ (t : Bool). cond t (commaThen s (needAt s q 44)) (thenAt s q close)) (eq-eqb close 41 h) ∙ ap (commaThen s) hc)

@@ -3,21 +3,21 @@
 use Prim.Native.Nat.{ℕ, _+_}
 use mathlib.Core.Path.{_≡_}
 use mathlib.Core.List.{List}
-use mathlib.Core.Bool.{not, cond}
+use mathlib.Core.Bool.{cond}
 use lib.ListN.{length}
 use lib.Dec.{eqb}
-use Rattle.counts.specs.Outcome.{Outcome, refused, then, each, unless}
+use Rattle.counts.specs.Outcome.{Outcome, refused, then, each}
 use Rattle.grammar.specs.Value.{Value, Values, end-of-values, value-then}
 use Rattle.type_str.specs.TypeString.{typeString}
 use Rattle.dtype.specs.Dtype.{plain}
 use Rattle.record.specs.Parts.{stringOr}
-use Rattle.record.specs.Descr.{descrOf, twoOrThree, namedOf}
+use Rattle.record.specs.Descr.{descrOf}
 use Rattle.tokens.specs.Node.{Node, nodes}
 use Rattle.tokens.specs.Got.{Got, got, pos}
 use Rattle.tokens.specs.Text.{byteAt}
 use Rattle.tokens.specs.Strings.{spelled}
 use Rattle.literal.specs.Literal.{value}
-use Rattle.literal.specs.Brackets.{gapAt, thenAt, needAt, items, listBy, tupleBy}
+use Rattle.literal.specs.Brackets.{gapAt, thenAt, needAt, items}
 use Rattle.literal.specs.Rows.{Row}
 use Rattle.literal.specs.Forget.{forget, forgetAll}
 use Rattle.tokens.specs.declared.Parsed.{Parsed}
@@ -28,7 +28,7 @@ use Rattle.sums.specs.declared.Totals.{Totals}
 use Rattle.record.specs.Dimensions.{subShape}
 use Rattle.products.specs.Outline.{outlineOf}
 use Rattle.dims.specs.Answer.{valueOr}
-use Rattle.sums.specs.Totals.{totalsOf, fieldTotals, nameTotals, arrayed}
+use Rattle.sums.specs.Totals.{totalsOf, nameTotals, arrayed}
 use Rattle.sums.specs.Verdict.{verdict, both}
 use Rattle.descr.specs.declared.Judged.{Judged}
 
@@ -42,24 +42,14 @@ pub record Judges (k : ℕ) (s : List ℕ) (at : ℕ) (f : Value → Outcome Tot
   pub ends : r .ended ≡ pos (value k s at)
   pub of-value : (n : Node) (e : ℕ) → value k s at ≡ got n e → verdict (r .verdict) ≡ f (forget n)
 
--- of the items from the gap on, which are read as x
-pub record JudgesRow (k : ℕ) (s : List ℕ) (close : ℕ) (g : Gap) (x : Got (List Node)) (f : Values → Outcome Totals) (r : Judged) : Type 0 where
-  pub ends : r .ended ≡ pos x
-  pub of-row : (ns : List Node) (e : ℕ) → Row (value k s) s close ns g e → verdict (r .verdict) ≡ f (forgetAll (nodes ns))
-
 -- the items from the gap on
 abbrev pub itemsFrom : ℕ → List ℕ → ℕ → Gap → Got (List Node)
 itemsFrom k s close g = items (value k s) s close (length s + 2) g
 
-abbrev pub JudgesFrom : (k : ℕ) (s : List ℕ) (close : ℕ) (g : Gap) (f : Values → Outcome Totals) (r : Judged) → Type 0
-JudgesFrom k s close g f r = JudgesRow k s close g (itemsFrom k s close g) f r
-
--- the items of a list or tuple from `from` up to its bracket
-abbrev pub inside : ℕ → List ℕ → ℕ → ℕ → Got (List Node)
-inside k s from close = cond (eqb close 41) (tupleBy (value k s) s from) (listBy (value k s) s from close)
-
-abbrev pub JudgesInside : (k : ℕ) (s : List ℕ) (from close : ℕ) (f : Values → Outcome Totals) (r : Judged) → Type 0
-JudgesInside k s from close f r = JudgesRow k s close (gapAt s from close) (inside k s from close) f r
+-- of those items
+pub record JudgesFrom (k : ℕ) (s : List ℕ) (close : ℕ) (g : Gap) (f : Values → Outcome Totals) (r : Judged) : Type 0 where
+  pub ends : r .ended ≡ pos (itemsFrom k s close g)
+  pub of-row : (ns : List Node) (e : ℕ) → Row (value k s) s close ns g e → verdict (r .verdict) ≡ f (forgetAll (nodes ns))
 
 -- behind the first item of a list or tuple; of a tuple it needs its comma: "one element needs its comma: `(3)` is no value"
 abbrev pub commaThen : List ℕ → Parsed → Gap
@@ -77,10 +67,6 @@ nameBy v = each (λ w. nameTotals (length w)) (stringOr 14 v)
 -- the string at `at`, as a type string
 abbrev pub typedAt : List ℕ → ℕ → Outcome Totals
 typedAt s at = each (λ t. totalsOf (plain t)) (typeString (spelled (byteAt s at) s (at + 1) .bytes))
-
--- items as a field's: their count first
-abbrev pub itemsBy : Values → Outcome Totals
-itemsBy vs = each fieldTotals (unless (not (twoOrThree vs)) 14 (namedOf vs))
 
 -- what stands behind a field's inner descr, by the verdicts on its name and on that descr: nothing more, or its sub-shape
 abbrev pub behindBy : Outcome Totals → Outcome Totals → Values → Outcome Totals

@@ -1,4 +1,4 @@
-// The walk over a descr, which reads the text and judges it at once. `judge`, `fields`, `field` and `items` call each other in a cycle; each bracket that
+// The walk over a descr, which reads the text and judges it at once. `judge`, `fields`, `field` and `inner_at` call each other in a cycle; each bracket that
 // opens leaves one fewer. No walk stops at what it refuses, so that a wrong item count can come before what stands inside; only a fault of the literal
 // ends it. What is judged of a text with such a fault is not told: its caller looks at the end first.
 use super::Judged;
@@ -21,26 +21,24 @@ use sums::typed;
 use tokens::Parsed;
 use tokens::strings::scan_at;
 ghost use mathlib.Core.Path.{_≡_};
+ghost use Prim.Native.Nat.{_+_, _<_};
+ghost use lib.ListN.{length};
 ghost use Rattle.counts.specs.Outcome.{each};
 ghost use Rattle.record.specs.Descr.{descrOf, fieldsOf, fieldOf};
 ghost use Rattle.tokens.specs.Got.{pos};
+ghost use Rattle.tokens.specs.Strings.{spelled};
+ghost use Rattle.tokens.specs.Text.{byteAt};
 ghost use Rattle.literal.specs.Brackets.{gapAt};
 ghost use Rattle.sums.specs.Totals.{totalsOf, totalsIn, fieldTotals};
 ghost use Rattle.sums.specs.Verdict.{verdict};
-ghost use Rattle.descr.specs.Judges.{Judges, JudgesFrom, JudgesInside, itemsFrom, secondAt, nameBy, behindBy, itemsBy};
+ghost use Rattle.descr.specs.Judges.{Judges, JudgesFrom, itemsFrom, secondAt, nameBy, typedAt, behindBy};
 
 // A value that is a descr: a type string, or a list of fields.
 pub fn judge(text: &[u8], at: usize, room: usize) -> Judged
     ensures { λ r. ⌜ Judges room (now (text .entry)) at (λ v. each totalsOf (descrOf v)) r ⌝ }
 {
     if string_at(text, at) {
-        let t = typed_at(text, at + 1, text[at]);
-        let end = t.ended;
-        let read = t.read;
-        return Judged {
-            ended: end,
-            verdict: typed(read),
-        };
+        return plain_at(text, at);
     }
     if closing_at(text, at) != 93 {
         return misfit(value(text, at, room));
@@ -96,7 +94,7 @@ fn fields(text: &[u8], from: usize, room: usize) -> Judged
     }
 }
 
-// A field: a list or tuple of 2 or 3.
+// A field: a list or tuple of 2 or 3 items: its name, its inner descr, perhaps its sub-shape. Where there are fewer or more, nothing of them is judged.
 fn field(text: &[u8], at: usize, room: usize) -> Judged
     ensures { λ r. ⌜ Judges room (now (text .entry)) at (λ v. each fieldTotals (fieldOf v)) r ⌝ }
 {
@@ -107,18 +105,12 @@ fn field(text: &[u8], at: usize, room: usize) -> Judged
     if room == 0 {
         return misfit(Parsed::Deep(at));
     }
-    items(text, at + 1, room - 1, close)
-}
-
-// A field's items: its name, its inner descr, perhaps its sub-shape. Where there are fewer or more, nothing of them is judged.
-fn items(text: &[u8], from: usize, room: usize, close: u8) -> Judged
-    ensures { λ r. ⌜ JudgesInside room (now (text .entry)) from close itemsBy r ⌝ }
-{
-    let g1 = gap_at(text, from, close);
+    let left = room - 1;
+    let g1 = gap_at(text, at + 1, close);
     let Gap::Item(p1) = g1 else {
         return misfit(ended(g1));
     };
-    let name = name_at(text, p1, room);
+    let name = name_at(text, p1, left);
     let e1 = name.ended;
     let Parsed::Value(q1) = e1 else {
         return misfit(e1);
@@ -127,7 +119,7 @@ fn items(text: &[u8], from: usize, room: usize, close: u8) -> Judged
     let Gap::Item(p2) = g2 else {
         return misfit(ended(g2));
     };
-    let inner = judge(text, p2, room);
+    let inner = inner_at(text, p2, left);
     let e2 = inner.ended;
     let Parsed::Value(q2) = e2 else {
         return misfit(e2);
@@ -135,7 +127,32 @@ fn items(text: &[u8], from: usize, room: usize, close: u8) -> Judged
     let g3 = then_at(text, q2, close);
     let called = name.verdict;
     let of = inner.verdict;
-    sub_shape(text, g3, close, room, called, of)
+    sub_shape(text, g3, close, left, called, of)
+}
+
+// The inner descr of a field: as `judge`, but nearly every one is a type string, which is read without a call in the cycle.
+fn inner_at(text: &[u8], at: usize, room: usize) -> Judged
+    ensures { λ r. ⌜ Judges room (now (text .entry)) at (λ v. each totalsOf (descrOf v)) r ⌝ }
+{
+    if string_at(text, at) {
+        return plain_at(text, at);
+    }
+    judge(text, at, room)
+}
+
+// The string whose quote stands at `at`, as a type string.
+fn plain_at(text: &[u8], at: usize) -> Judged
+    requires { ⌜ at < length (now text) ⌝ }
+    ensures { λ r. ⌜ r .ended ≡ spelled (byteAt (now (text .entry)) at) (now (text .entry)) (at + 1) .ended ⌝ }
+    ensures { λ r. ⌜ verdict (r .verdict) ≡ typedAt (now (text .entry)) at ⌝ }
+{
+    let t = typed_at(text, at + 1, text[at]);
+    let end = t.ended;
+    let read = t.read;
+    Judged {
+        ended: end,
+        verdict: typed(read),
+    }
 }
 
 // A value of another form, or no value.
@@ -207,12 +224,16 @@ fn name_at(text: &[u8], at: usize, room: usize) -> Judged
     misfit(value(text, at, room))
 }
 
-// Behind the first item of a bracket, which ends before `at`: of a tuple it needs its comma.
+// Behind the first item of a bracket, which ends before `at`: of a tuple it needs its comma. Where an item follows, the comma stands there.
 fn second_at(text: &[u8], at: usize, close: u8) -> Gap
     ensures { λ r. ⌜ r ≡ secondAt (now (text .entry)) at close ⌝ }
 {
+    let g = then_at(text, at, close);
     if close != 41 {
-        return then_at(text, at, close);
+        return g;
+    }
+    if let Gap::Item(_) = g {
+        return g;
     }
     let c = need(text, at, 44);
     match c {

@@ -1,6 +1,6 @@
 // The dtype of a header judged while its text is read (document 01, "The record"): how the value ends that should be a descr, and what the later refusals
 // 13, 20 and 21 need of it, or the first of 11, 12 and 14 to 19 that applies. The walk over the text is in `inner`; its verdicts are crate sums'. No
-// function here has a `requires`.
+// public function here has a `requires`.
 mod inner;
 
 use sums::Rule;

@@ -1,6 +1,6 @@
--- By the bracket: as behind any item, or behind the comma, which has to stand there. Assumes nothing.
+-- By the bracket: as behind any item, which of a tuple stands only behind its comma; or what stands behind that comma. Assumes nothing.
 use mathlib.Core.Path.{sym, _∙_}
-use Rattle.descr.proofs.Reach.{second-list, second-tuple}
+use Rattle.descr.proofs.Reach.{second-list, second-there, second-tuple}
 use borrow.Author.Needs.{needs}
 use Rattle.descr.proofs.inner.second_at.Statement.{statement}
 use Rattle.descr.proofs.inner.second_at.Tie as tie
@@ -11,7 +11,15 @@ then-at-requires c κs = search needs
 returns : tie.Need-returns
 returns c =
     let a = c .before .before .before .args in
-    c .then-at .ensures ∙ second-list (a .text .now) (a .at) (a .close) (c .before .if1 .taken)
+    c .before .then-at .ensures ∙ second-list (a .text .now) (a .at) (a .close) (c .if1 .taken)
+
+enum-told : tie.Need-enum-told
+enum-told c = search needs
+
+returns-2 : tie.Need-returns-2
+returns-2 c =
+    let a = c .before .before .before .before .before .args in
+    second-there (a .text .now) (a .at) (a .close) (c .before .before .before .then-at .result) _ (c .before .before .before .then-at .ensures) (c .enum-told .given .1)
 
 need-requires : tie.Need-need-requires
 need-requires c κs = search needs
@@ -28,20 +36,20 @@ enum-known-c-2 c = search needs
 enum-known-c-3 : tie.Need-enum-known-c-3
 enum-known-c-3 c = search needs
 
-returns-2 : tie.Need-returns-2
-returns-2 c =
-    let a = c .before .before .before .before .before .before .before .args in
-    c .gap-at .ensures ∙ second-tuple (a .text .now) (a .at) (a .close) _ (c .before .before .before .before .before .if1 .left) (sym (c .before .before .before .before .need .ensures) ∙ c .before .before .c .given .1)
-
 returns-3 : tie.Need-returns-3
 returns-3 c =
-    let a = c .before .before .before .before .before .before .args in
-    second-tuple (a .text .now) (a .at) (a .close) _ (c .before .before .before .before .if1 .left) (sym (c .before .before .before .need .ensures) ∙ c .before .c2 .given .1)
+    let a = c .before .before .before .before .before .before .before .before .before .args in
+    c .gap-at .ensures ∙ second-tuple (a .text .now) (a .at) (a .close) _ (c .before .before .before .before .before .before .if1 .left) (sym (c .before .before .before .before .need .ensures) ∙ c .before .before .c .given .1)
 
 returns-4 : tie.Need-returns-4
 returns-4 c =
-    let a = c .before .before .before .before .before .before .args in
-    second-tuple (a .text .now) (a .at) (a .close) _ (c .before .before .before .before .if1 .left) (sym (c .before .before .before .need .ensures) ∙ c .before .c3 .given .1)
+    let a = c .before .before .before .before .before .before .before .before .args in
+    second-tuple (a .text .now) (a .at) (a .close) _ (c .before .before .before .before .before .if1 .left) (sym (c .before .before .before .need .ensures) ∙ c .before .c2 .given .1)
+
+returns-5 : tie.Need-returns-5
+returns-5 c =
+    let a = c .before .before .before .before .before .before .before .before .args in
+    second-tuple (a .text .now) (a .at) (a .close) _ (c .before .before .before .before .before .if1 .left) (sym (c .before .before .before .need .ensures) ∙ c .before .c3 .given .1)
 
 pub second-at-spec : {M : Type 1} → statement M
 second-at-spec =
@@ -49,11 +57,13 @@ second-at-spec =
     (tie.spec
     then-at-requires
     returns
+    enum-told
+    returns-2
     need-requires
     enum-known-c
     gap-at-requires
     enum-known-c-2
     enum-known-c-3
-    returns-2
     returns-3
-    returns-4)
+    returns-4
+    returns-5)
