@@ -18,6 +18,7 @@ use Rattle.dtype.specs.Names.{nameBytes, namesOf}
 use Rattle.dtype.specs.Flat.{entry-width, flat}
 use Rattle.dtype.specs.Record.{Record, table, names}
 use Rattle.dtype.specs.Limits.{overDimensions, overLevels, overEntries, overSize, overShape, limited}
+use Rattle.fronts.specs.Rooms as fronts
 use Rattle.record.specs.Rooms.{Rooms, needs, tooSmall, Lent, roomsOf, atFront, holding}
 use Rattle.tokens.specs.Node.{Node}
 use Rattle.tokens.specs.Got.{Got}
@@ -93,7 +94,7 @@ module _ (text : List ℕ) (plan : Plan) (r : Record) (h : PlanOf text (skip tex
 
     -- ---- 23
     abbrev small : Bool
-    small = ltb (length t / entry-width) (plan .descr .totals .entries) || ltb (length ns) (plan .descr .totals .names) || ltb (length s) (plan .shape .outline .rank)
+    small = fronts.tooSmall (length t) (length ns) (length s) (plan .descr .totals .entries) (plan .descr .totals .names) (plan .shape .outline .rank)
 
     small-is : small ≡ tooSmall (roomsOf l) (needs r)
     small-is =

@@ -3,7 +3,6 @@
 // and each bracket that opens leaves one fewer. A type string and a field's name are written by functions that the cycle does not go through, so that they
 // can stand where they are called. A record's entry is written behind its fields', and the array levels of a sub-shape behind their type's: their sizes are
 // known then. No public function here has a `requires`.
-use dtype::ENTRY;
 use dtype::Order;
 use entry::inner::put_over;
 use entry::inner::put_plain;
@@ -13,6 +12,7 @@ use field::closing_at;
 use field::place_of;
 use field::string_at;
 use field::typed_at;
+use fronts::too_small;
 use grammar::OPEN;
 use held::held_sum;
 use judge::Judged;
@@ -104,7 +104,7 @@ fn house(
     let totals = descr.totals;
     let entries = totals.entries as usize;
     let bytes = totals.names as usize;
-    if (table.len() / ENTRY < entries) | (names.len() < bytes) | (shape.len() < rank) {
+    if too_small(table.len(), names.len(), shape.len(), entries, bytes, rank) {
         return TextRead::Refused(Refusal::Room);
     }
     fill(text, descr.at, OPEN - 1, table, 0, 0, 0, names, 0);

@@ -10,6 +10,7 @@ use Rattle.refusal.specs.declared.Refusal.{Refusal}
 use Rattle.refusal.specs.Numbers.{numberOf}
 use Rattle.refusal.proofs.Names.{number-apart}
 use Rattle.fronts.specs.Held.{held-bytes, missing}
+use Rattle.fronts.specs.Rooms.{tooSmall}
 
 -- the front of a room, as long as is asked for
 pub front-one : (room : List ℕ) (n : ℕ) → OneOutcome {A = List ℕ} (λ r. r ≡ take n room)
@@ -20,3 +21,6 @@ held-one file = front-one file held-bytes
 
 pub missing-one : (longer : Bool) → OneOutcome {A = Refusal} (λ r. numberOf r ≡ missing longer)
 missing-one longer x y p q = number-apart x y (p ∙ sym q)
+
+pub too-small-one : (table names shape entries bytes rank : ℕ) → OneOutcome {A = Bool} (λ r. r ≡ tooSmall table names shape entries bytes rank)
+too-small-one table names shape entries bytes rank = by-equation (tooSmall table names shape entries bytes rank)

@@ -1,4 +1,5 @@
-// The fronts of a file and of the lent rooms (document 01, "What the collector buys"): the first bytes of a file that are held, and what a reading has written to each room. No function here has a `requires`.
+// The fronts of a file and of the lent rooms (document 01, "What the collector buys"): the first bytes of a file that are held, whether the rooms have
+// enough, and what a reading has written to each. No function here has a `requires`.
 use refusal::Refusal;
 ghost use mathlib.Core.Path.{_≡_};
 ghost use Prim.Native.Nat.{_*_};
@@ -6,6 +7,7 @@ ghost use lib.ListN.{take};
 ghost use Rattle.dtype.specs.Flat.{entry-width};
 ghost use Rattle.refusal.specs.Numbers.{numberOf};
 ghost use Rattle.fronts.specs.Held.{held-bytes, missing as missingNumber};
+ghost use Rattle.fronts.specs.Rooms.{tooSmall};
 
 // How many of a file's first bytes are held.
 pub const HELD: usize = 65536;
@@ -29,6 +31,20 @@ pub fn missing(longer: bool) -> Refusal
     } else {
         Refusal::Incomplete
     }
+}
+
+// Whether rooms of so many numbers, bytes and numbers are too small for a table of so many entries, for so many name bytes or for so many dimensions.
+pub fn too_small(
+    table: usize,
+    names: usize,
+    shape: usize,
+    entries: usize,
+    bytes: usize,
+    rank: usize,
+) -> bool
+    ensures { λ r. ⌜ r ≡ tooSmall table names shape entries bytes rank ⌝ }
+{
+    (table / dtype::ENTRY < entries) | (names < bytes) | (shape < rank)
 }
 
 // The entries, the name bytes and the dimensions that were written, at the front of their rooms.

@@ -1,23 +1,27 @@
 -- 23, and then the walks that fill. Assumes nothing.
+use mathlib.Core.Path.{sym, _∙_}
 use Rattle.dims.proofs.Stored.{stored-shape}
 use Rattle.fill.proofs.Housing.{house-23, fill-due, house-fits}
 use borrow.Author.Needs.{needs}
 use Rattle.fill.proofs.house.Statement.{statement}
 use Rattle.fill.proofs.house.Tie as tie
 
+too-small-requires : tie.Need-too-small-requires
+too-small-requires c κs = search needs
+
 returns : tie.Need-returns
 returns c =
-    let a = c .before .before .before .before .before .before .before .before .before .args in
-    λ r h. house-23 (a .text .now) (a .plan) r h (a .table .now) (a .names .now) (a .shape .now) (c .if1 .taken)
+    let a = c .before .before .before .before .before .before .before .before .before .before .args in
+    λ r h. house-23 (a .text .now) (a .plan) r h (a .table .now) (a .names .now) (a .shape .now) (sym (c .before .too-small .ensures) ∙ c .if1 .taken)
 
 sub-fill : tie.Need-sub-fill
 sub-fill c = search needs
 
 fill-requires : tie.Need-fill-requires
 fill-requires c κs =
-    let a = c .before .before .before .before .before .before .before .before .before .before .before .args in
-    let x = c .before .before .before .before .before .before .before .before .before .before .before .pre in
-    fill-due (a .text .now) (a .plan) (x .0) (x .1) (a .table .now) (a .names .now) (a .shape .now) (c .before .before .if1 .left)
+    let a = c .before .before .before .before .before .before .before .before .before .before .before .before .args in
+    let x = c .before .before .before .before .before .before .before .before .before .before .before .before .pre in
+    fill-due (a .text .now) (a .plan) (x .0) (x .1) (a .table .now) (a .names .now) (a .shape .now) (sym (c .before .before .before .too-small .ensures) ∙ c .before .before .if1 .left)
 
 sub-fill-2 : tie.Need-sub-fill-2
 sub-fill-2 c = search needs
@@ -36,13 +40,14 @@ same-length-3 c = search needs
 
 returns-2 : tie.Need-returns-2
 returns-2 c =
-    let a = c .before .before .before .before .before .before .before .before .before .before .before .before .before .before .before .before .before .before .before .before .args in
-    λ r h. house-fits (a .text .now) (a .plan) r h (a .table .now) (a .names .now) (a .shape .now) (c .before .before .before .before .before .before .before .before .before .before .before .if1 .left) (c .before .before .before .before .before .before .before .before .fill .result) (c .before .before .fill2 .result) _ _ _ (c .before .before .before .before .before .before .before .before .fill .ensures) (stored-shape _ (a .text .now) (a .plan .shape .at) _ _ _ (c .before .before .fill2 .ensures))
+    let a = c .before .before .before .before .before .before .before .before .before .before .before .before .before .before .before .before .before .before .before .before .before .args in
+    λ r h. house-fits (a .text .now) (a .plan) r h (a .table .now) (a .names .now) (a .shape .now) (sym (c .before .before .before .before .before .before .before .before .before .before .before .before .too-small .ensures) ∙ c .before .before .before .before .before .before .before .before .before .before .before .if1 .left) (c .before .before .before .before .before .before .before .before .fill .result) (c .before .before .fill2 .result) _ _ _ (c .before .before .before .before .before .before .before .before .fill .ensures) (stored-shape _ (a .text .now) (a .plan .shape .at) _ _ _ (c .before .before .fill2 .ensures))
 
 pub house-spec : {M : Type 1} → statement M
 house-spec =
     tie.close
     (tie.spec
+    too-small-requires
     returns
     sub-fill
     fill-requires
