@@ -9,27 +9,29 @@ ghost use lib.ListN.{length};
 
 fn main() {
     let mut room = [0u8; 147456];
-    run_cases(&mut room);
+    let mut table = [0u64; 8192];
+    run_cases(&mut room, &mut table);
 }
 
 // A proved loop has to end, and nothing says that the input does: no run has that many cases.
-fn run_cases(room: &mut [u8]) {
+fn run_cases(room: &mut [u8], table: &mut [u64]) {
     let mut turns = u64::MAX;
-    while turns > 0 && run_case(room) {
+    while turns > 0 && run_case(room, table) {
         turns -= 1;
     }
 }
 
 // One case, and whether to go on.
-fn run_case(room: &mut [u8]) -> bool {
+fn run_case(room: &mut [u8], table: &mut [u64]) -> bool {
     let Frame::Case(n) = frames::next(room) else {
         return false;
     };
-    replay(&room[..n]);
+    replay(&room[..n], table);
     io::write_all(STDOUT_FILENO, b"\n")
 }
 
-fn replay(case: &[u8]) {
+// The numbers of a case's table go to the front of `table`, and no others of it are lent on.
+fn replay(case: &[u8], table: &mut [u64]) {
     if case.len() == 0 {
         return;
     }
@@ -37,18 +39,17 @@ fn replay(case: &[u8]) {
     let mut given = [0u64; 7];
     let mut shape = [0u64; 64];
     let mut index = [0u64; 256];
-    let mut table = [0u64; 8192];
     let mut path = [0u64; 256];
     store(part(parts, 1), &mut given);
     let rank = store(part(parts, 2), &mut shape);
     let places = store(part(parts, 3), &mut index);
-    let numbers = store(part(parts, 4), &mut table);
+    let numbers = store(part(parts, 4), table);
     let steps = store(part(parts, 6), &mut path);
     ask(
         case[0],
         &given,
         part(parts, 0),
-        front(&table, numbers),
+        front(table, numbers),
         part(parts, 5),
         front(&shape, rank),
         front(&index, places),
@@ -227,6 +228,10 @@ fn lend_room(
     index: &[u64],
     path: &[u64],
 ) {
+    if given[4] <= 1024 {
+        lend_small(op, given, bytes, table, names, shape, index, path);
+        return;
+    }
     let mut numbers = [5u64; 1024];
     let mut out = [5u8; 131088];
     let mut points = [5u32; 1024];
@@ -243,6 +248,36 @@ fn lend_room(
         path,
         &mut numbers[..few],
         &mut out[..many],
+        &mut points[..few],
+    );
+}
+
+// The same, where a small room is lent: to fill a large one for each case takes long.
+fn lend_small(
+    op: u8,
+    given: &[u64; 7],
+    bytes: &[u8],
+    table: &[u64],
+    names: &[u8],
+    shape: &[u64],
+    index: &[u64],
+    path: &[u64],
+) {
+    let mut numbers = [5u64; 1024];
+    let mut out = [5u8; 1024];
+    let mut points = [5u32; 1024];
+    let few = at_most(given[4], 1024);
+    ask_room(
+        op,
+        given,
+        bytes,
+        table,
+        names,
+        shape,
+        index,
+        path,
+        &mut numbers[..few],
+        &mut out[..few],
         &mut points[..few],
     );
 }

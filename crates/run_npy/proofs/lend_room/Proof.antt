@@ -6,6 +6,15 @@ use borrow.Author.Needs.{needs}
 use Rattle.run_npy.proofs.lend_room.Statement.{statement}
 use Rattle.run_npy.proofs.lend_room.Tie as tie
 
+element-copy-out-if1 : tie.Need-element-copy-out-if1
+element-copy-out-if1 c = search needs
+
+lend-small-requires : tie.Need-lend-small-requires
+lend-small-requires c κs = search needs
+
+returns : tie.Need-returns
+returns c = search needs
+
 element-copy-out-at-most : tie.Need-element-copy-out-at-most
 element-copy-out-at-most c = search needs
 
@@ -39,13 +48,16 @@ slice-aggregate-ask-room-3 c = sym (length-take-le _ _ (omega arith))
 ask-room-requires : tie.Need-ask-room-requires
 ask-room-requires c κs = search needs
 
-returns : tie.Need-returns
-returns c = search needs
+returns-2 : tie.Need-returns-2
+returns-2 c = search needs
 
 pub lend-room-spec : {M : Type 1} → statement M
 lend-room-spec =
     tie.close
     (tie.spec
+    element-copy-out-if1
+    lend-small-requires
+    returns
     element-copy-out-at-most
     at-most-requires
     element-copy-out-at-most-2
@@ -57,4 +69,4 @@ lend-room-spec =
     array-borrow-prefix-points
     slice-aggregate-ask-room-3
     ask-room-requires
-    returns)
+    returns-2)

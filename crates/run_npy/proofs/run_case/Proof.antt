@@ -39,6 +39,9 @@ write-all-requires c κs = search needs
 same-length-2 : tie.Need-same-length-2
 same-length-2 c = search needs
 
+same-length-3 : tie.Need-same-length-3
+same-length-3 c = search needs
+
 returns-2 : tie.Need-returns-2
 returns-2 c = search needs
 
@@ -57,4 +60,5 @@ run-case-spec =
     slice-aggregate-write-all
     write-all-requires
     same-length-2
+    same-length-3
     returns-2)
