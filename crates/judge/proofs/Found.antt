@@ -24,9 +24,10 @@ use Rattle.keys.specs.declared.ShapeFound as shape
 use Rattle.keys.specs.declared.ShapeFound.{ShapeFound}
 use Rattle.keys.specs.declared.DescrFound as descr
 use Rattle.keys.specs.declared.DescrFound.{DescrFound}
-use Rattle.keys.specs.declared.Declared.{Declared}
+use Rattle.key_names.specs.declared.Declared.{Declared}
 use Rattle.keys.specs.Pairs.{nodeFor}
-use Rattle.keys.specs.Answer.{ordered, OrderIs, ShapeFoundIs, DescrFoundIs}
+use Rattle.key_names.specs.Answer.{ordered, OrderIs}
+use Rattle.keys.specs.Answer.{ShapeFoundIs, DescrFoundIs}
 use Rattle.keys.proofs.Nodes.{node-value}
 use Rattle.sums.specs.Totals.{totalsOf}
 use Rattle.sums.specs.Verdict as verdicts

@@ -1,7 +1,7 @@
 // A header's text judged (document 01, "The refusal numbers", the order of reading): refusals 5 to 22, and where in the text an accepted record stands. No
 // function here has a `requires`. What each answer stands for is in specs/Judged.antt.
 use dtype::Order;
-use keys::Declared;
+use key_names::Declared;
 use keys::DescrFound;
 use keys::KeysRead;
 use keys::Places;
@@ -16,7 +16,7 @@ use utf8::Text;
 ghost use mathlib.Core.Path.{_≡_};
 ghost use Rattle.record.specs.Header.{recordIn};
 ghost use Rattle.tokens.specs.Text.{skip};
-ghost use Rattle.keys.specs.Answer.{ordered};
+ghost use Rattle.key_names.specs.Answer.{ordered};
 ghost use Rattle.judge.specs.Judged.{reading, orderAnswer, KeysOf, OrderOf, BehindOf, ShapeIn, DescrIn, RankedOf, LimitsOf, JudgedIs};
 ghost use Rattle.refusal.specs.Numbers.{numberOf};
 ghost use Rattle.sums.specs.Verdict as rules;

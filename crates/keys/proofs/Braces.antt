@@ -1,4 +1,4 @@
--- What a value is, by the kind of its first byte: a dict and its pairs, a string and whether it is the key, an order. Assumes nothing.
+-- What a value is, by the kind of its first byte: a dict and its pairs, a string and whether it is the key. Assumes nothing.
 use Prim.Native.Nat.{ℕ, suc, _+_}
 use mathlib.Core.Path.{_≡_, refl, sym, ap, subst, _∙_}
 use mathlib.Core.List.{List, [], _∷_}
@@ -8,11 +8,9 @@ use borrow.Author.Tests.{eqb-true}
 use denote.Enum.Declared.{tagOf}
 use types.Run.{OneOf, miss}
 use Rattle.counts.specs.Outcome.{gives, refused}
-use Rattle.counts.proofs.Alike.{true-false, same-equal}
-use Rattle.dtype.specs.declared.Order.the-variants.{C, Fortran}
+use Rattle.counts.proofs.Alike.{true-false}
 use Rattle.record.specs.Parts.{stringOr}
 use Rattle.record.specs.Dict.{key-order, key-shape, key-descr, isString, isThe}
-use Rattle.record.specs.FromValue.{orderOf}
 use Rattle.grammar.specs.Bytes.{isOpen, isQuote}
 use Rattle.decimal.specs.Decimal.{isDigit}
 use Rattle.tokens.specs.Node.{Node, span, dict, pairs}
@@ -20,7 +18,6 @@ use Rattle.tokens.specs.Got.{got, with}
 use Rattle.literal.specs.Forget.{forget}
 use Rattle.tokens.specs.Text.{byteAt, kindOf}
 use Rattle.tokens.specs.Strings.{spelled}
-use Rattle.counts.specs.Same.{same}
 use Rattle.literal.specs.Brackets.{listBy, pairBy}
 use Rattle.literal.specs.Literal.{bracketBy, value}
 use Rattle.literal.specs.Rows.{View}
@@ -28,10 +25,10 @@ use Rattle.tokens.specs.declared.bytes.Kind.{Kind}
 use Rattle.tokens.specs.declared.bytes.Kind.the-variants.{Square, Round, Curly, Quote, Minus, Digit, TrueWord, FalseWord, NoneWord, Other}
 use Rattle.tokens.proofs.bytes.Kind.{the-type}
 use Rattle.literal.proofs.View.{view}
-use Rattle.keys.specs.declared.Name as name
-use Rattle.keys.specs.declared.Name.{Name}
+use Rattle.key_names.specs.declared.Name as name
+use Rattle.key_names.specs.declared.Name.{Name}
+use Rattle.key_names.specs.Answer.{Named}
 use Rattle.keys.specs.Pairs.{pairsIn}
-use Rattle.keys.specs.Answer.{keyOf, Named}
 
 -- what the `else` of `let Kind::Curly = k else { .. }` knows of k, and that of `Kind::Quote`
 abbrev pub NoCurly : Kind → Type 0
@@ -84,15 +81,6 @@ pub dict-at : (k : ℕ) (s : List ℕ) (at : ℕ) (c : Kind) → c ≡ kindOf (b
     → value (suc k) s at ≡ with (λ e ps. dict (span at e) (pairs ps)) (listBy (pairBy (value k s) s) s (at + 1) 125)
 dict-at k s at c hk z = dict-by k s at (curly-byte (byteAt s at) (sym hk ∙ z))
 
--- which of the three names a string is
-pub name-is : (r : Name) (w u : List ℕ) (b : Bool) → keyOf r ≡ gives w → b ≡ same u w → b ≡ true → Named r (gives u)
-name-is r w u b hw hb ht =
-    let e : gives u ≡ keyOf r = ap gives (same-equal u w (sym hb ∙ ht)) ∙ sym hw in
-    record { of-string = ap isString e; of-descr = ap (isThe key-descr) e; of-order = ap (isThe key-order) e; of-shape = ap (isThe key-shape) e }
-
-pub name-none : (u : List ℕ) (a b d : Bool) → a ≡ same u key-descr → a ≡ false → b ≡ same u key-order → b ≡ false → d ≡ same u key-shape → d ≡ false → Named name.Name.Extra (gives u)
-name-none u a b d ha fa hb fb hd fd = record { of-string = refl; of-descr = sym ha ∙ fa; of-order = sym hb ∙ fb; of-shape = sym hd ∙ fd }
-
 module _ (k : ℕ) (s : List ℕ) (at e : ℕ) (n : Node) (h : value k s at ≡ got n e) where
   no-braces-by : (j : ℕ) (c : Kind) → NoCurly c → View c k s at n e → pairsIn j n ≡ refused j
   no-braces-by j Square z v = ap (pairsIn j) (v .2)
@@ -138,31 +126,3 @@ module _ (k : ℕ) (s : List ℕ) (at e : ℕ) (n : Node) (h : value k s at ≡ 
   no-string c hk z =
       let e = no-string-by c z (view k s at h (sym hk)) in
       record { of-string = ap isString e; of-descr = ap (isThe key-descr) e; of-order = ap (isThe key-order) e; of-shape = ap (isThe key-shape) e }
-
-  -- an order
-  order-of : {m : Node} → n ≡ m → orderOf (forget n) ≡ orderOf (forget m)
-  order-of z = ap (λ (x : Node). orderOf (forget x)) z
-
-  order-by : (c : Kind) → OneOf (0 ∷ 1 ∷ 2 ∷ 3 ∷ 4 ∷ 5 ∷ 8 ∷ 9 ∷ []) (tagOf the-type c) → View c k s at n e → orderOf (forget n) ≡ refused 10
-  unfolding forget
-  order-by Square o v = order-of (v .2)
-  order-by Round o v = order-of (v .2)
-  order-by Curly o v = order-of (v .2)
-  order-by Quote o v = order-of (v .0)
-  order-by Minus o v = order-of (v .0)
-  order-by Digit o v = order-of (v .0)
-  order-by TrueWord o v = absurd (miss (0 ∷ 1 ∷ 2 ∷ 3 ∷ 4 ∷ 5 ∷ 8 ∷ 9 ∷ []) 6 tt o)
-  order-by FalseWord o v = absurd (miss (0 ∷ 1 ∷ 2 ∷ 3 ∷ 4 ∷ 5 ∷ 8 ∷ 9 ∷ []) 7 tt o)
-  order-by NoneWord o v = order-of v
-  order-by Other o v = absurd v
-
-  pub order-true : (c : Kind) → c ≡ kindOf (byteAt s at) → c ≡ TrueWord → orderOf (forget n) ≡ gives Fortran
-  unfolding forget
-  order-true c hk z = order-of (view k s at h (sym hk ∙ z))
-
-  pub order-false : (c : Kind) → c ≡ kindOf (byteAt s at) → c ≡ FalseWord → orderOf (forget n) ≡ gives C
-  unfolding forget
-  order-false c hk z = order-of (view k s at h (sym hk ∙ z))
-
-  pub order-other : (c : Kind) → c ≡ kindOf (byteAt s at) → OneOf (0 ∷ 1 ∷ 2 ∷ 3 ∷ 4 ∷ 5 ∷ 8 ∷ 9 ∷ []) (tagOf the-type c) → orderOf (forget n) ≡ refused 10
-  order-other c hk o = order-by c o (view k s at h (sym hk))

@@ -23,8 +23,9 @@ use Rattle.literal.specs.Literal.{value}
 use Rattle.literal.proofs.Steps.{Stops, key-stop, key-colon}
 use Rattle.dims.proofs.Numbers.{token-value}
 use Rattle.field.proofs.Escapes.{raw-inside, raw-says}
-use Rattle.keys.specs.declared.Name.{Name}
-use Rattle.keys.specs.Answer.{Named, KeyIs}
+use Rattle.key_names.specs.declared.Name.{Name}
+use Rattle.key_names.specs.Answer.{Named}
+use Rattle.keys.specs.Answer.{KeyIs}
 use Rattle.keys.proofs.Braces.{name-by}
 
 -- ---- a quote stands at the position, and r is what the scan behind it tells

@@ -21,17 +21,18 @@ use Rattle.products.specs.Answer.{outlined}
 use Rattle.products.proofs.OneOutcome.{joined-one}
 use Rattle.sums.specs.Verdict.{verdict}
 use Rattle.sums.proofs.Outcomes.{verdict-one}
+use Rattle.key_names.specs.declared.Declared as declared
+use Rattle.key_names.specs.declared.Declared.{Declared}
+use Rattle.key_names.specs.Answer.{ordered, OrderIs}
 use Rattle.keys.specs.declared.ShapeFound as shape
 use Rattle.keys.specs.declared.ShapeFound.{ShapeFound}
 use Rattle.keys.specs.declared.DescrFound as descr
 use Rattle.keys.specs.declared.DescrFound.{DescrFound}
-use Rattle.keys.specs.declared.Declared as declared
-use Rattle.keys.specs.declared.Declared.{Declared}
 use Rattle.keys.specs.declared.Places.{Places}
 use Rattle.keys.specs.declared.KeysRead.{KeysRead}
 use Rattle.keys.specs.declared.KeysRead.the-variants.{Read, NotDict}
 use Rattle.keys.specs.declared.Walked.{Walked}
-use Rattle.keys.specs.Answer.{ordered, OrderIs, ShapeFoundIs, DescrFoundIs, KeysAt, keysAnswer, KeysAre, Walks}
+use Rattle.keys.specs.Answer.{ShapeFoundIs, DescrFoundIs, KeysAt, keysAnswer, KeysAre, Walks}
 
 places-eq : {a b : DescrFound} {c d : Declared} {e f : ShapeFound} → a ≡ b → c ≡ d → e ≡ f → _≡_ {A = Places} (record { descr = a; order = c; shape = e }) (record { descr = b; order = d; shape = f })
 places-eq hd ho hs = cc

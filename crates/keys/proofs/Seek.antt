@@ -35,10 +35,14 @@ use Rattle.products.specs.declared.Verdict as products
 use Rattle.sums.specs.Totals.{totalsOf}
 use Rattle.sums.specs.Verdict.{verdict}
 use Rattle.sums.specs.declared.Verdict as sums
+use Rattle.key_names.specs.declared.Name as name
+use Rattle.key_names.specs.declared.Name.{Name}
+use Rattle.key_names.specs.declared.Declared as declared
+use Rattle.key_names.specs.declared.Declared.{Declared}
+use Rattle.key_names.specs.Answer.{OrderIs, keyOf, WordAt}
+use Rattle.key_names.proofs.Name.{the-type as the-name}
 use Rattle.keys.specs.declared.ShapeFound as shape
 use Rattle.keys.specs.declared.DescrFound as descr
-use Rattle.keys.specs.declared.Declared as declared
-use Rattle.keys.specs.declared.Declared.{Declared}
 use Rattle.keys.specs.declared.DescrRead.{DescrRead}
 use Rattle.keys.specs.declared.ShapeRead.{ShapeRead}
 use Rattle.keys.specs.declared.DescrFound.{DescrFound}
@@ -47,11 +51,8 @@ use Rattle.keys.specs.declared.Places.{Places}
 use Rattle.keys.specs.declared.KeysRead.{KeysRead}
 use Rattle.keys.specs.declared.KeysRead.the-variants.{Read, NotDict}
 use Rattle.keys.specs.declared.Walked.{Walked}
-use Rattle.keys.specs.declared.Name as name
-use Rattle.keys.specs.declared.Name.{Name}
 use Rattle.keys.specs.Pairs.{isKey, lastIn, nodeFor, keyed, keyedAt}
-use Rattle.keys.specs.Answer.{DescrFoundIs, OrderIs, ShapeFoundIs, KeysAre, KeysOf, keyOf, NameAt, WordAt, Takes, OrderTaken, DescrReadIs, ShapeReadIs, walkedBy, WalkedOf}
-use Rattle.keys.proofs.Name.{the-type as the-name}
+use Rattle.keys.specs.Answer.{DescrFoundIs, ShapeFoundIs, KeysAre, KeysOf, NameAt, Takes, OrderTaken, DescrReadIs, ShapeReadIs, walkedBy, WalkedOf}
 use Rattle.keys.proofs.Nodes.{items-in}
 use Rattle.keys.proofs.Braces.{NoCurly, dict-at, no-braces}
 

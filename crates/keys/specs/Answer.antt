@@ -1,21 +1,18 @@
--- What each answer of this crate stands for. Refusal 8: "not a dict, or a key not a string". Refusal 9: "key missing". Refusal 10: "`fortran_order`
--- not boolean". What the verdicts on a shape and on a descr stand for is in crates products and sums. Definitions only. Assumes nothing.
+-- What each answer of this crate stands for. Refusal 8: "not a dict, or a key not a string". Refusal 9: "key missing". What a name and a declared order
+-- stand for is in crate key_names, and the verdicts on a shape and on a descr in crates products and sums. Definitions only. Assumes nothing.
 use Prim.Native.Nat.{ℕ, _-_}
 use mathlib.Core.Path.{_≡_}
-use mathlib.Core.List.{List, []}
+use mathlib.Core.List.{List}
 use mathlib.Core.Bool.{Bool, true, false, cond}
-use Rattle.counts.specs.Outcome.{Outcome, gives, refused, then, each}
-use Rattle.dtype.specs.declared.Order.{Order}
+use Rattle.counts.specs.Outcome.{Outcome, gives, refused, each}
 use Rattle.record.specs.Parts.{stringOr}
 use Rattle.record.specs.Dimensions.{subShape}
 use Rattle.record.specs.Descr.{descrOf}
-use Rattle.record.specs.FromValue.{orderOf}
-use Rattle.record.specs.Dict.{key-order, key-shape, key-descr, isString, isThe, allStrings}
+use Rattle.record.specs.Dict.{key-order, key-shape, key-descr, isThe, allStrings}
 use Rattle.tokens.specs.Node.{Node, Pair, pairs}
 use Rattle.tokens.specs.Got.{Got, got, fault, deep, pos}
 use Rattle.tokens.specs.declared.Parsed.{Parsed}
 use Rattle.tokens.specs.declared.Parsed.the-variants.{Value, Fault, Deep}
-use Rattle.tokens.specs.Text.{skip}
 use Rattle.literal.specs.Forget.{forget, forgetPairs}
 use Rattle.literal.specs.Brackets.{keyBy}
 use Rattle.literal.specs.Literal.{value, most-open}
@@ -23,6 +20,9 @@ use Rattle.products.specs.Outline.{outlineOf}
 use Rattle.products.specs.Answer.{outlined}
 use Rattle.sums.specs.Totals.{totalsOf}
 use Rattle.sums.specs.Verdict.{verdict}
+use Rattle.key_names.specs.declared.Name.{Name}
+use Rattle.key_names.specs.declared.Declared.{Declared}
+use Rattle.key_names.specs.Answer.{keyOf, Named, OrderIs}
 use Rattle.keys.specs.declared.ShapeFound as shape
 use Rattle.keys.specs.declared.ShapeFound.{ShapeFound}
 use Rattle.keys.specs.declared.DescrFound as descr
@@ -34,21 +34,7 @@ use Rattle.keys.specs.declared.Places.{Places}
 use Rattle.keys.specs.declared.KeysRead.{KeysRead}
 use Rattle.keys.specs.declared.KeysRead.the-variants.{Read, NotDict}
 use Rattle.keys.specs.declared.Walked.{Walked}
-use Rattle.keys.specs.declared.Name as name
-use Rattle.keys.specs.declared.Name.{Name}
-use Rattle.keys.specs.declared.Declared as declared
-use Rattle.keys.specs.declared.Declared.{Declared}
 use Rattle.keys.specs.Pairs.{lastIn, nodeFor, keyedAt}
-
--- the declared order, or 9, 10
-abbrev pub ordered : Declared → Outcome Order
-ordered (declared.Declared.Is o) = gives o
-ordered declared.Declared.Form = refused 10
-ordered declared.Declared.Missing = refused 9
-
--- the order that the value of a key declares, or the key is missing
-abbrev pub OrderIs : Declared → Outcome Node → Type 0
-OrderIs x o = ordered x ≡ then o (λ n. orderOf (forget n))
 
 -- the value that counts stands at the position, where k brackets more may open, and comes to this as a shape; or the key is missing
 abbrev pub ShapeFoundIs : ℕ → List ℕ → ShapeFound → Outcome Node → Type 0
@@ -105,22 +91,7 @@ walkedBy (Value e) strings x = record { ended = Value e; keys = cond strings (Re
 walkedBy (Fault p) strings x = record { ended = Fault p; keys = NotDict }
 walkedBy (Deep p) strings x = record { ended = Deep p; keys = NotDict }
 
--- a key that a name is the name of; another string stands for all that are none of the three
-abbrev pub keyOf : Name → Outcome (List ℕ)
-keyOf name.Name.Descr = gives key-descr
-keyOf name.Name.Order = gives key-order
-keyOf name.Name.Shape = gives key-shape
-keyOf name.Name.Extra = gives []
-keyOf name.Name.NoString = refused 8
-
--- the name tells of a key whether it is a string, and whether it is one of the three
-pub record Named (r : Name) (key : Outcome (List ℕ)) : Type 0 where
-  pub of-string : isString key ≡ isString (keyOf r)
-  pub of-descr : isThe key-descr key ≡ isThe key-descr (keyOf r)
-  pub of-order : isThe key-order key ≡ isThe key-order (keyOf r)
-  pub of-shape : isThe key-shape key ≡ isThe key-shape (keyOf r)
-
--- the same of the key at a position, whichever value stands there
+-- the name of the key at a position, whichever value stands there
 abbrev pub NameAt : List ℕ → ℕ → Name → Type 0
 NameAt s at r = (k : ℕ) (n : Node) (e : ℕ) → value k s at ≡ got n e → Named r (stringOr 8 (forget n))
 
@@ -128,10 +99,6 @@ NameAt s at r = (k : ℕ) (n : Node) (e : ℕ) → value k s at ≡ got n e → 
 pub record KeyIs (k : ℕ) (s : List ℕ) (at : ℕ) (r : Key) : Type 0 where
   pub begins : r .begins ≡ pos (keyBy (value k s) s at)
   pub named : NameAt s at (r .name)
-
--- the order that the value at a position declares, whichever value stands there
-abbrev pub WordAt : List ℕ → ℕ → Declared → Type 0
-WordAt s at r = (k : ℕ) (n : Node) (e : ℕ) → value k s at ≡ got n e → OrderIs r (gives n)
 
 -- what one more pair changes, and what it leaves
 abbrev pub Takes : Bool → Type 0 → Type 0 → Type 0

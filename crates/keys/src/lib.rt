@@ -1,7 +1,12 @@
 // The keys of a header's dict (document 01, "The record"): refusals 8 and 9, and the verdicts on the three values that count, in the same walk that tells whether
 // the dict is a literal at all. These serve our own crates, which judge a header. No function here has a `requires`. What each answer stands for is in specs/Answer.antt.
-use dtype::Order;
 use grammar::OPEN;
+use key_names::Declared;
+use key_names::Name;
+use key_names::is_string;
+use key_names::known;
+use key_names::name_at;
+use key_names::word_at;
 use literal::gaps::Gap;
 use literal::gaps::colon_at;
 use literal::gaps::ended;
@@ -12,23 +17,11 @@ use tokens::Parsed;
 use tokens::bytes::Kind;
 use tokens::bytes::kind_of;
 use tokens::bytes::peek;
-use tokens::strings::is_text;
 use tokens::strings::scan_at;
 ghost use mathlib.Core.Path.{_≡_};
-ghost use Rattle.counts.specs.Outcome.{gives};
-ghost use Rattle.counts.specs.Same.{same};
-ghost use Rattle.record.specs.Dict.{isString};
-ghost use Rattle.tokens.specs.Strings.{spelled};
 ghost use Rattle.literal.specs.Brackets.{listBy, pairBy};
 ghost use Rattle.literal.specs.Literal.{value as valueOf};
-ghost use Rattle.keys.specs.Answer.{keyOf, Named, KeyIs, WordAt, OrderTaken, DescrReadIs, ShapeReadIs, walkedBy, WalkedOf, Walks};
-
-// The declared order; or 9, 10.
-pub enum Declared {
-    Is(Order),
-    Form,
-    Missing,
-}
+ghost use Rattle.keys.specs.Answer.{KeyIs, OrderTaken, DescrReadIs, ShapeReadIs, walkedBy, WalkedOf, Walks};
 
 // Where the value of `shape` stands, and what it is as a shape; or 9.
 pub enum ShapeFound {
@@ -59,15 +52,6 @@ pub enum KeysRead {
 pub struct Walked {
     pub ended: Parsed,
     pub keys: KeysRead,
-}
-
-// What a key is: one of the three, another string, or no string.
-enum Name {
-    Descr,
-    Order,
-    Shape,
-    Extra,
-    NoString,
 }
 
 // What a key is, and where its value begins or the fault before that.
@@ -210,37 +194,6 @@ fn order_at(text: &[u8], at: usize, name: Name, was: Declared) -> Declared
     }
 }
 
-// The order that a value at `at` declares: its first byte tells which value it is.
-fn word_at(text: &[u8], at: usize) -> Declared
-    ensures { λ r. ⌜ WordAt (now (text .entry)) at r ⌝ }
-{
-    let k = kind_of(peek(text, at));
-    match k {
-        Kind::TrueWord => Declared::Is(Order::Fortran),
-        Kind::FalseWord => Declared::Is(Order::C),
-        Kind::Square
-        | Kind::Round
-        | Kind::Curly
-        | Kind::Quote
-        | Kind::Minus
-        | Kind::Digit
-        | Kind::NoneWord
-        | Kind::Other => Declared::Form,
-    }
-}
-
-fn is_string(name: Name) -> bool
-    ensures { λ r. ⌜ r ≡ isString (keyOf name) ⌝ }
-{
-    match name {
-        Name::Descr => true,
-        Name::Order => true,
-        Name::Shape => true,
-        Name::Extra => true,
-        Name::NoString => false,
-    }
-}
-
 // The key at `at` with its colon, passed over once where it is a string.
 fn key_at(text: &[u8], at: usize, room: usize) -> Key
     ensures { λ r. ⌜ KeyIs room (now (text .entry)) at r ⌝ }
@@ -273,54 +226,5 @@ fn key_at(text: &[u8], at: usize, room: usize) -> Key
     Key {
         name: known(&text[from..to]),
         begins,
-    }
-}
-
-// What a key is that is a string of these bytes.
-fn known(name: &[u8]) -> Name
-    ensures { λ r. ⌜ Named r (gives (now (name .entry))) ⌝ }
-{
-    if same_bytes(name, b"descr") {
-        return Name::Descr;
-    }
-    if same_bytes(name, b"fortran_order") {
-        return Name::Order;
-    }
-    if same_bytes(name, b"shape") {
-        return Name::Shape;
-    }
-    Name::Extra
-}
-
-// Whether two texts are the same. No difference ends the walk early, so that the compiler takes many bytes at a time.
-fn same_bytes(a: &[u8], b: &[u8]) -> bool
-    ensures { λ r. ⌜ r ≡ same (now (a .entry)) (now (b .entry)) ⌝ }
-{
-    if a.len() != b.len() {
-        return false;
-    }
-    let mut i: usize = 0;
-    let mut alike = true;
-    while i < a.len() {
-        alike = alike & (a[i] == b[i]);
-        i += 1;
-    }
-    alike
-}
-
-// What a key with an escape is, compared decoded. No two of the three begin alike, so that most keys are compared with one of them beyond the first byte.
-fn name_at(text: &[u8], from: usize, quote: u8) -> Name
-    ensures { λ r. ⌜ Named r (gives (spelled quote (now (text .entry)) from .bytes)) ⌝ }
-{
-    if is_text(text, from, quote, b"descr") {
-        return Name::Descr;
-    }
-    if is_text(text, from, quote, b"fortran_order") {
-        return Name::Order;
-    }
-    if is_text(text, from, quote, b"shape") {
-        Name::Shape
-    } else {
-        Name::Extra
     }
 }

@@ -13,7 +13,7 @@ word-at-requires c κs = search needs
 returns : tie.Need-returns
 returns c =
     let a = c .before .before .before .before .args in
-    order-here (a .text .now) (a .at) (a .name) (a .was) (c .word-at .result) (c .before .enum-told .given .1) (c .word-at .ensures)
+    order-here (a .text .now) (a .at) (a .name) (a .was) (c .word-at .result) (c .before .enum-told .given .1) (c .word-at .ensures .0)
 
 returns-2 : tie.Need-returns-2
 returns-2 c = let a = c .before .before .args in order-kept (a .text .now) (a .at) (a .name) (a .was) (c .match .keys2)

@@ -7,9 +7,9 @@ use lib.ListN.{length, getD, take}
 use lib.Dec.{eqb}
 use borrow.Author.Needs.{needs}
 use Rattle.counts.specs.Same.{same}
-use Rattle.keys.proofs.Same.{same-next, same-all, same-lengths}
-use Rattle.keys.proofs.same_bytes.Statement.{statement}
-use Rattle.keys.proofs.same_bytes.Tie as tie
+use Rattle.key_names.proofs.Same.{same-next, same-all, same-lengths}
+use Rattle.key_names.proofs.same_bytes.Statement.{statement}
+use Rattle.key_names.proofs.same_bytes.Tie as tie
 
 abbrev Inv-loop : tie.InvT-loop
 Inv-loop a b i₀ alike₀ i alike = (alike ≡ same (take i a) (take i b)) × (i ≤ length a) × (length a ≡ length b)

@@ -2,10 +2,10 @@
 use mathlib.Core.Path.{refl}
 use borrow.Author.Needs.{needs}
 use Rattle.record.specs.Dict.{key-order, key-shape, key-descr}
-use Rattle.keys.specs.declared.Name.{Name}
-use Rattle.keys.proofs.Braces.{name-is, name-none}
-use Rattle.keys.proofs.known.Statement.{statement}
-use Rattle.keys.proofs.known.Tie as tie
+use Rattle.key_names.specs.declared.Name.{Name}
+use Rattle.key_names.proofs.Names.{name-is, name-none}
+use Rattle.key_names.proofs.known.Statement.{statement}
+use Rattle.key_names.proofs.known.Tie as tie
 
 slice-aggregate-same-bytes : tie.Need-slice-aggregate-same-bytes
 slice-aggregate-same-bytes c = search needs

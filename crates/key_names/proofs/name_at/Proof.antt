@@ -3,10 +3,10 @@ use mathlib.Core.Path.{refl}
 use borrow.Author.Needs.{needs}
 use Rattle.tokens.specs.Strings.{spelled}
 use Rattle.record.specs.Dict.{key-order, key-shape, key-descr}
-use Rattle.keys.specs.declared.Name.{Name}
-use Rattle.keys.proofs.Braces.{name-is, name-none}
-use Rattle.keys.proofs.name_at.Statement.{statement}
-use Rattle.keys.proofs.name_at.Tie as tie
+use Rattle.key_names.specs.declared.Name.{Name}
+use Rattle.key_names.proofs.Names.{name-is, name-none}
+use Rattle.key_names.proofs.name_at.Statement.{statement}
+use Rattle.key_names.proofs.name_at.Tie as tie
 
 slice-aggregate-is-text : tie.Need-slice-aggregate-is-text
 slice-aggregate-is-text c = search needs

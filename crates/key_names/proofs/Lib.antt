@@ -1,0 +1,4 @@
+pub mod Names
+pub mod Words
+pub mod Same
+pub mod Outcomes

@@ -1,0 +1,46 @@
+-- No second outcome meets the contracts of this crate: whether a key is a string, and which of the three it is, fixes its name. Assumes nothing.
+use Prim.Native.Nat.{ℕ}
+use mathlib.Core.Path.{_≡_, refl, sym, _∙_}
+use mathlib.Core.List.{List}
+use mathlib.Core.Bool.{Bool, cond}
+use Rattle.counts.specs.Outcome.{Outcome, gives}
+use Rattle.counts.specs.OneOutcome.{OneOutcome}
+use Rattle.counts.proofs.OneOutcome.{by-equation}
+use Rattle.record.specs.Dict.{key-order, key-shape, key-descr, isString, isThe}
+use Rattle.tokens.specs.Strings.{spelled}
+use Rattle.tokens.specs.Text.{byteAt, kindOf}
+use Rattle.key_names.specs.declared.Name.{Name}
+use Rattle.key_names.specs.Answer.{keyOf, Named, WordAt, wordOf}
+
+-- the name that the four tests tell
+nameBy : (string descr order shape : Bool) → Name
+nameBy string descr order shape = cond string (cond descr Name.Descr (cond order Name.Order (cond shape Name.Shape Name.Extra))) Name.NoString
+
+abbrev nameFrom : Outcome (List ℕ) → Name
+nameFrom key = nameBy (isString key) (isThe key-descr key) (isThe key-order key) (isThe key-shape key)
+
+name-back : (r : Name) → nameFrom (keyOf r) ≡ r
+unfolding nameBy
+name-back Name.Descr = refl
+name-back Name.Order = refl
+name-back Name.Shape = refl
+name-back Name.Extra = refl
+name-back Name.NoString = refl
+
+name-told : (key : Outcome (List ℕ)) (r : Name) → Named r key → nameFrom key ≡ r
+name-told key r h = rw (h .of-string, h .of-descr, h .of-order, h .of-shape) (name-back r)
+
+named-one : (key : Outcome (List ℕ)) → OneOutcome (λ r. Named r key)
+named-one key x y a b = sym (name-told key x a) ∙ name-told key y b
+
+pub known-one : (name : List ℕ) → OneOutcome (λ r. Named r (gives name))
+known-one name = named-one (gives name)
+
+pub name-at-one : (text : List ℕ) (from quote : ℕ) → OneOutcome (λ r. Named r (gives (spelled quote text from .bytes)))
+name-at-one text from quote = named-one (gives (spelled quote text from .bytes))
+
+pub is-string-one : (name : Name) → OneOutcome (λ r. r ≡ isString (keyOf name))
+is-string-one name = by-equation (isString (keyOf name))
+
+pub word-at-one : (text : List ℕ) (at : ℕ) → OneOutcome (λ r. WordAt text at r × (r ≡ wordOf (kindOf (byteAt text at))))
+word-at-one text at x y a b = a .1 ∙ sym (b .1)

@@ -1,0 +1,111 @@
+// The keys of a header's dict that count, by their names, and the order that the value of `fortran_order` declares (document 01, "The record"): refusals 8 and 10. These
+// serve our own crates, which judge a header. No function here has a `requires`. What each answer stands for is in specs/Answer.antt.
+use dtype::Order;
+use tokens::bytes::Kind;
+use tokens::bytes::kind_of;
+use tokens::bytes::peek;
+use tokens::strings::is_text;
+ghost use mathlib.Core.Path.{_≡_};
+ghost use Rattle.counts.specs.Outcome.{gives};
+ghost use Rattle.counts.specs.Same.{same};
+ghost use Rattle.record.specs.Dict.{isString};
+ghost use Rattle.tokens.specs.Strings.{spelled};
+ghost use Rattle.tokens.specs.Text.{byteAt, kindOf};
+ghost use Rattle.key_names.specs.Answer.{keyOf, Named, WordAt, wordOf};
+
+// What a key is: one of the three, another string, or no string.
+pub enum Name {
+    Descr,
+    Order,
+    Shape,
+    Extra,
+    NoString,
+}
+
+// The declared order; or 9, 10.
+pub enum Declared {
+    Is(Order),
+    Form,
+    Missing,
+}
+
+// What a key is that is a string of these bytes.
+pub fn known(name: &[u8]) -> Name
+    ensures { λ r. ⌜ Named r (gives (now (name .entry))) ⌝ }
+{
+    if same_bytes(name, b"descr") {
+        return Name::Descr;
+    }
+    if same_bytes(name, b"fortran_order") {
+        return Name::Order;
+    }
+    if same_bytes(name, b"shape") {
+        return Name::Shape;
+    }
+    Name::Extra
+}
+
+// Whether two texts are the same. No difference ends the walk early, so that the compiler takes many bytes at a time.
+fn same_bytes(a: &[u8], b: &[u8]) -> bool
+    ensures { λ r. ⌜ r ≡ same (now (a .entry)) (now (b .entry)) ⌝ }
+{
+    if a.len() != b.len() {
+        return false;
+    }
+    let mut i: usize = 0;
+    let mut alike = true;
+    while i < a.len() {
+        alike = alike & (a[i] == b[i]);
+        i += 1;
+    }
+    alike
+}
+
+// What a key with an escape is, compared decoded. No two of the three begin alike, so that most keys are compared with one of them beyond the first byte.
+pub fn name_at(text: &[u8], from: usize, quote: u8) -> Name
+    ensures { λ r. ⌜ Named r (gives (spelled quote (now (text .entry)) from .bytes)) ⌝ }
+{
+    if is_text(text, from, quote, b"descr") {
+        return Name::Descr;
+    }
+    if is_text(text, from, quote, b"fortran_order") {
+        return Name::Order;
+    }
+    if is_text(text, from, quote, b"shape") {
+        Name::Shape
+    } else {
+        Name::Extra
+    }
+}
+
+pub fn is_string(name: Name) -> bool
+    ensures { λ r. ⌜ r ≡ isString (keyOf name) ⌝ }
+{
+    match name {
+        Name::Descr => true,
+        Name::Order => true,
+        Name::Shape => true,
+        Name::Extra => true,
+        Name::NoString => false,
+    }
+}
+
+// The order that a value at `at` declares: its first byte tells which value it is.
+pub fn word_at(text: &[u8], at: usize) -> Declared
+    ensures { λ r. ⌜ WordAt (now (text .entry)) at r ⌝ }
+    ensures { λ r. ⌜ r ≡ wordOf (kindOf (byteAt (now (text .entry)) at)) ⌝ }
+{
+    let k = kind_of(peek(text, at));
+    match k {
+        Kind::TrueWord => Declared::Is(Order::Fortran),
+        Kind::FalseWord => Declared::Is(Order::C),
+        Kind::Square
+        | Kind::Round
+        | Kind::Curly
+        | Kind::Quote
+        | Kind::Minus
+        | Kind::Digit
+        | Kind::NoneWord
+        | Kind::Other => Declared::Form,
+    }
+}
