@@ -2,29 +2,26 @@
 use Prim.Native.Nat.{ℕ, _<_, _≤_}
 use mathlib.Core.Path.{_≡_, refl, sym, ap, subst, _∙_}
 use mathlib.Core.List.{List}
-use mathlib.Core.Bool.{Bool, true, false, _||_, _&&_, not}
-use lib.Dec.{ltb}
+use mathlib.Core.Bool.{Bool, false}
 use lib.ListN.{length}
 use borrow.Author.Tests.{lt-ltb, le-ltb}
-use Rattle.counts.specs.Outcome.{Outcome, gives, refused, then, unless}
+use Rattle.counts.specs.Outcome.{Outcome, gives, refused, each, unless}
 use Rattle.refusal.specs.declared.Refusal.{Refusal}
 use Rattle.refusal.specs.Numbers.{numberOf}
 use Rattle.dtype.specs.declared.Order.{Order}
 use Rattle.dtype.specs.Dtype.{Dtype}
 use Rattle.dtype.specs.Record.{Record}
-use Rattle.dtype.specs.Limits.{overDimensions, overLevels, overEntries, overSize, overShape, limited}
+use Rattle.dtype.specs.Limits.{overDimensions, limited}
 use Rattle.record.specs.Dict.{key-shape}
 use Rattle.record.specs.Dimensions.{subShape, ranked}
 use Rattle.literal.specs.Forget.{forget}
-use Rattle.products.specs.Outline.{outlineOf, overIn}
+use Rattle.products.specs.Outline.{outlineOf}
 use Rattle.products.specs.declared.Outline.{Outline}
-use Rattle.products.proofs.Orders.{outline-over}
-use Rattle.sums.specs.Totals.{totalsOf}
-use Rattle.sums.specs.declared.Totals.{Totals}
-use Rattle.sums.proofs.Limits.{wide-says, entries-say, over-says}
+use Rattle.bounds.specs.declared.Limit.{Limit}
+use Rattle.bounds.specs.Answer.{limitAnswer, limitsOf}
+use Rattle.bounds.proofs.Tests.{limits-say}
 use Rattle.judge.specs.declared.Shape.{Shape}
 use Rattle.judge.specs.declared.Descr.{Descr}
-use Rattle.judge.specs.declared.Plan.{Plan}
 use Rattle.judge.specs.declared.Judged.{Judged}
 use Rattle.judge.specs.declared.ShapeRead.{ShapeRead}
 use Rattle.judge.specs.Judged.{Counts, ShapeOf, ShapeIs, DescrOf, JudgedIs}
@@ -52,44 +49,17 @@ pub refused-by : (text : List ℕ) (at : ℕ) (f : Refusal) (o : Outcome Record)
 refused-by text at f o e = subst (JudgedIs text at (Judged.Refused f)) (sym e) refl
 
 -- ---- 13 of sub-shapes, 20, 21, 22
-module _ (text : List ℕ) (at : ℕ) (s : List ℕ) (d : Dtype) (o : Order) (p : Shape) (q : Descr) (hs : ShapeOf text at p s) (hd : DescrOf text at q d) where
+module _ (text : List ℕ) (at : ℕ) (s : List ℕ) (d : Dtype) (o : Order) (p : Shape) (q : Descr) (hs : ShapeOf text at p s) (hd : DescrOf text at q d) (x : Limit) (hx : limitAnswer x ≡ limitsOf o (p .outline) (q .totals)) where
   abbrev whole : Record
   whole = record { dtype = d; shape = s; order = o }
 
-  wide-is : q .totals .wide ≡ overLevels d
-  wide-is = ap (λ (t : Totals). t .wide) (hd .totalled)
+  said : each {A = Unit} (λ u. whole) (limitAnswer x) ≡ limited whole
+  said = ap (each {A = Unit} (λ u. whole)) hx ∙ rw (hs .outlined, hd .totalled) (limits-say o s d (hs .few))
 
-  entries-are : (ltb 512 (q .totals .entries) || ltb 65536 (q .totals .names)) ≡ overEntries d
-  entries-are = ap (λ (t : Totals). ltb 512 (t .entries) || ltb 65536 (t .names)) (hd .totalled) ∙ entries-say d
+  pub limit-broken : (f : Refusal) → x ≡ Limit.Broken f → JudgedIs text at (Judged.Refused f) (limited whole)
+  limit-broken f e = refused-by text at f (limited whole) (sym said ∙ ap (λ (y : Limit). each {A = Unit} (λ u. whole) (limitAnswer y)) e)
 
-  size-is : (not (q .totals .object) && q .totals .over) ≡ overSize d
-  size-is = ap (λ (t : Totals). not (t .object) && t .over) (hd .totalled) ∙ over-says d
-
-  shape-is : overIn o (p .outline) ≡ overShape o s
-  shape-is = ap (overIn o) (hs .outlined) ∙ outline-over o s
-
-  pub limit-13 : q .totals .wide ≡ true → limited whole ≡ refused 13
-  unfolding limited
-  limit-13 h = rw (hs .few, sym wide-is ∙ h) refl
-
-  pub limit-20 : q .totals .wide ≡ false → (ltb 512 (q .totals .entries) || ltb 65536 (q .totals .names)) ≡ true → limited whole ≡ refused 20
-  unfolding limited
-  limit-20 h13 h = rw (hs .few, sym wide-is ∙ h13, sym entries-are ∙ h) refl
-
-  pub limit-21 : q .totals .wide ≡ false → (ltb 512 (q .totals .entries) || ltb 65536 (q .totals .names)) ≡ false → (not (q .totals .object) && q .totals .over) ≡ true → limited whole ≡ refused 21
-  unfolding limited
-  limit-21 h13 h20 h = rw (hs .few, sym wide-is ∙ h13, sym entries-are ∙ h20, sym size-is ∙ h) refl
-
-  module _ (h13 : q .totals .wide ≡ false) (h20 : (ltb 512 (q .totals .entries) || ltb 65536 (q .totals .names)) ≡ false) (h21 : (not (q .totals .object) && q .totals .over) ≡ false) where
-    pub limit-22 : overIn o (p .outline) ≡ true → limited whole ≡ refused 22
-    unfolding limited
-    limit-22 h = rw (hs .few, sym wide-is ∙ h13, sym entries-are ∙ h20, sym size-is ∙ h21, sym shape-is ∙ h) refl
-
-    pub limit-none : overIn o (p .outline) ≡ false → limited whole ≡ gives whole
-    unfolding limited
-    limit-none h = rw (hs .few, sym wide-is ∙ h13, sym entries-are ∙ h20, sym size-is ∙ h21, sym shape-is ∙ h) refl
-
-    pub limit-fits : overIn o (p .outline) ≡ false → JudgedIs text at (Judged.Fits (record { order = o; shape = p; descr = q })) (limited whole)
-    limit-fits h =
-        subst (JudgedIs text at (Judged.Fits (record { order = o; shape = p; descr = q }))) (sym (limit-none h))
-        (record { ordered = refl; shaped = hs; typed = hd; within = limit-none h })
+  pub limit-kept : x ≡ Limit.Kept → JudgedIs text at (Judged.Fits (record { order = o; shape = p; descr = q })) (limited whole)
+  limit-kept e =
+      let fits : limited whole ≡ gives whole = sym said ∙ ap (λ (y : Limit). each {A = Unit} (λ u. whole) (limitAnswer y)) e in
+      subst (JudgedIs text at (Judged.Fits (record { order = o; shape = p; descr = q }))) (sym fits) (record { ordered = refl; shaped = hs; typed = hd; within = fits })

@@ -1,5 +1,7 @@
 // A header's text judged (document 01, "The refusal numbers", the order of reading): refusals 5 to 22, and where in the text an accepted record stands. No
 // function here has a `requires`. What each answer stands for is in specs/Judged.antt.
+use bounds::Limit;
+use bounds::within;
 use dtype::Order;
 use key_names::Declared;
 use keys::DescrFound;
@@ -117,23 +119,14 @@ fn within_limits(order: Order, shape: Shape, descr: Descr) -> Judged
 {
     let outline = shape.outline;
     let totals = descr.totals;
-    if totals.wide {
-        return Judged::Refused(Refusal::Dimensions);
+    match within(order, outline, totals) {
+        Limit::Kept => Judged::Fits(Plan {
+            order: order,
+            shape: shape,
+            descr: descr,
+        }),
+        Limit::Broken(r) => Judged::Refused(r),
     }
-    if (512 < totals.entries) | (65536 < totals.names) {
-        return Judged::Refused(Refusal::Entries);
-    }
-    if !totals.object & totals.over {
-        return Judged::Refused(Refusal::Size);
-    }
-    if products::over(outline, order) {
-        return Judged::Refused(Refusal::Shape);
-    }
-    Judged::Fits(Plan {
-        order: order,
-        shape: shape,
-        descr: descr,
-    })
 }
 
 // 9, 10.
