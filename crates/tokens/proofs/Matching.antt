@@ -47,6 +47,11 @@ module _ (us key : List ℕ) (i : ℕ) (h : Matches us key i) where
 pub stored-next : (out run : List ℕ) (at i : ℕ) → i < length run → sets (set out at (getD run i 0)) (at + 1) (drop (i + 1) run) ≡ sets out at (drop i run)
 stored-next out run at i lt = rw (add-one at, add-one i, drop-cons run i 0 lt)
 
+-- an empty run stores nothing
+pub stored-none : (out vs : List ℕ) (at : ℕ) → length vs ≤ 0 → out ≡ sets out at vs
+stored-none out [] at le = refl
+stored-none out (v ∷ vs) at le = absurd (omega arith)
+
 -- past the end nothing is stored
 pub stored-outside : (out vs : List ℕ) (at : ℕ) → length out ≤ at → out ≡ sets out at vs
 stored-outside out [] at le = refl

@@ -197,15 +197,17 @@ fn plain_any(text: &[u8], from: usize, quote: u8) -> usize
     plain_far(text, at, quote)
 }
 
-// The same in a string in which an escape was met, or none: behind an escape the next one is mostly near.
+// The same in a string in which an escape was met, or none: behind an escape the next one mostly follows at once, or is near.
 fn plain_to(text: &[u8], from: usize, quote: u8, escape: bool) -> usize
     ensures { λ r. ⌜ r ≡ past (isPlain quote) (now (text .entry)) from ⌝ }
 {
-    if escape {
-        plain_rest(text, from, quote)
-    } else {
-        plain_any(text, from, quote)
+    if !escape {
+        return plain_any(text, from, quote);
     }
+    if stands(text, from, 92) {
+        return from;
+    }
+    plain_rest(text, from, quote)
 }
 
 // Passes over a string, up to its end or its fault, piece by piece.
@@ -268,7 +270,7 @@ fn put(out: &mut [u8], at: usize, b: u8)
 }
 
 // Stores in a row, as many as have room: how many that is, is known before the first, so that the compiler takes many bytes at a time.
-fn put_run(out: &mut [u8], from: usize, run: &[u8])
+fn put_some(out: &mut [u8], from: usize, run: &[u8])
     ensures { λ _. ⌜ now (out .exit) ≡ sets (now (out .entry)) from (now (run .entry)) ⌝ }
 {
     if out.len() <= from {
@@ -279,6 +281,15 @@ fn put_run(out: &mut [u8], from: usize, run: &[u8])
     while i < fit {
         out[from + i] = run[i];
         i += 1;
+    }
+}
+
+// The same of any run. Between two escapes it is mostly empty.
+fn put_run(out: &mut [u8], from: usize, run: &[u8])
+    ensures { λ _. ⌜ now (out .exit) ≡ sets (now (out .entry)) from (now (run .entry)) ⌝ }
+{
+    if 0 < run.len() {
+        put_some(out, from, run);
     }
 }
 

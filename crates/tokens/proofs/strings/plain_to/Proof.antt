@@ -1,19 +1,28 @@
--- Either function answers the same. Assumes nothing.
+-- Either function answers the same; no run begins with a backslash. Assumes nothing.
 use borrow.Author.Needs.{needs}
+use Rattle.tokens.proofs.Firsts.{backslash-stops}
 use Rattle.tokens.proofs.strings.plain_to.Statement.{statement}
 use Rattle.tokens.proofs.strings.plain_to.Tie as tie
-
-plain-rest-requires : tie.Need-plain-rest-requires
-plain-rest-requires c κs = search needs
 
 plain-any-requires : tie.Need-plain-any-requires
 plain-any-requires c κs = search needs
 
 returns : tie.Need-returns
-returns c = c .plain-rest .ensures
+returns c = c .plain-any .ensures
+
+stands-requires : tie.Need-stands-requires
+stands-requires c κs = search needs
 
 returns-2 : tie.Need-returns-2
-returns-2 c = c .plain-any .ensures
+returns-2 c =
+    let a = c .before .before .before .before .args in
+    backslash-stops (a .quote) (a .text .now) (a .from) _ (c .before .stands .ensures) (c .if2 .taken)
+
+plain-rest-requires : tie.Need-plain-rest-requires
+plain-rest-requires c κs = search needs
+
+returns-3 : tie.Need-returns-3
+returns-3 c = c .plain-rest .ensures
 
 pub plain-to-spec : {M : Type 1} → statement M
-plain-to-spec = tie.close (tie.spec plain-rest-requires plain-any-requires returns returns-2)
+plain-to-spec = tie.close (tie.spec plain-any-requires returns stands-requires returns-2 plain-rest-requires returns-3)
