@@ -1,5 +1,5 @@
 // What a Python literal is made of below its brackets (document 01, "The literal"): bytes by their classes, strings, and the values that have no bracket.
-// Positions are indices of the text. No function here has a `requires`.
+// Positions are indices of the text. No public function here has a `requires`.
 pub mod bytes;
 pub mod strings;
 pub mod tokens;

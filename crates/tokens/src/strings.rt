@@ -1,4 +1,4 @@
-// Strings, decoded in one place: `piece_at`, behind the bytes that stand for themselves (`plain_to`). No function here has a `requires`. A string's `from` is the position behind its opening quote, and
+// Strings, decoded in one place: `piece_at`, behind the bytes that stand for themselves (`plain_to`). No public function here has a `requires`. A string's `from` is the position behind its opening quote, and
 // `quote` is that quote.
 ghost use mathlib.Core.Path.{_≡_};
 ghost use mathlib.Core.Bool.{cond, _&&_};
