@@ -1,18 +1,14 @@
--- Digits at a position are the integer that stands there, for the kind of its first byte says so; a sign decides what they are as a dimension. Assumes nothing.
-use Prim.Native.Nat.{ℕ, zero, suc, _+_, _^_}
-use native.Mathlib.Omega.{arith}
+-- Digits at a position are the integer that stands there, for the kind of its first byte says so. Assumes nothing.
+use Prim.Native.Nat.{ℕ, _+_}
 use mathlib.Core.Path.{_≡_, refl, sym, ap, subst, _∙_}
 use mathlib.Core.List.{List, [], _∷_}
 use mathlib.Core.Bool.{Bool, true, false, _||_, cond}
 use lib.Dec.{eqb}
-use borrow.Author.Tests.{eqb-true, ne-eqb, lt-leb, le-leb}
+use borrow.Author.Tests.{eqb-true, ne-eqb}
 use denote.Enum.Declared.{tagOf}
 use types.Run.{OneOf}
-use Rattle.counts.specs.Outcome.{Outcome, gives, refused}
+use Rattle.counts.specs.Outcome.{Outcome, refused}
 use Rattle.counts.specs.Number.{number}
-use Rattle.counts.specs.declared.Number.{Number}
-use Rattle.counts.specs.declared.Number.the-variants.{Is, Over}
-use Rattle.counts.proofs.Fits.{number-is-back, number-over-back}
 use Rattle.decimal.specs.Decimal.{isDigit, decimal}
 use Rattle.grammar.specs.Bytes.{isOpen, isQuote}
 use Rattle.grammar.proofs.Texts.{true-false}
@@ -144,30 +140,6 @@ no-open b h = go (eqb b 91) (eqb b 40) (eqb b 123) _ h
 
 pub token-value : (k : ℕ) (s : List ℕ) (at : ℕ) (c : Kind) → kindOf (byteAt s at) ≡ c → isBracket c ≡ false → tokenEnd s at c ≡ pos (value k s at)
 token-value k s at c h n = token-ends s at c h ∙ ap pos (value-token s at k (no-open (byteAt s at) (ap isBracket h ∙ n)))
-
--- ---- signs
-pub positive-is : (x : Number) (n m : ℕ) → x ≡ Is n → x ≡ number m → gives n ≡ signed false m
-positive-is x n m h e =
-    let b = number-is-back m n (sym e ∙ h) in
-    rw (lt-leb (2 ^ 64) m (b .1)) (ap gives (sym (b .0)))
-
-pub positive-over : (x : Number) (m : ℕ) → x ≡ Over → x ≡ number m → refused 12 ≡ signed false m
-positive-over x m h e = rw (le-leb (2 ^ 64) m (number-over-back m (sym e ∙ h)))
-
-more-than-zero : (m : ℕ) → (m ≡ 0 → ⊥) → refused 11 ≡ signed true m
-more-than-zero zero h = absurd (h refl)
-more-than-zero (suc m) h = refl
-
-pub negative-zero : (x : Number) (n m : ℕ) → x ≡ Is n → n ≡ 0 → x ≡ number m → gives 0 ≡ signed true m
-negative-zero x n m h z e =
-    let b = number-is-back m n (sym e ∙ h) in
-    ap (signed true) (sym (b .0 ∙ z))
-
-pub negative-more : (x : Number) (n m : ℕ) → x ≡ Is n → (n ≡ 0 → ⊥) → x ≡ number m → refused 11 ≡ signed true m
-negative-more x n m h nz e = let b = number-is-back m n (sym e ∙ h) in more-than-zero m (λ z. nz (sym (b .0) ∙ z))
-
-pub negative-over : (x : Number) (m : ℕ) → x ≡ Over → x ≡ number m → refused 11 ≡ signed true m
-negative-over x m h e = let b = number-over-back m (sym e ∙ h) in more-than-zero m (λ z. omega arith)
 
 -- ---- the dimension of a value, by its kind
 module _ (k : ℕ) (s : List ℕ) (at e : ℕ) (n : Node) (h : value k s at ≡ got n e) where

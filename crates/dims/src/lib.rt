@@ -12,23 +12,23 @@ use products::Member;
 use products::Outline;
 use products::Verdict;
 use products::inner::joined;
+use signs::negative;
+use signs::positive;
 use tokens::Parsed;
 use tokens::bytes::Kind;
 use tokens::bytes::peek;
 use tokens::tokens::numeral_at;
 ghost use mathlib.Core.Path.{_≡_};
 ghost use mathlib.Core.List.{[]};
-ghost use Prim.Native.Nat.{ℕ, _≤_};
-ghost use Rattle.counts.specs.Number.{number};
+ghost use Prim.Native.Nat.{_≤_};
 ghost use Rattle.counts.specs.Outcome.{gives};
 ghost use Rattle.decimal.specs.Decimal.{isDigit};
-ghost use Rattle.record.specs.Dimensions.{signed};
-ghost use mathlib.Core.Bool.{true, false};
+ghost use mathlib.Core.Bool.{false};
 ghost use Rattle.literal.specs.Brackets.{listBy, tupleBy};
 ghost use Rattle.literal.specs.Literal.{value as valueOf};
 ghost use Rattle.tokens.specs.Got.{pos};
 ghost use Rattle.tokens.specs.Text.{byteAt};
-ghost use Rattle.products.specs.Answer.{sized, outlined, rankOf};
+ghost use Rattle.products.specs.Answer.{outlined, rankOf};
 ghost use Rattle.products.specs.Outline.{outlineOf};
 ghost use Rattle.dims.specs.Answer.{Judges};
 ghost use Rattle.dims.specs.Walk.{closingOf, SizeAt, shutAt, Walks};
@@ -205,25 +205,5 @@ fn other_at(text: &[u8], at: usize, room: usize) -> Item
     Item {
         ended: ended,
         size: negative(number),
-    }
-}
-
-// A number without a `-`.
-fn positive(n: Number) -> Member
-    ensures { λ r. ⌜ ((m : ℕ) → n ≡ number m → sized r ≡ signed false m) ⌝ }
-{
-    match n {
-        Number::Is(n) => Member::Is(n),
-        Number::Over => Member::Large,
-    }
-}
-
-// A number behind a `-`.
-fn negative(n: Number) -> Member
-    ensures { λ r. ⌜ ((m : ℕ) → n ≡ number m → sized r ≡ signed true m) ⌝ }
-{
-    match n {
-        Number::Is(n) => { if n == 0 { Member::Is(0) } else { Member::Form } }
-        Number::Over => Member::Form,
     }
 }

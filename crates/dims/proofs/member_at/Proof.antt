@@ -30,7 +30,7 @@ returns-2 c =
     let hr = c .before .before .before .before .numeral-at .ensures in
     let hk = numeral-stands s (a .at) r hr _ (c .before .before .ended .given .1) in (
       sym (c .before .before .ended .given .1) ∙ numeral-ends s (a .at) r hr ∙ token-value (a .room) s (a .at) Digit hk refl,
-      λ k n e h. dimension-digit k s (a .at) e n h (sized (c .positive .result)) hk (λ e he. c .positive .ensures _ (numeral-number s (a .at) r hr e he)),
+      λ k n e h. dimension-digit k s (a .at) e n h (sized (c .positive .result)) hk (λ e he. c .positive .ensures .0 _ (numeral-number s (a .at) r hr e he)),
     )
 
 pub member-at-spec : {M : Type 1} → statement M

@@ -41,7 +41,7 @@ returns-2 c =
     let s = a .text .now in
     let hk = minus-kind (byteAt s (a .at)) (sym (c .before .before .before .peek .ensures) ∙ c .before .before .if1 .left) in (
       numeral-ends s (a .at + 1) (c .before .numeral-at .result) (c .before .numeral-at .ensures) ∙ token-value (a .room) s (a .at) Minus hk refl,
-      λ k n e h. dimension-minus k s (a .at) e n h (sized (c .negative .result)) hk (λ e he. c .negative .ensures _ (numeral-number s (a .at + 1) (c .before .numeral-at .result) (c .before .numeral-at .ensures) e he)),
+      λ k n e h. dimension-minus k s (a .at) e n h (sized (c .negative .result)) hk (λ e he. c .negative .ensures .0 _ (numeral-number s (a .at + 1) (c .before .numeral-at .result) (c .before .numeral-at .ensures) e he)),
     )
 
 pub other-at-spec : {M : Type 1} → statement M
