@@ -8,11 +8,12 @@ use Rattle.dtype.specs.declared.Order.{Order}
 use Rattle.dtype.specs.Dtype.{Dtype}
 use Rattle.dtype.specs.Record.{Record}
 use Rattle.dtype.specs.Limits.{overDimensions, overLevels, overEntries, overSize, overShape, limited}
+use Rattle.record.specs.Dimensions.{ranked}
 use Rattle.products.specs.Outline.{outlineOf}
 use Rattle.products.proofs.Orders.{outline-over}
 use Rattle.sums.specs.Totals.{totalsOf}
 use Rattle.sums.proofs.Limits.{wide-says, entries-say, over-says}
-use Rattle.bounds.specs.Answer.{limitsOf}
+use Rattle.bounds.specs.Answer.{rankLimit, limitsOf}
 
 -- four tests in their order, of which the first is asked beside one that does not hold
 in-order : (r : Record) (n a b c d : Bool) → n ≡ false
@@ -29,3 +30,11 @@ unfolding limited
 limits-say o s d h =
     rw (wide-says d, entries-say d, over-says d, outline-over o s)
     (in-order (record { dtype = d; shape = s; order = o }) (overDimensions s) (overLevels d) (overEntries d) (overSize d) (overShape o s) h)
+
+one-test : (s : List ℕ) (b : Bool) → each {A = Unit} (λ u. s) (unless b 13 (gives tt)) ≡ unless b 13 (gives s)
+one-test s true = refl
+one-test s false = refl
+
+pub rank-says : (s : List ℕ) → each {A = Unit} (λ u. s) (rankLimit (outlineOf s)) ≡ ranked s
+unfolding outlineOf
+rank-says s = one-test s (overDimensions s)

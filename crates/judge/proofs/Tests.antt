@@ -1,10 +1,9 @@
 -- The limits by the totals and the outline: 13, 20, 21, 22, in their order. Assumes nothing.
-use Prim.Native.Nat.{ℕ, _<_, _≤_}
+use Prim.Native.Nat.{ℕ}
+use native.Mathlib.Omega.{arith}
 use mathlib.Core.Path.{_≡_, refl, sym, ap, subst, _∙_}
 use mathlib.Core.List.{List}
-use mathlib.Core.Bool.{Bool, false}
-use lib.ListN.{length}
-use borrow.Author.Tests.{lt-ltb, le-ltb}
+use mathlib.Core.Bool.{Bool, true, false}
 use Rattle.counts.specs.Outcome.{Outcome, gives, refused, each, unless}
 use Rattle.refusal.specs.declared.Refusal.{Refusal}
 use Rattle.refusal.specs.Numbers.{numberOf}
@@ -18,8 +17,8 @@ use Rattle.literal.specs.Forget.{forget}
 use Rattle.products.specs.Outline.{outlineOf}
 use Rattle.products.specs.declared.Outline.{Outline}
 use Rattle.bounds.specs.declared.Limit.{Limit}
-use Rattle.bounds.specs.Answer.{limitAnswer, limitsOf}
-use Rattle.bounds.proofs.Tests.{limits-say}
+use Rattle.bounds.specs.Answer.{limitAnswer, rankLimit, limitsOf}
+use Rattle.bounds.proofs.Tests.{rank-says, limits-say}
 use Rattle.judge.specs.declared.Shape.{Shape}
 use Rattle.judge.specs.declared.Descr.{Descr}
 use Rattle.judge.specs.declared.Judged.{Judged}
@@ -27,22 +26,21 @@ use Rattle.judge.specs.declared.ShapeRead.{ShapeRead}
 use Rattle.judge.specs.Judged.{Counts, ShapeOf, ShapeIs, DescrOf, JudgedIs}
 
 -- ---- 13 of the shape
-rank-of : (s : List ℕ) → outlineOf s .rank ≡ length s
-unfolding outlineOf
-rank-of s = refl
+few-by : (s : List ℕ) (b : Bool) → unless b 13 (gives s) ≡ gives s → b ≡ false
+few-by s true h = absurd (let z : _≡_ {A = ℕ} 0 1 = cc in omega arith)
+few-by s false h = refl
 
-module _ (text : List ℕ) (at place : ℕ) (o : Outline) (c : Counts text at key-shape place) (s : List ℕ) (same : o ≡ outlineOf s) (is : subShape (forget (c .node)) ≡ gives s) where
-  counted : o .rank ≡ length s
-  counted = ap (λ (x : Outline). x .rank) same ∙ rank-of s
+module _ (text : List ℕ) (at place : ℕ) (o : Outline) (c : Counts text at key-shape place) (s : List ℕ) (same : o ≡ outlineOf s) (is : subShape (forget (c .node)) ≡ gives s) (x : Limit) (hx : limitAnswer x ≡ rankLimit o) where
+  rank-said : (y : Limit) → x ≡ y → ranked s ≡ each {A = Unit} (λ u. s) (limitAnswer y)
+  rank-said y e = sym (ap (each {A = Unit} (λ u. s)) hx ∙ rw same (rank-says s)) ∙ ap (λ (z : Limit). each {A = Unit} (λ u. s) (limitAnswer z)) e
 
-  pub ranked-over : 32 < o .rank → ShapeIs text at (ShapeRead.Refused Refusal.Dimensions) (ranked s)
-  ranked-over h = subst (λ (b : Bool). ShapeIs text at (ShapeRead.Refused Refusal.Dimensions) (unless b 13 (gives s))) (sym (lt-ltb 32 (length s) (subst (λ (n : ℕ). 32 < n) counted h))) refl
+  pub ranked-over : (f : Refusal) → x ≡ Limit.Broken f → ShapeIs text at (ShapeRead.Refused f) (ranked s)
+  ranked-over f e = subst (ShapeIs text at (ShapeRead.Refused f)) (sym (rank-said (Limit.Broken f) e)) refl
 
-  pub ranked-few : o .rank ≤ 32 → ShapeIs text at (ShapeRead.Is (record { at = place; outline = o })) (ranked s)
-  ranked-few h =
-      let few : overDimensions s ≡ false = le-ltb 32 (length s) (subst (λ (n : ℕ). n ≤ 32) counted h) in
-      subst (λ (b : Bool). ShapeIs text at (ShapeRead.Is (record { at = place; outline = o })) (unless b 13 (gives s))) (sym few)
-      (record { counts = c; is = is; few = few; outlined = same })
+  pub ranked-few : x ≡ Limit.Kept → ShapeIs text at (ShapeRead.Is (record { at = place; outline = o })) (ranked s)
+  ranked-few e =
+      let fits = rank-said Limit.Kept e in
+      subst (ShapeIs text at (ShapeRead.Is (record { at = place; outline = o }))) (sym fits) (record { counts = c; is = is; few = few-by s (overDimensions s) fits; outlined = same })
 
 -- ---- an answer that is known
 pub refused-by : (text : List ℕ) (at : ℕ) (f : Refusal) (o : Outcome Record) → o ≡ refused (numberOf f) → JudgedIs text at (Judged.Refused f) o

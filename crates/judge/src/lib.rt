@@ -158,13 +158,13 @@ fn shape_in(found: ShapeFound) -> ShapeRead
 fn ranked(at: usize, outline: Outline) -> ShapeRead
     ensures { λ r. ⌜ RankedOf at outline r ⌝ }
 {
-    if 32 < outline.rank {
-        return ShapeRead::Refused(Refusal::Dimensions);
+    match bounds::ranked(outline) {
+        Limit::Kept => ShapeRead::Is(Shape {
+            at: at,
+            outline: outline,
+        }),
+        Limit::Broken(r) => ShapeRead::Refused(r),
     }
-    ShapeRead::Is(Shape {
-        at: at,
-        outline: outline,
-    })
 }
 
 // 9, 11, 12, 14 to 19.
