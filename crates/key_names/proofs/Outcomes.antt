@@ -2,7 +2,7 @@
 use Prim.Native.Nat.{ℕ}
 use mathlib.Core.Path.{_≡_, refl, sym, _∙_}
 use mathlib.Core.List.{List}
-use mathlib.Core.Bool.{Bool, cond}
+use mathlib.Core.Bool.{Bool, cond, _&&_}
 use Rattle.counts.specs.Outcome.{Outcome, gives}
 use Rattle.counts.specs.OneOutcome.{OneOutcome}
 use Rattle.counts.proofs.OneOutcome.{by-equation}
@@ -39,8 +39,8 @@ known-one name = named-one (gives name)
 pub name-at-one : (text : List ℕ) (from quote : ℕ) → OneOutcome (λ r. Named r (gives (spelled quote text from .bytes)))
 name-at-one text from quote = named-one (gives (spelled quote text from .bytes))
 
-pub is-string-one : (name : Name) → OneOutcome (λ r. r ≡ isString (keyOf name))
-is-string-one name = by-equation (isString (keyOf name))
+pub all-strings-one : (strings : Bool) (name : Name) → OneOutcome (λ r. r ≡ strings && isString (keyOf name))
+all-strings-one strings name = by-equation (strings && isString (keyOf name))
 
 pub word-at-one : (text : List ℕ) (at : ℕ) → OneOutcome (λ r. WordAt text at r × (r ≡ wordOf (kindOf (byteAt text at))))
 word-at-one text at x y a b = a .1 ∙ sym (b .1)

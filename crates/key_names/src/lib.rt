@@ -6,6 +6,7 @@ use tokens::bytes::kind_of;
 use tokens::bytes::peek;
 use tokens::strings::is_text;
 ghost use mathlib.Core.Path.{_≡_};
+ghost use mathlib.Core.Bool.{_&&_};
 ghost use Rattle.counts.specs.Outcome.{gives};
 ghost use Rattle.counts.specs.Same.{same};
 ghost use Rattle.record.specs.Dict.{isString};
@@ -78,7 +79,14 @@ pub fn name_at(text: &[u8], from: usize, quote: u8) -> Name
     }
 }
 
-pub fn is_string(name: Name) -> bool
+// Whether the keys up to one of this name are all strings, where those before it are if `strings`.
+pub fn all_strings(strings: bool, name: Name) -> bool
+    ensures { λ r. ⌜ r ≡ strings && isString (keyOf name) ⌝ }
+{
+    strings & is_string(name)
+}
+
+fn is_string(name: Name) -> bool
     ensures { λ r. ⌜ r ≡ isString (keyOf name) ⌝ }
 {
     match name {

@@ -3,7 +3,7 @@
 use grammar::OPEN;
 use key_names::Declared;
 use key_names::Name;
-use key_names::is_string;
+use key_names::all_strings;
 use key_names::known;
 use key_names::name_at;
 use key_names::word_at;
@@ -123,7 +123,7 @@ fn keys_from(text: &[u8], from: usize, room: usize) -> Walked
         let Parsed::Value(q) = v else {
             return walk_end(v, strings, descr, order, shape);
         };
-        strings = strings & is_string(name);
+        strings = all_strings(strings, name);
         g = then_at(text, q, 125);
     }
 }

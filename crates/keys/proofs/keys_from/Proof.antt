@@ -2,7 +2,6 @@
 use lib.ListN.{length}
 use lib.Dec.{lit<}
 use mathlib.Core.Path.{sym, ap, _∙_}
-use mathlib.Core.Bool.{Bool, _&&_}
 use mathlib.Core.Logic.{⊎-elim}
 use borrow.Author.Needs.{needs}
 use Rattle.literal.specs.Brackets.{pairBy}
@@ -115,8 +114,8 @@ returns-3 c =
     let hr = paired (c .before .before) .ended ∙ pair-more (read.value (a .room) s) s _ _ (sym (c .before .before .before .before .before .k .given .1) ∙ c .before .before .before .before .before .before .before .key-at .ensures .begins) in
     walked-stop (a .room) s (a .from) (l .strings) _ (l .g) _ v (c .walk-end3 .result) (l .inv .0) (c .before .before .before .before .before .before .before .before .before .g .given .1) hr (c .before .match4 .keys2) (c .walk-end3 .ensures)
 
-is-string-requires : tie.Need-is-string-requires Inv-loop μ-loop
-is-string-requires c κs = search needs
+all-strings-requires : tie.Need-all-strings-requires Inv-loop μ-loop
+all-strings-requires c κs = search needs
 
 then-at-requires : tie.Need-then-at-requires Inv-loop μ-loop
 then-at-requires c κs = search needs
@@ -142,11 +141,10 @@ loop-again c =
     let ha = sym (c .before .before .before .before .before .before .before .before .k .given .1) ∙ k .ensures .begins in
     let hr = one .ended ∙ pair-more rd s _ _ ha in
     let hg = c .before .before .before .before .before .before .before .before .before .before .before .before .g .given .1 in
-    let hv = c .before .before .before .v .given .1 in
-    let b = ap (λ (x : Bool). l .strings && x) (c .before .is-string .ensures) in (
+    let hv = c .before .before .before .v .given .1 in (
       turn-more (pairBy rd s) s 125 (a .from) (pair-ahead rd s (value-ahead (a .room) s)) (lit< tt) (l .g) (c .then-at .result) _ _ (m .v) hg hv hr (c .then-at .ensures) (l .inv .0),
       goes-more (pairBy rd s) s 125 (a .from) (Seen (a .room) s (l .strings) _) (Seen (a .room) s _ _) (l .g) (c .then-at .result) _ _ (m .v) (l .inv .1) hg hv hr (c .then-at .ensures)
-          (λ u ps us hu h. seen-more (a .room) s (l .strings) _ _ _ (m .v) (k .result .name) _ _ _ u ps us hu ha (k .ensures .named) one b h),
+          (λ u ps us hu h. seen-more (a .room) s (l .strings) _ _ _ (m .v) (k .result .name) _ _ _ u ps us hu ha (k .ensures .named) one (c .before .all-strings .ensures) h),
     )
 
 pub keys-from-spec : {M : Type 1} → statement M
@@ -174,7 +172,7 @@ keys-from-spec =
     enum-known-v
     walk-end-requires-3
     returns-3
-    is-string-requires
+    all-strings-requires
     then-at-requires
     loop-less
     loop-again)
