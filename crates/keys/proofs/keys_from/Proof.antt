@@ -1,7 +1,7 @@
 -- The loop over the pairs keeps `Seen`, and that the pairs end as those from the gap on do. Assumes nothing.
 use lib.ListN.{length}
 use lib.Dec.{lit<}
-use mathlib.Core.Path.{sym, ap, _∙_}
+use mathlib.Core.Path.{sym, _∙_}
 use mathlib.Core.Logic.{⊎-elim}
 use borrow.Author.Needs.{needs}
 use Rattle.literal.specs.Brackets.{pairBy}
