@@ -15,7 +15,7 @@ use denote.Enum.Declared.{tagOf}
 use types.Run.{OneOf, miss}
 use Rattle.counts.specs.Outcome.{Outcome, gives, refused, then, each}
 use Rattle.grammar.specs.Value.{Values}
-use Rattle.grammar.proofs.Texts.{true-false}
+use Rattle.counts.proofs.Alike.{or-none}
 use Rattle.record.specs.Parts.{membersOr}
 use Rattle.record.specs.Dimensions.{dimension, dimensions}
 use Rattle.record.specs.Rooms.{atFront}
@@ -219,10 +219,6 @@ inside-by s at FalseWord h z = absurd (z refl)
 inside-by s at NoneWord h z = absurd (z refl)
 inside-by s at Other h z = absurd (z refl)
 
-neither : (a b : Bool) → (a || b) ≡ false → (a ≡ false) × (b ≡ false)
-neither true b h = true-false h
-neither false b h = (refl, h)
-
 module _ (s : List ℕ) (at close : ℕ) (hc : close ≡ closingOf (kindOf (byteAt s at))) where
   pub front-nothing : (k : ℕ) → (eqb close 0 || eqb k 0) ≡ true → ([] ≡ frontAt k s at) × (Stray at ≡ stopAt k s at)
   unfolding frontAt stopAt
@@ -233,7 +229,7 @@ module _ (s : List ℕ) (at close : ℕ) (hc : close ≡ closingOf (kindOf (byte
   pub front-some : (k : ℕ) → (eqb close 0 || eqb k 0) ≡ false → (0 < k) × (at < length s) × (frontIn (k - 1) s (at + 1) close ≡ frontAt k s at) × (stopIn (k - 1) s (at + 1) close ≡ stopAt k s at)
   unfolding frontAt stopAt
   front-some k h =
-      let o = neither (eqb close 0) (eqb k 0) h in
+      let o = or-none (eqb close 0) (eqb k 0) h in
       let z : eqb (closingOf (kindOf (byteAt s at))) 0 ≡ false = ap (λ (x : ℕ). eqb x 0) (sym hc) ∙ o .0 in
       let n : k ≡ 0 → ⊥ = eqb-false k 0 (o .1) in
       (omega (arith, n), inside-by s at (kindOf (byteAt s at)) refl (eqb-false _ _ z), rw (frontAt, z, o .1, hc), rw (stopAt, z, o .1, hc))

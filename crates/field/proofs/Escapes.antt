@@ -12,6 +12,7 @@ use lib.Dec.{eqb, ltb}
 use borrow.Author.Tests.{eqb-true, ltb-true, ltb-false, le-ltb}
 use Rattle.counts.specs.Outcome.{Outcome, gives, refused, then, unless}
 use Rattle.counts.specs.Same.{same}
+use Rattle.counts.proofs.Alike.{or-none}
 use Rattle.grammar.specs.Bytes.{isBreak, isEscape, unescape}
 use Rattle.decimal.specs.Decimal.{isDigit, digitsOf, afterDigits}
 use Rattle.tokens.specs.Text.{byteAt}
@@ -35,10 +36,6 @@ false-true h = absurd (let z : _≡_ {A = ℕ} 0 1 = cc in omega arith)
 or-elim : {A : Type 0} (a b : Bool) → (a || b) ≡ true → (a ≡ true → A) → (b ≡ true → A) → A
 or-elim true b h f g = f refl
 or-elim false b h f g = g h
-
-or-none : (a b : Bool) → (a || b) ≡ false → (a ≡ false) × (b ≡ false)
-or-none true b h = false-true (sym h)
-or-none false b h = (refl, h)
 
 -- ---- bytes: one of a list
 abbrev among : List ℕ → ℕ → Bool

@@ -9,7 +9,7 @@ use lib.ListN.{length}
 use lib.Seq.{sets}
 use borrow.Author.Tests.{ltb-false}
 use Rattle.counts.specs.Outcome.{Outcome, gives, refused, unless, each}
-use Rattle.counts.proofs.Alike.{true-false}
+use Rattle.counts.proofs.Alike.{or-none}
 use Rattle.refusal.specs.declared.Refusal.{Refusal}
 use Rattle.dtype.specs.declared.Order.{Order}
 use Rattle.dtype.specs.Dtype.{Dtype}
@@ -45,10 +45,6 @@ use Rattle.fill.specs.Text.{lent, saidOf, roomed, Houses}
 unless-back : {A : Type 0} (b : Bool) (n : ℕ) (o : Outcome A) (a : A) → unless b n o ≡ gives a → (b ≡ false) × (o ≡ gives a)
 unless-back true n o a e = absurd (let z : _≡_ {A = ℕ} 0 1 = cc in omega arith)
 unless-back false n o a e = (refl, e)
-
-or-none : (a b : Bool) → (a || b) ≡ false → (a ≡ false) × (b ≡ false)
-or-none true b h = true-false h
-or-none false b h = (refl, h)
 
 module _ (r : Record) (within : limited r ≡ gives r) where
   not-13 : ((overDimensions (r .shape) || overLevels (r .dtype)) ≡ false) × (unless (overEntries (r .dtype)) 20 (unless (overSize (r .dtype)) 21 (unless (overShape (r .order) (r .shape)) 22 (gives r))) ≡ gives r)

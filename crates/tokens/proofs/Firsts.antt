@@ -11,18 +11,18 @@ use lib.ListN.{length, getD, take, drop, length-drop, drop-of-length-le}
 use lib.Seq.{drop-cons, drop-drop}
 use lib.Dec.{eqb, ltb}
 use borrow.Author.Tests.{lt-ltb, le-ltb, ltb-false, eqb-true, ne-eqb, not-true}
-use Rattle.counts.proofs.Alike.{true-false, and-right}
+use Rattle.counts.proofs.Alike.{and-right, or-none}
 use Rattle.grammar.specs.Bytes.{isBreak}
 use Rattle.tokens.proofs.Positions.{past-stop}
 use Rattle.tokens.specs.Text.{byteAt, part, run, past}
 use Rattle.tokens.specs.Strings.{isPlain, isLow, isHigh}
 
 -- the lesser of two numbers, where it is known which that is
-least-first : (a b c : ℕ) → c ≡ cond (ltb a b) a b → a < b → c ≡ a
-least-first a b c h lt = h ∙ rw (lt-ltb a b lt)
+lesser-first : (a b c : ℕ) → c ≡ cond (ltb a b) a b → a < b → c ≡ a
+lesser-first a b c h lt = h ∙ rw (lt-ltb a b lt)
 
-least-second : (a b c : ℕ) → c ≡ cond (ltb a b) a b → b ≤ a → c ≡ b
-least-second a b c h le = h ∙ rw (le-ltb a b le)
+lesser-second : (a b c : ℕ) → c ≡ cond (ltb a b) a b → b ≤ a → c ≡ b
+lesser-second a b c h le = h ∙ rw (le-ltb a b le)
 
 module _ (g : ℕ → Bool) (l : List ℕ) where
   -- how many bytes come before the first that g finds
@@ -50,14 +50,14 @@ module _ (g : ℕ → Bool) (l : List ℕ) where
     -- found before: the place is behind it
     earlier : i ≤ place → first < i → Found (i + 1) first′
     earlier le h =
-        let e = least-first first place first′ n (omega (arith, le)) in
+        let e = lesser-first first place first′ n (omega (arith, le)) in
         let k = w .found h in
         record { few = omega (arith, w .few, e); found = λ x. omega (arith, e, k); none = λ x. absurd (omega (arith, e)) }
 
     now-found : g (getD l i 0) ≡ true → i ≤ first → Found (i + 1) first′
     now-found e h =
         let q = place-at true e in
-        let f = least-second first place first′ n (omega (arith, q)) in
+        let f = lesser-second first place first′ n (omega (arith, q)) in
         let k = w .none h in
         let r = run-at true e in
         record { few = omega (arith, q, f); found = λ x. omega (arith, q, f, k .1, r); none = λ x. absurd (omega (arith, q, f)) }
@@ -66,7 +66,7 @@ module _ (g : ℕ → Bool) (l : List ℕ) where
     not-yet e h =
         let q = place-at false e in
         let k = w .none h in
-        let f = least-second first place first′ n (omega (arith, q, k .0)) in
+        let f = lesser-second first place first′ n (omega (arith, q, k .0)) in
         let r = run-at false e in
         record { few = omega (arith, q, f); found = λ x. absurd (omega (arith, q, f, x)); none = λ x. (omega (arith, q, f), rw (add-one i) (omega (arith, k .1, r))) }
 
@@ -100,10 +100,6 @@ module _ (f g : ℕ → Bool) (so : (b : ℕ) → f b ≡ true → g b ≡ true)
   past-on : (s : List ℕ) (from to n : ℕ) → n ≡ run f (part s from to) → past g s from ≡ past g s (from + n)
   unfolding past
   past-on s from to n h = let e = run-on (to - from) (drop from s) in omega (arith, e, ap (λ (m : ℕ). run g (drop m (drop from s))) h, ap (run g) (drop-drop n from s))
-
-or-none : (t u : Bool) → (t || u) ≡ false → (t ≡ false) × (u ≡ false)
-or-none true u h = true-false h
-or-none false u h = (refl, h)
 
 high-plain : (q b : ℕ) → q ≤ 39 → isHigh b ≡ true → isPlain q b ≡ true
 unfolding isLow isPlain isBreak
