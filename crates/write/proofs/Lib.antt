@@ -1,4 +1,3 @@
 pub mod Ascii
-pub mod Texts
 pub mod Answers
 pub mod Outcomes

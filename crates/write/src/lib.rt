@@ -4,7 +4,6 @@
 use dtype::Order;
 use padding::Plan;
 use padding::Planned;
-use prefix::Version;
 use print::Printed;
 ghost use mathlib.Core.Path.{_≡_};
 ghost use mathlib.Core.List.{_∷_};
@@ -13,7 +12,6 @@ ghost use Rattle.counts.specs.Outcome.{gives};
 ghost use Rattle.emit.specs.Emits.{Emits, capped};
 ghost use Rattle.grammar.specs.Print.{spaces, print};
 ghost use Rattle.dtype.specs.Record.{Record};
-ghost use Rattle.record.specs.Prefix.{littleBytes};
 ghost use Rattle.record.specs.Layout.{headerLayout};
 ghost use Rattle.record.specs.Padding.{isAscii};
 ghost use Rattle.record.specs.File.{bareText, fileBy};
@@ -47,43 +45,6 @@ fn is_ascii(s: &[u8]) -> bool
     true
 }
 
-// So many bytes of a number, the lowest first.
-fn put_little(out: &mut [u8], at: usize, width: usize, n: usize) -> usize
-    ensures { λ r. ⌜ Emits (littleBytes width n) (now (out .entry)) at (now (out .exit)) r ⌝ }
-{
-    let mut p = at;
-    let mut left = width;
-    let mut rest = n;
-    while 0 < left {
-        p = emit::put(out, p, (rest % 256) as u8);
-        rest = rest / 256;
-        left -= 1;
-    }
-    p
-}
-
-fn put_spaces(out: &mut [u8], at: usize, n: usize) -> usize
-    ensures { λ r. ⌜ Emits (spaces n) (now (out .entry)) at (now (out .exit)) r ⌝ }
-{
-    let mut p = at;
-    let mut left = n;
-    while 0 < left {
-        p = emit::put(out, p, 32);
-        left -= 1;
-    }
-    p
-}
-
-// What stands before a text of n bytes.
-fn put_prefix(out: &mut [u8], at: usize, version: Version, n: usize) -> usize
-    ensures { λ r. ⌜ Emits (fileBy (versionIs version) n) (now (out .entry)) at (now (out .exit)) r ⌝ }
-{
-    let behind_magic = emit::put_bytes(out, at, b"\x93NUMPY");
-    let behind_major = emit::put(out, behind_magic, version.major());
-    let behind_minor = emit::put(out, behind_major, 0);
-    put_little(out, behind_minor, version.length_width(), n)
-}
-
 // The dict's text. The record's text was measured, so the answer is a place; where it is none, nothing was written.
 fn put_text(
     table: &[u64],
@@ -113,10 +74,9 @@ fn put_header(
     ensures { λ r. ⌜ ((x : Record) → printable (now (table .entry)) (now (names .entry)) (now (shape .entry)) order ≡ gives x → Emits (λ z. fileBy (versionIs (plan .version)) (plan .text) (print (headerLayout x) (spaces (plan .spaces) (10 ∷ z)))) (now (out .entry)) 0 (now (out .exit)) r) ⌝ }
 {
     let version = plan.version;
-    let behind_prefix = put_prefix(out, 0, version, plan.text);
+    let behind_prefix = margins::put_prefix(out, 0, version, plan.text);
     let behind_text = put_text(table, names, shape, order, out, behind_prefix);
-    let behind_spaces = put_spaces(out, behind_text, plan.spaces);
-    emit::put(out, behind_spaces, 10)
+    margins::put_padding(out, behind_text, plan.spaces)
 }
 
 // The header of a record whose text has `bare` bytes.

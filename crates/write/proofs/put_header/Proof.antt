@@ -1,4 +1,4 @@
--- `write::put_header` meets its contract: prefix, text, spaces, LF. Assumes nothing.
+-- `write::put_header` meets its contract: prefix, text, padding. Assumes nothing.
 use Rattle.emit.proofs.Pieces.{emits-then}
 use borrow.Author.Needs.{needs}
 use Rattle.write.proofs.put_header.Statement.{statement}
@@ -10,25 +10,16 @@ put-prefix-requires c κs = search needs
 put-text-requires : tie.Need-put-text-requires
 put-text-requires c κs = search needs
 
-put-spaces-requires : tie.Need-put-spaces-requires
-put-spaces-requires c κs = search needs
-
-put-requires : tie.Need-put-requires
-put-requires c κs = search needs
+put-padding-requires : tie.Need-put-padding-requires
+put-padding-requires c κs = search needs
 
 same-length : tie.Need-same-length
 same-length c = search needs
 
 returns : tie.Need-returns
-returns c = λ x e. emits-then _ _ _ _ _ _ _ _ (emits-then _ _ _ _ _ _ _ _ (emits-then _ _ _ _ _ _ _ _ (c .before .before .before .before .before .before .before .before .before .before .before .before .before .before .put-prefix .ensures) (c .before .before .before .before .before .before .before .before .before .before .put-text .ensures x e)) (c .before .before .before .before .before .before .put-spaces .ensures)) (c .before .before .put .ensures)
+returns c = λ x e. emits-then _ _ _ _ _ _ _ _ (emits-then _ _ _ _ _ _ _ _ (c .before .before .before .before .before .before .before .before .before .before .put-prefix .ensures) (c .before .before .before .before .before .before .put-text .ensures x e)) (c .before .before .put-padding .ensures)
 
 pub put-header-spec : {M : Type 1} → statement M
 put-header-spec =
     tie.close
-    (tie.spec
-    put-prefix-requires
-    put-text-requires
-    put-spaces-requires
-    put-requires
-    same-length
-    returns)
+    (tie.spec put-prefix-requires put-text-requires put-padding-requires same-length returns)

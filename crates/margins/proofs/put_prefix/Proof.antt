@@ -1,8 +1,8 @@
--- `write::put_prefix` meets its contract, piece by piece. Assumes nothing.
-use Rattle.write.proofs.Texts.{prefix-emits}
+-- `margins::put_prefix` meets its contract, piece by piece. Assumes nothing.
+use Rattle.margins.proofs.Texts.{prefix-emits}
 use borrow.Author.Needs.{needs}
-use Rattle.write.proofs.put_prefix.Statement.{statement}
-use Rattle.write.proofs.put_prefix.Tie as tie
+use Rattle.margins.proofs.put_prefix.Statement.{statement}
+use Rattle.margins.proofs.put_prefix.Tie as tie
 
 slice-aggregate-put-bytes : tie.Need-slice-aggregate-put-bytes
 slice-aggregate-put-bytes c = search needs

@@ -1,4 +1,4 @@
--- The pieces of a header: a length's bytes and the spaces, which two loops write; the prefix. Assumes nothing.
+-- What stands around a text: a length's bytes and the spaces, which two loops write; the prefix. Assumes nothing.
 use Prim.Native.Nat.{ℕ, zero, suc, _+_, _-_, _/_, _%_, _<_, _≤_}
 use native.Mathlib.Omega.{arith}
 use mathlib.Core.Path.{_≡_, refl, ap, _∙_}

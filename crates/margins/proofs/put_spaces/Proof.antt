@@ -1,11 +1,11 @@
--- `write::put_spaces` meets its contract: each turn writes one space. The measure is how many are left. Assumes nothing.
+-- `margins::put_spaces` meets its contract: each turn writes one space. The measure is how many are left. Assumes nothing.
 use Prim.Native.Nat.{_-_}
 use mathlib.Core.List.{_∷_}
 use borrow.Author.Needs.{needs}
 use Rattle.grammar.specs.Print.{spaces}
-use Rattle.write.proofs.Texts.{Still, still-start, still-more, still-end, spaces-next, spaces-none}
-use Rattle.write.proofs.put_spaces.Statement.{statement}
-use Rattle.write.proofs.put_spaces.Tie as tie
+use Rattle.margins.proofs.Texts.{Still, still-start, still-more, still-end, spaces-next, spaces-none}
+use Rattle.margins.proofs.put_spaces.Statement.{statement}
+use Rattle.margins.proofs.put_spaces.Tie as tie
 
 abbrev Inv-loop : tie.InvT-loop
 Inv-loop out₀ at n p₀ left₀ out p left = Still (spaces n) (spaces left) out₀ at out p

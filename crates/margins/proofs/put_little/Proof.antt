@@ -1,11 +1,11 @@
--- `write::put_little` meets its contract: each turn writes the lowest byte of what is left of the number. The measure is how many bytes are left. Assumes nothing.
+-- `margins::put_little` meets its contract: each turn writes the lowest byte of what is left of the number. The measure is how many bytes are left. Assumes nothing.
 use Prim.Native.Nat.{_-_, _/_, _%_}
 use mathlib.Core.List.{_∷_}
 use borrow.Author.Needs.{needs}
 use Rattle.record.specs.Prefix.{littleBytes}
-use Rattle.write.proofs.Texts.{Still, still-start, still-more, still-end, little-next, little-none}
-use Rattle.write.proofs.put_little.Statement.{statement}
-use Rattle.write.proofs.put_little.Tie as tie
+use Rattle.margins.proofs.Texts.{Still, still-start, still-more, still-end, little-next, little-none}
+use Rattle.margins.proofs.put_little.Statement.{statement}
+use Rattle.margins.proofs.put_little.Tie as tie
 
 abbrev Inv-loop : tie.InvT-loop
 Inv-loop out₀ at width n p₀ left₀ rest₀ out p left rest = Still (littleBytes width n) (littleBytes left rest) out₀ at out p
