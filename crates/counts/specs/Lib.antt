@@ -3,3 +3,4 @@ pub mod OneOutcome
 pub mod Number
 pub mod Counts
 pub mod Same
+pub mod AllBytes

@@ -13,7 +13,8 @@ use lib.Dec.{eqb}
 use borrow.Author.Tests.{eq-eqb}
 use Rattle.decimal.specs.Decimal.{isDigit}
 use Rattle.grammar.specs.Bytes.{isBlank}
-use Rattle.grammar.specs.Promise.{AllBytes, got, fault, deep}
+use Rattle.counts.specs.AllBytes.{AllBytes}
+use Rattle.grammar.specs.Promise.{got, fault, deep}
 use Rattle.grammar.proofs.Texts.{case-of, true-false, Blanks, headOf, tailOf, head-is, Alike, alike-head, alike-cons, alike-on, gap}
 use Rattle.grammar.proofs.Layers.{padded, Parted, empty, last, more, Upto, upto}
 use Rattle.grammar.proofs.Reading.{Read, with, parted, upTo, Other, kindOf}

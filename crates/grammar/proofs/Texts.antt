@@ -10,7 +10,6 @@ use lib.Dec.{eqb}
 use borrow.Author.Tests.{eqb-true}
 use Rattle.grammar.specs.Bytes.{isBlank, isQuote}
 use Rattle.grammar.specs.Grammar.{All}
-use Rattle.grammar.specs.Promise.{AllBytes}
 
 pub case-of : (b : Bool) → (b ≡ true) ⊎ (b ≡ false)
 case-of true = inl refl
@@ -66,10 +65,6 @@ Blanks u = All isBlank u
 pub all-append : (test : ℕ → Bool) (u w : List ℕ) → All test u → All test w → All test (u ++ w)
 all-append test [] w hu hw = hw
 all-append test (b ∷ u) w hu hw = (hu .0, all-append test u w (hu .1) hw)
-
-pub bytes-append : (u w : List ℕ) → AllBytes u → AllBytes w → AllBytes (u ++ w)
-bytes-append [] w hu hw = hw
-bytes-append (b ∷ u) w hu hw = (hu .0, bytes-append u w (hu .1) hw)
 
 pub blank-by : (P : ℕ → Type 0) → P 32 → P 9 → P 10 → P 13 → (b : ℕ) → isBlank b ≡ true → P b
 unfolding isBlank

@@ -11,7 +11,8 @@ use Rattle.decimal.specs.Decimal.{isDigit, digitsOf, decimal}
 use Rattle.grammar.specs.Bytes.{isBlank, isBreak, isEscape, unescape}
 use Rattle.grammar.specs.Value.{Value}
 use Rattle.grammar.specs.Grammar.{All, Natural, nought, nonzero, Quoted, closed, raw, escaped}
-use Rattle.grammar.specs.Promise.{AllBytes, Completable, got, fault, deep}
+use Rattle.counts.specs.AllBytes.{AllBytes}
+use Rattle.grammar.specs.Promise.{Completable, got, fault, deep}
 use Rattle.grammar.proofs.Texts.{case-of, true-false, Blanks, headOf, tailOf, head-is, Alike, alike-head, run}
 use Rattle.grammar.proofs.Reading.{Read, with, skip, afterDigits, natural, word, quoted}
 use Rattle.grammar.proofs.Told.{By, Told, moved, told-map}

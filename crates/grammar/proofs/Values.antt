@@ -13,7 +13,8 @@ use Rattle.decimal.specs.Decimal.{isDigit}
 use Rattle.grammar.specs.Bytes.{isBlank, isQuote, isOpen}
 use Rattle.grammar.specs.Value.{Value, string, integer, True, False, None}
 use Rattle.grammar.specs.Grammar.{Natural, nought, Plain, in-quotes, unsigned, minus-sign, word-true, word-false, word-none}
-use Rattle.grammar.specs.Promise.{AllBytes, Completable, fault, deep}
+use Rattle.counts.specs.AllBytes.{AllBytes}
+use Rattle.grammar.specs.Promise.{Completable, fault, deep}
 use Rattle.grammar.proofs.Texts.{headOf, tailOf, head-is, Alike, alike-head, alike-cons, quote-by}
 use Rattle.grammar.proofs.Layers.{empty, Pair, pair-sub, upto, Bracket, square, round, curly, list-of, tuple-of, dict-of, Layer, plain-in, deeper}
 use Rattle.grammar.proofs.Reading.{Read, with, natural, word, quoted, parted, upTo, paired, Shape, Square, Round, Curly, bracketed, Kind, Digit, Quote, Minus, Other, Word, Opens, kindOf, chosen, value}

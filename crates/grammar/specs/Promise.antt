@@ -7,6 +7,7 @@ use mathlib.Core.Path.{_≡_}
 use mathlib.Core.List.{List, [], _∷_, _++_}
 use mathlib.Core.Bool.{true}
 use lib.ListN.{length, take, drop}
+use Rattle.counts.specs.AllBytes.{AllBytes}
 use Rattle.grammar.specs.Bytes.{isOpen}
 use Rattle.grammar.specs.Value.{Value}
 use Rattle.grammar.specs.Grammar.{Gives}
@@ -15,10 +16,6 @@ use Rattle.grammar.specs.Nesting.{Within}
 -- the text gives the value, with at most k brackets open at once
 abbrev pub GivesIn : ℕ → List ℕ → Value → Type 0
 GivesIn k s v = Gives s v × Within v k
-
-abbrev pub AllBytes : List ℕ → Type 0
-AllBytes [] = Unit {0}
-AllBytes (b ∷ u) = (b < 256) × AllBytes u
 
 -- some bytes complete u to a text of the relation R
 abbrev pub Completable : {A : Type 0} → (List ℕ → A → Type 0) → List ℕ → Type 0

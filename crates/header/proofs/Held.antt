@@ -12,7 +12,7 @@ use Rattle.counts.specs.Outcome.{Outcome, gives, refused, then, unless}
 use Rattle.counts.specs.Same.{same}
 use Rattle.dtype.specs.Record.{Record}
 use Rattle.record.specs.Version.{Version, versionOf, lengthWidth, textStart, one-zero, two-zero, three-zero}
-use Rattle.record.specs.Prefix.{Prefix, magic, little, most-text, dataStart, lengthRead, prefix}
+use Rattle.record.specs.Prefix.{Prefix, magic, most-text, dataStart, lengthRead, prefix}
 use Rattle.record.specs.Rooms.{Lent, roomsOf}
 use Rattle.record.specs.Header as header
 use Rattle.judge.specs.Judged.{reading}

@@ -1,5 +1,5 @@
--- What stands around a text: a length's bytes and the spaces, which two loops write; the prefix. Assumes nothing.
-use Prim.Native.Nat.{ℕ, zero, suc, _+_, _-_, _/_, _%_, _<_, _≤_}
+-- What stands around a text: the spaces, which a loop writes, and the prefix. Assumes nothing.
+use Prim.Native.Nat.{ℕ, zero, suc, _+_, _-_, _<_, _≤_}
 use native.Mathlib.Omega.{arith}
 use mathlib.Core.Path.{_≡_, refl, ap, _∙_}
 use mathlib.Core.List.{List, _∷_, _++_}
@@ -8,8 +8,10 @@ use lib.Seq.{sets}
 use Rattle.emit.specs.Emits.{Emits, capped}
 use Rattle.emit.proofs.Pieces.{emits-then, emits-same, emits-length}
 use Rattle.grammar.specs.Print.{spaces}
-use Rattle.record.specs.Version.{major, lengthWidth}
-use Rattle.record.specs.Prefix.{magic, littleBytes}
+use Rattle.spelling.specs.declared.Endianness.the-variants.{Little}
+use Rattle.numbers.specs.Numbers.{bytesOf, outOrder}
+use Rattle.record.specs.Version.{Version, one-zero, two-zero, three-zero, major, lengthWidth}
+use Rattle.record.specs.Prefix.{magic}
 use Rattle.record.specs.File.{fileBy}
 use Rattle.prefix.specs.declared.Version.{Version as Chosen}
 use Rattle.prefix.specs.Answer.{versionIs}
@@ -39,14 +41,6 @@ still-end f g old at out p e s =
       behind = λ x. ap (λ (y : List ℕ). capped (p + length y)) (e x) ∙ s .behind x;
     }
 
-pub little-next : (left n : ℕ) (x : List ℕ) → 0 < left → n % 256 ∷ littleBytes (left - 1) (n / 256) x ≡ littleBytes left n x
-little-next zero n x h = absurd (omega arith)
-little-next (suc k) n x h = let z : suc k - 1 ≡ k = omega arith in rw z
-
-pub little-none : (left n : ℕ) (x : List ℕ) → left ≤ 0 → x ≡ littleBytes left n x
-little-none zero n x h = refl
-little-none (suc k) n x h = absurd (omega arith)
-
 pub spaces-next : (left : ℕ) (x : List ℕ) → 0 < left → 32 ∷ spaces (left - 1) x ≡ spaces left x
 spaces-next zero x h = absurd (omega arith)
 spaces-next (suc k) x h = let z : suc k - 1 ≡ k = omega arith in rw z
@@ -56,10 +50,19 @@ spaces-none zero x h = refl
 spaces-none (suc k) x h = absurd (omega arith)
 
 -- ---- the prefix
+width-fits : (v : Version) → lengthWidth v < 256
+width-fits one-zero = omega arith
+width-fits two-zero = omega arith
+width-fits three-zero = omega arith
+
+pub byte-width : (v : Chosen) (w : ℕ) → w ≡ lengthWidth (versionIs v) → w < 256
+byte-width v w e = omega (arith, width-fits (versionIs v), e)
+
 pub prefix-emits : (v : Chosen) (n : ℕ) (old : List ℕ) (at : ℕ) (m₁ : List ℕ) (p₁ : ℕ) (m₂ : List ℕ) (p₂ : ℕ) (m₃ : List ℕ) (p₃ : ℕ) (out : List ℕ) (p a w : ℕ)
     → a ≡ major (versionIs v) → w ≡ lengthWidth (versionIs v) → Emits (λ x. magic ++ x) old at m₁ p₁ → Emits (λ x. a ∷ x) m₁ p₁ m₂ p₂ → Emits (λ x. 0 ∷ x) m₂ p₂ m₃ p₃
-    → Emits (littleBytes w n) m₃ p₃ out p → Emits (fileBy (versionIs v) n) old at out p
+    → Emits (λ x. outOrder Little w n ++ x) m₃ p₃ out p → Emits (fileBy (versionIs v) n) old at out p
+unfolding outOrder
 prefix-emits v n old at m₁ p₁ m₂ p₂ m₃ p₃ out p a w y z b c e f =
-    emits-same (λ x. magic ++ a ∷ 0 ∷ littleBytes w n x) (fileBy (versionIs v) n) old at out p (λ x. rw (y, z))
-    (emits-then (λ x. magic ++ a ∷ 0 ∷ x) (littleBytes w n) old at m₃ p₃ out p
+    emits-same (λ x. magic ++ a ∷ 0 ∷ bytesOf w n ++ x) (fileBy (versionIs v) n) old at out p (λ x. rw (y, z))
+    (emits-then (λ x. magic ++ a ∷ 0 ∷ x) (λ x. bytesOf w n ++ x) old at m₃ p₃ out p
     (emits-then (λ x. magic ++ a ∷ x) (λ x. 0 ∷ x) old at m₂ p₂ m₃ p₃ (emits-then (λ x. magic ++ x) (λ x. a ∷ x) old at m₁ p₁ m₂ p₂ b c) e) f)

@@ -1,27 +1,12 @@
 // What stands around the text of a header (document 01, "Header bytes out"): the prefix before it, and behind it its padding, spaces and one LF. Each is written to
 // lent room behind what was written so far, as crate emit writes. No function here has a `requires`.
 use prefix::Version;
+use spelling::Endianness;
 ghost use mathlib.Core.List.{_∷_};
 ghost use Rattle.emit.specs.Emits.{Emits};
 ghost use Rattle.grammar.specs.Print.{spaces};
-ghost use Rattle.record.specs.Prefix.{littleBytes};
 ghost use Rattle.record.specs.File.{fileBy};
 ghost use Rattle.prefix.specs.Answer.{versionIs};
-
-// So many bytes of a number, the lowest first.
-fn put_little(out: &mut [u8], at: usize, width: usize, n: usize) -> usize
-    ensures { λ r. ⌜ Emits (littleBytes width n) (now (out .entry)) at (now (out .exit)) r ⌝ }
-{
-    let mut p = at;
-    let mut left = width;
-    let mut rest = n;
-    while 0 < left {
-        p = emit::put(out, p, (rest % 256) as u8);
-        rest = rest / 256;
-        left -= 1;
-    }
-    p
-}
 
 // What stands before a text of n bytes.
 pub fn put_prefix(out: &mut [u8], at: usize, version: Version, n: usize) -> usize
@@ -30,7 +15,13 @@ pub fn put_prefix(out: &mut [u8], at: usize, version: Version, n: usize) -> usiz
     let behind_magic = emit::put_bytes(out, at, b"\x93NUMPY");
     let behind_major = emit::put(out, behind_magic, version.major());
     let behind_minor = emit::put(out, behind_major, 0);
-    put_little(out, behind_minor, version.length_width(), n)
+    numbers::put(
+        out,
+        behind_minor,
+        Endianness::Little,
+        version.length_width() as u8,
+        n as u64,
+    )
 }
 
 fn put_spaces(out: &mut [u8], at: usize, n: usize) -> usize

@@ -6,7 +6,9 @@ use native.Mathlib.Nat.{pow-suc, div-lt-iff-lt-mul, mod-add-div, mod-lt}
 use mathlib.Core.Path.{_≡_, refl, sym, ap, _∙_}
 use mathlib.Core.List.{List, [], _∷_, _++_, reverse, reverse-cons}
 use lib.ListN.{length}
-use Rattle.numbers.specs.Numbers.{little, bytesOf, leastFirst, inOrder, outOrder, AllBytes}
+use Rattle.counts.specs.AllBytes.{AllBytes}
+use Rattle.counts.proofs.AllBytes.{bytes-append}
+use Rattle.numbers.specs.Numbers.{little, bytesOf, leastFirst, inOrder, outOrder}
 use Rattle.numbers.proofs.Runs.{length-least, least-least}
 use Rattle.spelling.specs.declared.Endianness.{Endianness}
 use Rattle.spelling.specs.declared.Endianness.the-variants.{Little, Big, Irrelevant}
@@ -29,13 +31,9 @@ bytes-little (b ∷ bs) a =
     let d : (b + 256 * l) / 256 ≡ l = omega (arith, a .0) in
     rw (m, d) (ap (λ (t : List ℕ). b ∷ t) (bytes-little bs (a .1)))
 
-all-append : (a b : List ℕ) → AllBytes a → AllBytes b → AllBytes (a ++ b)
-all-append [] b p q = q
-all-append (x ∷ a) b p q = (p .0, all-append a b (p .1) q)
-
 all-reverse : (bs : List ℕ) → AllBytes bs → AllBytes (reverse bs)
 all-reverse [] a = tt
-all-reverse (b ∷ bs) a = rw reverse-cons (all-append (reverse bs) (b ∷ []) (all-reverse bs (a .1)) (a .0, tt))
+all-reverse (b ∷ bs) a = rw reverse-cons (bytes-append (reverse bs) (b ∷ []) (all-reverse bs (a .1)) (a .0, tt))
 
 all-least : (o : Endianness) (bs : List ℕ) → AllBytes bs → AllBytes (leastFirst o bs)
 all-least Little bs a = a

@@ -1,7 +1,7 @@
 -- Document 01, "From first byte to text": "little-endian"; "String elements": "in the type's byte order"; "What counts as an answer": "Integer widths and
 -- both byte orders share one fact, proved over the width." A number's bytes are a list of any length, and the byte order says from which end it is
 -- read. Definitions only. Assumes nothing.
-use Prim.Native.Nat.{ℕ, zero, suc, _+_, _*_, _/_, _%_, _<_}
+use Prim.Native.Nat.{ℕ, zero, suc, _+_, _*_, _/_, _%_}
 use mathlib.Core.List.{List, [], _∷_, reverse}
 use Rattle.spelling.specs.declared.Endianness.{Endianness}
 use Rattle.spelling.specs.declared.Endianness.the-variants.{Little, Big, Irrelevant}
@@ -34,8 +34,3 @@ inOrder order run = little (leastFirst order run)
 -- a number as a run of so many bytes
 unfoldable pub outOrder : Endianness → (width n : ℕ) → List ℕ
 outOrder order width n = leastFirst order (bytesOf width n)
-
--- each number of a list is a byte
-abbrev pub AllBytes : List ℕ → Type 0
-AllBytes [] = Unit
-AllBytes (b ∷ bs) = (b < 256) × AllBytes bs

@@ -14,9 +14,9 @@ use Rattle.counts.specs.declared.Number.{Number}
 use Rattle.counts.specs.declared.Number.the-variants.{Is, Over}
 use Rattle.counts.proofs.Fits.{number-is-back, number-over-back}
 use Rattle.spelling.specs.declared.Endianness.the-variants.{Little}
-use Rattle.numbers.specs.Numbers as numbers
+use Rattle.numbers.specs.Numbers.{little, inOrder}
 use Rattle.record.specs.Version.{Version, versionOf, lengthWidth, textStart, one-zero, two-zero, three-zero}
-use Rattle.record.specs.Prefix.{Prefix, magic, little, most-text, lengthRead, prefix}
+use Rattle.record.specs.Prefix.{magic, most-text, lengthRead, prefix}
 
 -- ---- 1
 pub magic-by :
@@ -80,15 +80,6 @@ pub version-major : (a b : ℕ) → (a ≡ 1 → ⊥) → (a ≡ 2 → ⊥) → 
 version-major a b h1 h2 h3 = rw (ne-eqb a 1 h1, ne-eqb a 2 h2, ne-eqb a 3 h3) refl
 
 -- ---- the length field
--- the number in a run of bytes is said twice
-little-same : (bs : List ℕ) → numbers.little bs ≡ little bs
-little-same [] = refl
-little-same (b ∷ bs) = ap (λ n. b + 256 * n) (little-same bs)
-
-little-order : (bs : List ℕ) → numbers.inOrder Little bs ≡ little bs
-unfolding numbers.inOrder
-little-order bs = little-same bs
-
 pub width-few : (v : Version) → lengthWidth v ≤ 4
 width-few one-zero = omega arith
 width-few two-zero = omega arith
@@ -99,9 +90,9 @@ width-of one-zero = refl
 width-of two-zero = refl
 width-of three-zero = refl
 
-pub field-number : (v : Version) (f : List ℕ) (start : ℕ) (r : Number) → start ≡ textStart v → r ≡ number (numbers.inOrder Little (take (start - 8) (drop 8 f))) → r ≡ number (said v f)
-field-number v f start r hs h =
-    h ∙ ap number (little-order (take (start - 8) (drop 8 f)) ∙ ap (λ w. little (take w (drop 8 f))) (ap (λ x. x - 8) hs ∙ width-of v))
+pub field-number : (v : Version) (f : List ℕ) (start : ℕ) (r : Number) → start ≡ textStart v → r ≡ number (inOrder Little (take (start - 8) (drop 8 f))) → r ≡ number (said v f)
+unfolding inOrder
+field-number v f start r hs h = h ∙ ap (λ w. number (little (take w (drop 8 f)))) (ap (λ x. x - 8) hs ∙ width-of v)
 
 pub over-is-4 : (v : Version) (f : List ℕ) → textStart v ≤ length f → number (said v f) ≡ Over → lengthRead v f ≡ refused 4
 over-is-4 v f le h = let o = number-over-back (said v f) h in long-is-4 v f le (omega (arith, o))

@@ -13,6 +13,7 @@ use Rattle.counts.proofs.OneOutcome.{by-equation, by-inverse}
 use Rattle.counts.proofs.Holds.{Holds, then-holds, unless-holds, holds-of}
 use Rattle.refusal.proofs.Names.{refusalOf, refusal-back}
 use Rattle.record.specs.Version as version
+use Rattle.numbers.specs.Numbers.{little}
 use Rattle.record.specs.Prefix as before
 use Rattle.prefix.specs.declared.Version.{Version}
 use Rattle.prefix.specs.declared.Prefix.{Prefix}
@@ -61,7 +62,7 @@ Short p = p .text-length ≤ before.most-text
 
 length-holds : (v : version.Version) (file : List ℕ) → Holds Short (before.lengthRead v file)
 length-holds v file =
-    let n = before.little (take (version.lengthWidth v) (drop 8 file)) in
+    let n = little (take (version.lengthWidth v) (drop 8 file)) in
     unless-holds Short (ltb (length file) (version.textStart v)) 3 _
     (λ h. unless-holds Short (ltb before.most-text n) 4 _ (λ k. ltb-false before.most-text n k))
 

@@ -1,13 +1,12 @@
 -- What stands before a text is read back: the version, and the length by as many bytes as the version has for it (one law over the width). With
 -- `header-by` a file is read by what its prefix, its text and its value give. Assumes nothing.
-use Prim.Native.Nat.{ℕ, zero, suc, _+_, _/_, _%_, _^_, _<_, _≤_}
+use Prim.Native.Nat.{ℕ, _+_, _^_, _<_, _≤_}
 use native.Mathlib.Omega.{arith}
-use native.Mathlib.Nat.{pow-zero, pow-suc}
 use mathlib.Core.Path.{_≡_, refl, sym, ap, _∙_}
-use mathlib.Core.List.{List, _∷_, _++_}
+use mathlib.Core.List.{List, _∷_, _++_, append-assoc}
 use mathlib.Core.Bool.{true}
 use lib.ListN.{length, getD, take, drop, length-append}
-use lib.Seq.{drop-drop, take-append-seam}
+use lib.Seq.{drop-drop, take-append-seam, drop-append-seam}
 use borrow.Author.Tests.{le-ltb}
 use Rattle.counts.specs.Outcome.{gives}
 use Rattle.counts.specs.Same.{same}
@@ -15,41 +14,35 @@ use Rattle.grammar.specs.Value.{Value}
 use Rattle.grammar.specs.Promise.{got}
 use Rattle.utf8.specs.Decode.{utf8}
 use Rattle.dtype.specs.Record.{Record}
+use Rattle.numbers.specs.Numbers.{little, bytesOf}
+use Rattle.numbers.proofs.Runs.{length-bytes}
+use Rattle.numbers.proofs.Widths.{little-bytes}
 use Rattle.record.specs.Version.{Version, one-zero, two-zero, three-zero, major, versionOf, lengthWidth, textStart}
-use Rattle.record.specs.Prefix.{magic, little, littleBytes, most-text, Prefix, dataStart, prefix, textOf}
+use Rattle.record.specs.Prefix.{magic, most-text, Prefix, dataStart, prefix, textOf}
 use Rattle.record.specs.FromValue.{recordOf}
 use Rattle.record.specs.Rooms.{Rooms}
 use Rattle.record.specs.Header.{Reading, recordIn, housed, headerBy}
 use Rattle.record.specs.File.{fileBy}
 
 -- ---- the length field
-little-back : (k n : ℕ) (r : List ℕ) → n < 256 ^ k → little (take k (littleBytes k n r)) ≡ n
-little-back zero n r h = omega (arith, pow-zero 256)
-little-back (suc k) n r h =
-    let small : n / 256 < 256 ^ k = omega (arith, pow-suc 256 k) in
-    rw (little-back k (n / 256) r small) (omega arith)
+field-back : (k n : ℕ) (r : List ℕ) → take k (bytesOf k n ++ r) ≡ bytesOf k n
+field-back k n r = ap (λ w. take w (bytesOf k n ++ r)) (sym (length-bytes k n)) ∙ take-append-seam (bytesOf k n) r
 
-bytes-length : (k n : ℕ) (r : List ℕ) → length (littleBytes k n r) ≡ k + length r
-bytes-length zero n r = omega arith
-bytes-length (suc k) n r = omega (arith, bytes-length k (n / 256) r)
+field-behind : (k n : ℕ) (r : List ℕ) → drop k (bytesOf k n ++ r) ≡ r
+field-behind k n r = ap (λ w. drop w (bytesOf k n ++ r)) (sym (length-bytes k n)) ∙ drop-append-seam (bytesOf k n) r
 
-bytes-drop : (k n : ℕ) (r : List ℕ) → drop k (littleBytes k n r) ≡ r
-bytes-drop zero n r = refl
-bytes-drop (suc k) n r = bytes-drop k (n / 256) r
-
-bytes-append : (k n : ℕ) (s r : List ℕ) → littleBytes k n s ++ r ≡ littleBytes k n (s ++ r)
-bytes-append zero n s r = refl
-bytes-append (suc k) n s r = ap (λ x. n % 256 ∷ x) (bytes-append k (n / 256) s r)
+little-back : (k n : ℕ) (r : List ℕ) → n < 256 ^ k → little (take k (bytesOf k n ++ r)) ≡ n
+little-back k n r h = ap little (field-back k n r) ∙ little-bytes k n h
 
 -- ---- a file of a version, a length and what follows
 pub file-length : (v : Version) (n : ℕ) (s : List ℕ) → length (fileBy v n s) ≡ textStart v + length s
-file-length v n s = omega (arith, bytes-length (lengthWidth v) n s)
+file-length v n s = let b = bytesOf (lengthWidth v) n in omega (arith, length-append b s, length-bytes (lengthWidth v) n)
 
 pub file-append : (v : Version) (n : ℕ) (s r : List ℕ) → fileBy v n s ++ r ≡ fileBy v n (s ++ r)
-file-append v n s r = rw (bytes-append (lengthWidth v) n s r)
+file-append v n s r = rw (append-assoc (bytesOf (lengthWidth v) n) s r)
 
 file-drop : (v : Version) (n : ℕ) (s : List ℕ) → drop (textStart v) (fileBy v n s) ≡ s
-file-drop v n s = sym (drop-drop (lengthWidth v) 8 (fileBy v n s)) ∙ bytes-drop (lengthWidth v) n s
+file-drop v n s = sym (drop-drop (lengthWidth v) 8 (fileBy v n s)) ∙ field-behind (lengthWidth v) n s
 
 version-back : (v : Version) → versionOf (major v) 0 ≡ gives v
 version-back one-zero = refl

@@ -1,5 +1,6 @@
 -- `margins::put_prefix` meets its contract, piece by piece. Assumes nothing.
-use Rattle.margins.proofs.Texts.{prefix-emits}
+use Rattle.margins.proofs.Texts.{prefix-emits, byte-width}
+use native.Mathlib.Omega.{arith}
 use borrow.Author.Needs.{needs}
 use Rattle.margins.proofs.put_prefix.Statement.{statement}
 use Rattle.margins.proofs.put_prefix.Tie as tie
@@ -22,14 +23,17 @@ put-requires-2 c κs = search needs
 length-width-requires : tie.Need-length-width-requires
 length-width-requires c κs = search needs
 
-put-little-requires : tie.Need-put-little-requires
-put-little-requires c κs = search needs
+cast-put : tie.Need-cast-put
+cast-put c = omega (arith, byte-width (c .before .before .before .before .before .before .before .before .before .before .before .before .before .before .before .before .before .args .version) _ (c .length-width .ensures))
+
+put-requires-3 : tie.Need-put-requires-3
+put-requires-3 c κs = search needs
 
 same-length : tie.Need-same-length
 same-length c = search needs
 
 returns : tie.Need-returns
-returns c = prefix-emits (c .before .before .before .before .before .before .before .before .before .before .before .before .before .before .before .before .before .before .before .before .args .version) (c .before .before .before .before .before .before .before .before .before .before .before .before .before .before .before .before .before .before .before .before .args .n) _ _ _ _ _ _ _ _ _ _ _ _ (c .before .before .before .before .before .before .before .before .before .before .before .before .major .ensures) (c .before .before .before .length-width .ensures) (c .before .before .before .before .before .before .before .before .before .before .before .before .before .before .before .before .put-bytes .ensures) (c .before .before .before .before .before .before .before .before .before .before .before .put .ensures) (c .before .before .before .before .before .before .before .put2 .ensures) (c .before .before .put-little .ensures)
+returns c = prefix-emits (c .before .before .before .before .before .before .before .before .before .before .before .before .before .before .before .before .before .before .before .before .args .version) (c .before .before .before .before .before .before .before .before .before .before .before .before .before .before .before .before .before .before .before .before .args .n) _ _ _ _ _ _ _ _ _ _ _ _ (c .before .before .before .before .before .before .before .before .before .before .before .before .major .ensures) (c .before .before .before .length-width .ensures) (c .before .before .before .before .before .before .before .before .before .before .before .before .before .before .before .before .put-bytes .ensures) (c .before .before .before .before .before .before .before .before .before .before .before .put .ensures) (c .before .before .before .before .before .before .before .put2 .ensures) (c .before .before .put3 .ensures)
 
 pub put-prefix-spec : {M : Type 1} → statement M
 put-prefix-spec =
@@ -41,6 +45,7 @@ put-prefix-spec =
     put-requires
     put-requires-2
     length-width-requires
-    put-little-requires
+    cast-put
+    put-requires-3
     same-length
     returns)
