@@ -64,7 +64,7 @@ uint8_t npy_write_header(const uint64_t *table, size_t table_len, const uint8_t 
 uint8_t npy_list(uint64_t version, uint64_t start, const uint64_t *table, size_t table_len, const uint8_t *names, size_t names_len,
                  const uint64_t *shape, size_t shape_len, uint64_t order, uint8_t *out, size_t out_len, uint64_t count[1]);
 
-/* ---- shapes: 22 where the count or a stride of the order is over 2^64-1. */
+/* ---- shapes: 22 where the count or a stride of the order is over 2^64-1. 13 is asked of records, and here by npy_item_number alone. */
 
 uint8_t npy_count(const uint64_t *shape, size_t shape_len, uint64_t order, uint64_t count[1]);
 

@@ -35,6 +35,7 @@ use Rattle.header.specs.Answer.{saidOf, Told, told, headerIs, filled, textInto,
 use Rattle.write.specs.Writes.{headerWritten, headerPlaced, roomOf}
 use Rattle.lines.specs.Listing.{listing}
 use Rattle.listing.specs.Answer as lists
+use Rattle.report.specs.Report.{reportOf}
 use Rattle.strings.specs.Rooms.{after, Owes}
 use Rattle.claims.specs.Beyond.{Same-rest, Rest-unchanged}
 use Rattle.rooms.proofs.Rooms.{table-whole, names-whole}
@@ -132,6 +133,7 @@ rest-unchanged =
       read-text = λ text l l′ said x. text-rest said l l′ (textInto text l) (x .answered) (x .after);
       write-header = λ t ns s o room w room′ n h e. ap (drop n) (h .room-after) ∙ header-placed-rest t ns s o room n (sym (h .answered) ∙ e);
       list = λ v start t ns s o room x room′ n h e. ap (drop n) (h .after) ∙ listed-rest v start room n (checkedRecord t ns s o) (sym (h .answered) ∙ e);
+      report = λ file room x room′ n h e. ap (drop n) (h .after) ∙ printed-rest (reportOf file) room n (sym (h .answered) ∙ e);
       read-bytes = λ t run room x room′ n h e. owed _ room _ room′ n h e;
       read-points = λ t run room x room′ n h e. owed _ room _ room′ n h e;
       write-bytes = λ t value room x room′ n h e. owed _ room _ room′ n h e;

@@ -68,8 +68,8 @@ pub tells-alone : {A : Type 0} (values : A → List ℕ) (o : Outcome A) (said :
 tells-alone values o said r said′ n t e = (t .answered ∙ ap code e, t .after ∙ ap (λ x. left values x said) e)
 
 module _ {A M : Type 0} (values : A → List ℕ) {before after : M} {said said′ : List ℕ} {r : ℕ} where
-  pub coded : (o : Outcome A) → Numbered o → Tells values o said r said′ → ((n : ℕ) → o ≡ refused n → said′ ≡ said → after ≡ before) → Coded o before r after
-  coded (gives a) h t k = record { zero = λ z. (a, refl); other = λ z. absurd (z (t .answered)) }
+  pub coded : (o : Outcome A) → Numbered o → Tells values o said r said′ → ((n : ℕ) → o ≡ refused n → said′ ≡ said → after ≡ before) → Coded values o before r after said′
+  coded (gives a) h t k = record { zero = λ z. (a, refl, t .after); other = λ z. absurd (z (t .answered)) }
   coded (refused n) h t k =
       record {
         zero = λ z. absurd (let one = leb-true 1 n (h .so .0) in let is = t .answered in omega arith);
@@ -85,12 +85,13 @@ module _ {A M : Type 0} (values : A → List ℕ) {before after : M} {said said�
 pair-eq : {M : Type 0} {l k : M} {x y : List ℕ} → l ≡ k → x ≡ y → _≡_ {A = M × List ℕ} (l, x) (k, y)
 pair-eq hl hx = cc
 
-told-coded : {A : Type 0} (values : A → List ℕ) (o : Outcome A) (said : List ℕ) (r : ℕ) (said′ : List ℕ) → Numbered o → Tells values o said r said′ → Coded o said r said′
+told-coded : {A : Type 0} (values : A → List ℕ) (o : Outcome A) (said : List ℕ) (r : ℕ) (said′ : List ℕ) → Numbered o → Tells values o said r said′
+    → Coded values o said r said′ said′
 told-coded values o said r said′ h t = coded values o h t (λ n e s. s)
 
 -- a room and what is said beside it
 beside : {A M : Type 0} (values : A → List ℕ) (o : Outcome A) (l l′ : M) (said said′ : List ℕ) (r : ℕ) → Numbered o → Tells values o said r said′
-    → ((n : ℕ) → o ≡ refused n → l′ ≡ l) → Coded {M = M × List ℕ} o (l, said) r (l′, said′)
+    → ((n : ℕ) → o ≡ refused n → l′ ≡ l) → Coded {M = M × List ℕ} values o (l, said) r (l′, said′) said′
 beside values o l l′ said said′ r h t k = coded values o h t (λ n e s. pair-eq (k n e) s)
 
 -- what is given comes first
@@ -100,7 +101,7 @@ module _ {A B : Type 0} (next : A → Outcome B) (put : A → List ℕ) (room : 
   given-left (refused k) h n e = refl
 
 puts-coded : (put : Outcome (List ℕ)) (room count : List ℕ) (r : ℕ) (room′ count′ : List ℕ) → Numbered put → Puts put room count r room′ count′
-    → Coded {M = List ℕ × List ℕ} (each length put) (room, count) r (room′, count′)
+    → Coded {M = List ℕ × List ℕ} alone (each length put) (room, count) r (room′, count′) count′
 puts-coded put room count r room′ count′ h c =
     beside alone (each length put) room room′ count count′ r (each-numbered length put h) (c .told)
     (λ n e. c .room-after ∙ by-outcome length (after room) room (λ k. refl) put n e)
@@ -108,24 +109,24 @@ puts-coded put room count r room′ count′ h c =
 pub zero-answers : Zero-answers
 zero-answers =
     record {
-      npy-read = λ file l said r x c.
-          beside headerValues _ l (x .0) said (x .1) r (each-numbered header.told _ (header-numbered file l)) (c .told)
+      npy-read = λ file l said r new told c.
+          beside headerValues _ l new said told r (each-numbered header.told _ (header-numbered file l)) (c .told)
           (λ n e. c .rooms ∙ by-outcome header.told (λ o. record-of-file.filled o l) l (λ k. refl) (record-of-file.headerInto reading file l) n e);
-      npy-read-held = λ longer file l said r x c.
-          beside headerValues _ l (x .0) said (x .1) r (each-numbered header.told _ (held-header-numbered longer file l)) (c .told)
+      npy-read-held = λ longer file l said r new told c.
+          beside headerValues _ l new said told r (each-numbered header.told _ (held-header-numbered longer file l)) (c .told)
           (λ n e. c .rooms ∙ by-outcome header.told (λ o. record-of-file.filled o l) l (λ k. refl) (header.heldInto longer file l) n e);
-      npy-read-text = λ text l said r x c.
-          beside textValues _ l (x .0) said (x .1) r (each-numbered header.saidOf _ (text-numbered text l)) (c .told)
+      npy-read-text = λ text l said r new told c.
+          beside textValues _ l new said told r (each-numbered header.saidOf _ (text-numbered text l)) (c .told)
           (λ n e. c .rooms ∙ by-outcome header.saidOf (λ o. header.filled o l) l (λ k. refl) (header.textInto text l) n e);
       npy-check = λ t ns s order said r x c.
           told-coded summaryValues _ said r x
           (then-numbered (orderFor order) (λ o. each summary (checkedRecord t ns s o)) (for-numbered order) (λ o. each-numbered summary _ (record-checked-numbered t ns s o))) c;
-      npy-write-header = λ t ns s order room count r x c.
-          beside alone _ room (x .0) count (x .1) r
+      npy-write-header = λ t ns s order room count r new told c.
+          beside alone _ room new count told r
           (then-numbered (orderFor order) (λ o. headerWritten t ns s o room) (for-numbered order) (λ o. header-written-numbered t ns s o room)) (c .told)
           (λ n e. c .room-after ∙ given-left _ (λ o. headerPlaced t ns s o room) room (orderFor order) (λ o k f. header-left t ns s o room k f) n e);
-      npy-list = λ version start t ns s order room count r x c.
-          beside alone _ room (x .0) count (x .1) r
+      npy-list = λ version start t ns s order room count r new told c.
+          beside alone _ room new count told r
           (then-numbered (versionOf version 0) (λ v. then (orderFor order) (λ o. listed v start t ns s o room)) (version-for-numbered version)
           (λ v. then-numbered (orderFor order) (λ o. listed v start t ns s o room) (for-numbered order) (λ o. listed-numbered v start t ns s o room))) (c .told)
           (λ n e. c .room-after
@@ -133,8 +134,8 @@ zero-answers =
           (λ v k f. given-left _ (λ o. roomBy (checkedRecord t ns s o) v start room) room (orderFor order) (λ o j g. listed-left v start room j (checkedRecord t ns s o) g) k f) n e);
       npy-count = λ s order count r x c.
           told-coded alone _ count r x (then-numbered (orderFor order) (λ o. shape.itemCount o s) (for-numbered order) (λ o. count-numbered o s)) c;
-      npy-strides = λ s order room count r x c.
-          beside alone _ room (x .0) count (x .1) r
+      npy-strides = λ s order room count r new told c.
+          beside alone _ room new count told r
           (then-numbered (orderFor order) (λ o. shape.stridesCount o s (length room)) (for-numbered order) (λ o. strides-numbered o s (length room))) (c .told)
           (λ n e. c .room-after
           ∙ given-left _ (λ o. shape.left (shape.stridesCount o s (length room)) (strides o s) room) room (orderFor order)
@@ -144,25 +145,25 @@ zero-answers =
       npy-place = λ file start t ns s order i p run r x c.
           told-coded runValues _ run r x
           (then-numbered (orderFor order) (λ o. placeOf file start t ns s o i p) (for-numbered order) (λ o. place-numbered file start t ns s o i p)) c;
-      npy-element-bytes = λ file start t ns s order i p room count r x c.
-          puts-coded _ room count r (x .0) (x .1) (then-numbered (orderFor order) _ (for-numbered order) (λ o. element-bytes-numbered file start t ns s o i p room)) c;
-      npy-element-points = λ file start t ns s order i p room count r x c.
-          puts-coded _ room count r (x .0) (x .1) (then-numbered (orderFor order) _ (for-numbered order) (λ o. element-points-numbered file start t ns s o i p room)) c;
-      npy-read-bytes = λ order letter size units run room count r x c.
-          puts-coded _ room count r (x .0) (x .1)
+      npy-element-bytes = λ file start t ns s order i p room count r new told c.
+          puts-coded _ room count r new told (then-numbered (orderFor order) _ (for-numbered order) (λ o. element-bytes-numbered file start t ns s o i p room)) c;
+      npy-element-points = λ file start t ns s order i p room count r new told c.
+          puts-coded _ room count r new told (then-numbered (orderFor order) _ (for-numbered order) (λ o. element-points-numbered file start t ns s o i p room)) c;
+      npy-read-bytes = λ order letter size units run room count r new told c.
+          puts-coded _ room count r new told
           (then-numbered (typeFor order letter size units) _ (type-for-numbered order letter size units) (λ t. read-bytes-numbered t run room)) c;
-      npy-read-points = λ order letter size units run room count r x c.
-          puts-coded _ room count r (x .0) (x .1)
+      npy-read-points = λ order letter size units run room count r new told c.
+          puts-coded _ room count r new told
           (then-numbered (typeFor order letter size units) _ (type-for-numbered order letter size units) (λ t. read-points-numbered t run room)) c;
-      npy-write-bytes = λ order letter size units value room count r x c.
-          puts-coded _ room count r (x .0) (x .1)
+      npy-write-bytes = λ order letter size units value room count r new told c.
+          puts-coded _ room count r new told
           (then-numbered (typeFor order letter size units) _ (type-for-numbered order letter size units) (λ t. write-bytes-numbered t value room)) c;
-      npy-write-points = λ order letter size units value room count r x c.
-          puts-coded _ room count r (x .0) (x .1)
+      npy-write-points = λ order letter size units value room count r new told c.
+          puts-coded _ room count r new told
           (then-numbered (typeFor order letter size units) _ (type-for-numbered order letter size units) (λ t. write-points-numbered t value room)) c;
       npy-type-read = λ text said r x c. told-coded typeValues (typeString text) said r x (type-numbered text) c;
-      npy-type-print = λ order letter size units room count r x c.
-          beside alone _ room (x .0) count (x .1) r
+      npy-type-print = λ order letter size units room count r new told c.
+          beside alone _ room new count told r
           (then-numbered (typeFor order letter size units) (λ t. typePrinted t room) (type-for-numbered order letter size units) (λ t. type-printed-numbered t room)) (c .told)
           (λ n e. c .room-after ∙ given-left _ (λ t. typePlaced t room) room (typeFor order letter size units) (λ t k f. typed-left t room k f) n e);
     }

@@ -8,3 +8,4 @@ pub mod Beyond
 pub mod Edges
 mod Numbers
 pub mod Codes
+pub mod Grammar

@@ -40,7 +40,7 @@ use Rattle.record.specs.Dimensions.{signed, dimension, dimensions, subShape, ra
 use Rattle.record.specs.Descr.{arrays, twoOrThree, perhaps, descrOf, fieldsOf, fieldOf, namedOf, typedOf}
 use Rattle.record.specs.FromValue as from-value
 use Rattle.record.specs.Version.{Version, one-zero, two-zero, three-zero, versionOf, lengthWidth, textStart}
-use Rattle.record.specs.Prefix.{magic, little, most-text, Prefix, dataStart, lengthRead, prefix, textOf}
+use Rattle.record.specs.Prefix.{magic, most-text, Prefix, dataStart, lengthRead, prefix, textOf}
 use Rattle.record.specs.Rooms.{Rooms, needs, tooSmall, Lent, roomsOf}
 use Rattle.record.specs.Header as header
 use Rattle.record.specs.Layout.{headerLayout}
@@ -52,7 +52,7 @@ use Rattle.whole.specs.Reading.{unread, readDtype}
 use Rattle.table.specs.Checked.{checkedRecord}
 use Rattle.items.specs.Item.{itemOf}
 use Rattle.places.specs.Place.{runFrom, placed, placeOf}
-use Rattle.numbers.specs.Numbers.{inOrder}
+use Rattle.numbers.specs.Numbers.{little, inOrder}
 use Rattle.strings.specs.declared.Kind.{Kind}
 use Rattle.strings.specs.Elements.{kindOf, trimmed, bytesIn, scalar, points, pointsIn}
 use Rattle.strings.specs.Runs.{filled, bytesOut, allScalars, pointBytes, pointsOut}

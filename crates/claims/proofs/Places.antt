@@ -1,14 +1,16 @@
 -- Demand 3 (specs/Places.antt) holds of every file that `read` accepts: the record in the rooms is one that a reading gave, so that the check accepts it
 -- (Accepted.antt), and of those crate places shows it. Assumes nothing.
 use Prim.Native.Nat.{ℕ}
-use mathlib.Core.Path.{_≡_}
+use mathlib.Core.Path.{_≡_, sym}
 use mathlib.Core.List.{List}
 use lib.ListN.{length}
 use Rattle.counts.specs.Outcome.{gives}
 use Rattle.dtype.specs.Record.{Record, table, names}
 use Rattle.record.specs.Rooms.{Lent, roomsOf}
 use Rattle.table.specs.Checked.{checkedRecord}
+use Rattle.places.specs.declared.Placed.{Placed}
 use Rattle.places.proofs.Demand.{demand-3}
+use Rattle.places.proofs.Outcomes.{place-one}
 use Rattle.judge.specs.Judged.{reading}
 use Rattle.judge.proofs.Top.{reading-keeps}
 use Rattle.fill.specs.declared.Said.{Said}
@@ -33,4 +35,6 @@ data-owned file l l′ h x =
       accepted = a;
       data-owned =
           demand-3 (length file) (h .start .0) (tableIn (h .said) l′) (namesIn (h .said) l′) (shapeIn (h .said) l′) (h .said .order) (f .header-is .says) a;
+      returned = λ y p r u h e. place-one _ _ _ _ _ _ y p r (Placed.At u) h (sym e);
+      returned-26 = λ y p r h e. place-one _ _ _ _ _ _ y p r Placed.Nowhere h (sym e);
     }

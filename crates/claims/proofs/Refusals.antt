@@ -25,6 +25,7 @@ use Rattle.header.specs.Answer as header
 use Rattle.write.specs.Writes.{headerWritten, headerPlaced, roomOf}
 use Rattle.lines.specs.Listing.{listing}
 use Rattle.listing.specs.Answer as lists
+use Rattle.report.specs.Report.{reportOf}
 use Rattle.strings.specs.Rooms.{after, Owes}
 use Rattle.claims.specs.Refusals.{Unchanged}
 
@@ -90,6 +91,7 @@ unchanged =
       read-text = λ text l x l′ k h e. h .after ∙ by-outcome header.saidOf (λ o. header.filled o l) l (λ n. refl) (header.textInto text l) k (sym (h .answered) ∙ e);
       write-header = λ t ns s o room w room′ k h e. h .room-after ∙ header-left t ns s o room k (sym (h .answered) ∙ e);
       list = λ v start t ns s o room x room′ k h e. h .after ∙ listed-left v start room k (checkedRecord t ns s o) (sym (h .answered) ∙ e);
+      report = λ file room x room′ k h e. h .after ∙ text-left (reportOf file) room k (sym (h .answered) ∙ e);
       read-bytes = λ t run room x room′ k h e. owed _ room _ room′ k h e;
       read-points = λ t run room x room′ k h e. owed _ room _ room′ k h e;
       write-bytes = λ t value room x room′ k h e. owed _ room _ room′ k h e;

@@ -1,5 +1,5 @@
 -- Document 01, "The refusal numbers": 27, "caller's record .. that no reading gives (13, 20 to 22, 7, 4 aside)": the check of a caller's record accepts exactly those
--- that some file is read as. 13 and 20 to 22 the check asks itself; 7 and 4 are `Printable`. Definitions only. Assumes nothing.
+-- that some file is read as. 13 and 20 to 22 the check asks itself; 7 and 4 are `Printable`; the numbers of a caller's table and shape are u64 (`Small`). Definitions only. Assumes nothing.
 use Prim.Native.Nat.{ℕ, _≤_}
 use mathlib.Core.Path.{_≡_}
 use mathlib.Core.Bool.{true}

@@ -25,6 +25,7 @@ use Rattle.header.specs.Answer.{Reads, ReadsHeld, ReadsText}
 use Rattle.write.specs.Answer as write
 use Rattle.write.specs.Writes.{Writes}
 use Rattle.listing.specs.Answer as listing
+use Rattle.report.specs.Report as report
 use Rattle.slice.specs.Answer.{bytesAnswer, pointsAnswer, wroteAnswer}
 use Rattle.strings.specs.Rooms.{readBytes, readPoints, writeBytes, writePoints, Owes}
 use Rattle.places.specs.declared.Placed.{Placed}
@@ -48,9 +49,10 @@ pub record Rest-unchanged : Type 0 where
   pub read : (file : List ℕ) (l l′ : Lent) (h : Header) → Reads file l (HeaderRead.Read h) l′ → Same-rest (h .said) l l′
   pub read-held : (longer : Bool) (file : List ℕ) (l l′ : Lent) (h : Header) → ReadsHeld longer file l (HeaderRead.Read h) l′ → Same-rest (h .said) l l′
   pub read-text : (text : List ℕ) (l l′ : Lent) (said : Said) → ReadsText text l (TextRead.Read said) l′ → Same-rest said l l′
-  -- `write::write_header`, `listing::list`
+  -- `write::write_header`, `listing::list`, `report::report`
   pub write-header : (t ns s : List ℕ) (o : Order) (room : List ℕ) → Spares write.answer (Writes t ns s o room) room
   pub list : (v : Version) (start : ℕ) (t ns s : List ℕ) (o : Order) (room : List ℕ) → Spares listing.answer (listing.Lists v start t ns s o room) room
+  pub report : (file room : List ℕ) → Spares report.answer (report.Reports file room) room
   -- `slice::read_bytes`, `read_points`, `write_bytes`, `write_points`
   pub read-bytes : (t : TypeStr) (run room : List ℕ) → Spares bytesAnswer (λ r. Owes (readBytes t run room) room (bytesAnswer r)) room
   pub read-points : (t : TypeStr) (run room : List ℕ) → Spares pointsAnswer (λ r. Owes (readPoints t run room) room (pointsAnswer r)) room

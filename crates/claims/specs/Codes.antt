@@ -43,38 +43,38 @@ pub record Refuses {A M : Type 0} (o : Outcome A) (before : M) (r : ℕ) (after 
 abbrev pub Tells-alone : {A : Type 0} → (values : A → List ℕ) (o : Outcome A) (said : List ℕ) → Type 0
 Tells-alone values o said = (r : ℕ) (said′ : List ℕ) (n : ℕ) → Tells values o said r said′ → o ≡ refused n → (r ≡ n) × (said′ ≡ said)
 
--- what a function owes is an answer exactly where it returns 0
-pub record Coded {A M : Type 0} (o : Outcome A) (before : M) (r : ℕ) (after : M) : Type 0 where
-  pub zero : r ≡ 0 → (a : A) × (o ≡ gives a)
+-- what a function owes is an answer exactly where it returns 0, and the numbers lent for the values then hold the answer's
+pub record Coded {A M : Type 0} (values : A → List ℕ) (o : Outcome A) (before : M) (r : ℕ) (after : M) (said : List ℕ) : Type 0 where
+  pub zero : r ≡ 0 → (a : A) × (o ≡ gives a) × (said ≡ values a)
   pub other : (r ≡ 0 → ⊥) → Refuses o before r after
 
--- by the contract of a result and of all that was lent: of the values alone, and of a room and how many were written to it
-abbrev pub CodedBy : {A M : Type 0} → (o : Outcome A) → (contract : ℕ → M → Type 0) → (before : M) → Type 0
-CodedBy {A} {M} o contract before = (r : ℕ) (after : M) → contract r after → Coded o before r after
-
+-- by the contract of a result and of all that was lent: of the values alone; of the rooms and the values; of a room and how many were written to it
 abbrev pub CodedTells : {A : Type 0} → (values : A → List ℕ) (o : Outcome A) (said : List ℕ) → Type 0
-CodedTells values o said = CodedBy o (Tells values o said) said
+CodedTells values o said = (r : ℕ) (said′ : List ℕ) → Tells values o said r said′ → Coded values o said r said′ said′
+
+abbrev pub CodedBeside : {A M : Type 0} → (values : A → List ℕ) (o : Outcome A) → (contract : ℕ → M → List ℕ → Type 0) → (room : M) (said : List ℕ) → Type 0
+CodedBeside {A} {M} values o contract room said =
+    (r : ℕ) (room′ : M) (said′ : List ℕ) → contract r room′ said′ → Coded {M = M × List ℕ} values o (room, said) r (room′, said′) said′
 
 abbrev pub CodedPuts : (put : Outcome (List ℕ)) (room count : List ℕ) → Type 0
-CodedPuts put room count = CodedBy {M = List ℕ × List ℕ} (each length put) (λ r after. Puts put room count r (after .0) (after .1)) (room, count)
+CodedPuts put room count = CodedBeside alone (each length put) (Puts put room count) room count
 
 pub record Zero-answers : Type 0 where
   pub npy-read : (file : List ℕ) (l : Lent) (said : List ℕ)
-      → CodedBy {M = Lent × List ℕ} (each header.told (headerInto reading file l)) (λ r after. Reads file l said r (after .0) (after .1)) (l, said)
+      → CodedBeside headerValues (each header.told (headerInto reading file l)) (Reads file l said) l said
   pub npy-read-held : (longer : Bool) (file : List ℕ) (l : Lent) (said : List ℕ)
-      → CodedBy {M = Lent × List ℕ} (each header.told (header.heldInto longer file l)) (λ r after. ReadsHeld longer file l said r (after .0) (after .1)) (l, said)
+      → CodedBeside headerValues (each header.told (header.heldInto longer file l)) (ReadsHeld longer file l said) l said
   pub npy-read-text : (text : List ℕ) (l : Lent) (said : List ℕ)
-      → CodedBy {M = Lent × List ℕ} (each header.saidOf (header.textInto text l)) (λ r after. ReadsText text l said r (after .0) (after .1)) (l, said)
+      → CodedBeside textValues (each header.saidOf (header.textInto text l)) (ReadsText text l said) l said
   pub npy-check : (t ns s : List ℕ) (order : ℕ) (said : List ℕ)
       → CodedTells summaryValues (then (orderFor order) (λ o. each summary (checkedRecord t ns s o))) said
   pub npy-write-header : (t ns s : List ℕ) (order : ℕ) (room count : List ℕ)
-      → CodedBy {M = List ℕ × List ℕ} (then (orderFor order) (λ o. headerWritten t ns s o room)) (λ r after. Writes t ns s order room count r (after .0) (after .1)) (room, count)
+      → CodedBeside alone (then (orderFor order) (λ o. headerWritten t ns s o room)) (Writes t ns s order room count) room count
   pub npy-list : (version start : ℕ) (t ns s : List ℕ) (order : ℕ) (room count : List ℕ)
-      → CodedBy {M = List ℕ × List ℕ} (then (versionOf version 0) (λ v. then (orderFor order) (λ o. listed v start t ns s o room)))
-      (λ r after. Lists version start t ns s order room count r (after .0) (after .1)) (room, count)
+      → CodedBeside alone (then (versionOf version 0) (λ v. then (orderFor order) (λ o. listed v start t ns s o room))) (Lists version start t ns s order room count) room count
   pub npy-count : (s : List ℕ) (order : ℕ) (count : List ℕ) → CodedTells alone (then (orderFor order) (λ o. itemCount o s)) count
   pub npy-strides : (s : List ℕ) (order : ℕ) (room count : List ℕ)
-      → CodedBy {M = List ℕ × List ℕ} (then (orderFor order) (λ o. stridesCount o s (length room))) (λ r after. Strides s order room count r (after .0) (after .1)) (room, count)
+      → CodedBeside alone (then (orderFor order) (λ o. stridesCount o s (length room))) (Strides s order room count) room count
   pub npy-item-number : (s : List ℕ) (order : ℕ) (index item : List ℕ) → CodedTells alone (then (orderFor order) (λ o. itemOf o s index)) item
   pub npy-place : (file start : ℕ) (t ns s : List ℕ) (order : ℕ) (x p run : List ℕ)
       → CodedTells runValues (then (orderFor order) (λ o. placeOf file start t ns s o x p)) run
@@ -90,8 +90,7 @@ pub record Zero-answers : Type 0 where
       → CodedPuts (then (typeFor order letter size units) (λ t. writePoints t value room)) room count
   pub npy-type-read : (text said : List ℕ) → CodedTells typeValues (typeString text) said
   pub npy-type-print : (order letter size units : ℕ) (room count : List ℕ)
-      → CodedBy {M = List ℕ × List ℕ} (then (typeFor order letter size units) (λ t. typePrinted t room)) (λ r after. Prints order letter size units room count r (after .0) (after .1))
-      (room, count)
+      → CodedBeside alone (then (typeFor order letter size units) (λ t. typePrinted t room)) (Prints order letter size units room count) room count
 
 -- "room beyond what was needed is left as it was": the room behind so many as the count says, whatever it says
 abbrev pub SparesBy : (contract : ℕ → List ℕ → List ℕ → Type 0) → (room : List ℕ) → Type 0

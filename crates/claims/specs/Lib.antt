@@ -7,3 +7,4 @@ pub mod Held
 pub mod Beyond
 pub mod Codes
 pub mod Edges
+pub mod Grammar

@@ -18,6 +18,7 @@ use Rattle.header.specs.Answer as header
 use Rattle.write.specs.Answer as write
 use Rattle.write.specs.Writes.{Writes}
 use Rattle.listing.specs.Answer as listing
+use Rattle.report.specs.Report as report
 use Rattle.slice.specs.Answer.{bytesAnswer, pointsAnswer, wroteAnswer}
 use Rattle.strings.specs.Rooms.{readBytes, readPoints, writeBytes, writePoints, Owes}
 use Rattle.places.specs.declared.Placed.{Placed}
@@ -35,9 +36,10 @@ pub record Unchanged : Type 0 where
   pub read : (file : List ℕ) (l : Lent) → Leaves header.answer (header.Reads file l) l
   pub read-held : (longer : Bool) (file : List ℕ) (l : Lent) → Leaves header.answer (header.ReadsHeld longer file l) l
   pub read-text : (text : List ℕ) (l : Lent) → Leaves header.textAnswer (header.ReadsText text l) l
-  -- `write::write_header`, `listing::list`
+  -- `write::write_header`, `listing::list`, `report::report`
   pub write-header : (t ns s : List ℕ) (o : Order) (room : List ℕ) → Leaves write.answer (Writes t ns s o room) room
   pub list : (v : Version) (start : ℕ) (t ns s : List ℕ) (o : Order) (room : List ℕ) → Leaves listing.answer (listing.Lists v start t ns s o room) room
+  pub report : (file room : List ℕ) → Leaves report.answer (report.Reports file room) room
   -- `slice::read_bytes`, `read_points`, `write_bytes`, `write_points`
   pub read-bytes : (t : TypeStr) (run room : List ℕ) → Leaves bytesAnswer (λ r. Owes (readBytes t run room) room (bytesAnswer r)) room
   pub read-points : (t : TypeStr) (run room : List ℕ) → Leaves pointsAnswer (λ r. Owes (readPoints t run room) room (pointsAnswer r)) room

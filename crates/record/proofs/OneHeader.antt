@@ -16,7 +16,7 @@ use Rattle.record.specs.Header.{Header, Reading, Keeps, valueRead, recor
 use Rattle.record.specs.Writing.{writing, roomAfter}
 use Rattle.record.proofs.Holds.{then-alike}
 
-record-in-same : (f g : Reading) → Keeps f → Keeps g → (s : List ℕ) → recordIn f s ≡ recordIn g s
+pub record-in-same : (f g : Reading) → Keeps f → Keeps g → (s : List ℕ) → recordIn f s ≡ recordIn g s
 unfolding recordIn
 record-in-same f g kf kg s = ap (λ x. then (utf8 s) (λ u. then (valueRead x) recordOf)) (one-outcome-at 32 s (f s) (g s) (kf s) (kg s))
 

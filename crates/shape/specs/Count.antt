@@ -1,5 +1,5 @@
--- Document 01, "The refusal numbers": 22, "count or a stride of the declared order over 2^64-1", 23, "lent .. room too small", in this order, and
--- "every lent buffer stays unchanged. On success, room beyond what was needed is unchanged." Count and strides are the crate dtype's.
+-- Document 01, "The refusal numbers": 22, "count or a stride of the declared order over 2^64-1", then 23, "lent table, name, shape or element room too small", which by docs/DECISIONS.md holds
+-- for the room of strides too; and "every lent buffer stays unchanged. On success, room beyond what was needed is unchanged." Count and strides are the crate dtype's.
 -- Definitions only. Assumes nothing.
 use Prim.Native.Nat.{ℕ}
 use mathlib.Core.Path.{_≡_}
