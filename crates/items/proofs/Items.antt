@@ -3,9 +3,7 @@
 use Prim.Native.Nat.{ℕ, _^_, _<_, _≤_}
 use mathlib.Core.Path.{_≡_, refl, ap, sym, _∙_}
 use mathlib.Core.Bool.{Bool, true, false}
-use mathlib.Core.List.{List, [], _∷_}
-use denote.Enum.Declared.{tagOf}
-use types.Run.{OneOf, miss}
+use mathlib.Core.List.{List}
 use native.Mathlib.Omega.{arith}
 use borrow.Author.Tests.{lt-ltb, le-ltb, leb-false}
 use lib.ListN.{length, drop}
@@ -25,9 +23,6 @@ use Rattle.shape.specs.Answer.{wrote}
 use Rattle.shape.specs.Count.{itemCount, stridesCount, front, left, Writes}
 use Rattle.shape.proofs.Turns.{counted-fits, counted-over}
 use Rattle.items.specs.Item.{itemOf}
-use Rattle.items.specs.Answer.{itemAnswer}
-use Rattle.items.specs.declared.ItemNumber.{ItemNumber}
-use Rattle.items.proofs.ItemNumber.{the-type}
 use Rattle.items.proofs.Sums.{items-back, items-over, range-of, sum-front}
 
 -- ---- `item_of`
@@ -100,19 +95,12 @@ module _ (o : Order) (s x : List ℕ) (l : length s ≤ 32) (f : overShape o s �
   unfolding itemOf
   out-refused g = simp (le-ltb 32 (length s) l, f, g)
 
-  refused-out : (n : ℕ) → refused n ≡ itemOf o s x → inRange s x ≡ false
+  pub refused-out : (n : ℕ) → refused n ≡ itemOf o s x → inRange s x ≡ false
   refused-out n e = go (inRange s x) refl
     where
       go : (b : Bool) → inRange s x ≡ b → inRange s x ≡ false
       go true g = let z = e ∙ in-gives g in absurd (let y : _≡_ {A = ℕ} 0 1 = cc in omega arith)
       go false g = g
-
-  -- every answer but `Item`
-  pub item-refused : (r : ItemNumber) → itemAnswer r ≡ itemOf o s x → OneOf (1 ∷ 2 ∷ 3 ∷ []) (tagOf the-type r) → inRange s x ≡ false
-  item-refused (ItemNumber.Item n) e h = absurd (miss (1 ∷ 2 ∷ 3 ∷ []) 0 tt h)
-  item-refused ItemNumber.Dimensions e h = refused-out 13 e
-  item-refused ItemNumber.Shape e h = refused-out 22 e
-  item-refused ItemNumber.Nowhere e h = refused-out 26 e
 
   pub item-given : (m : ℕ) → gives m ≡ itemOf o s x → (inRange s x ≡ true) × (item o s x ≡ m)
   item-given m e = go (inRange s x) refl

@@ -3,9 +3,7 @@
 use Prim.Native.Nat.{ℕ, _+_, _*_, _^_, _<_, _≤_}
 use mathlib.Core.Path.{_≡_, refl, ap, sym, _∙_}
 use mathlib.Core.Bool.{Bool, true, false, cond}
-use mathlib.Core.List.{List, [], _∷_}
-use denote.Enum.Declared.{tagOf}
-use types.Run.{OneOf}
+use mathlib.Core.List.{List}
 use native.Mathlib.Omega.{arith}
 use borrow.Author.Tests.{ltb-false}
 use lib.Dec.{ltb}
@@ -39,11 +37,8 @@ use Rattle.table.proofs.Accepts.{accepts-valid}
 use Rattle.area.specs.declared.Run.{Run}
 use Rattle.area.proofs.Area.{bytes-back, bytes-over}
 use Rattle.items.specs.Item.{itemOf}
-use Rattle.items.specs.Answer.{itemAnswer}
-use Rattle.items.specs.declared.ItemNumber.{ItemNumber}
-use Rattle.items.proofs.ItemNumber.{the-type}
 use Rattle.items.proofs.Sums.{range-of}
-use Rattle.items.proofs.Items.{item-refused, item-given}
+use Rattle.items.proofs.Items.{refused-out, item-given}
 use Rattle.places.specs.declared.Found.{Found}
 use Rattle.places.specs.Place.{runFrom, placed, placeOf}
 use Rattle.places.specs.Walk.{Finds, Accepted}
@@ -118,8 +113,8 @@ module _ (t ns s : List ℕ) (o : Order) (d : Dtype) (size : ItemSize) (count : 
             inside : inRange s x ≡ true → refused 26 ≡ placed file start (made d s o) x p
             inside g = simp (sized n q .0, not-short, g, h)
 
-        pub answer-26-item : (r : ItemNumber) → itemAnswer r ≡ itemOf o s x → OneOf (1 ∷ 2 ∷ 3 ∷ []) (tagOf the-type r) → refused 26 ≡ placed file start (made d s o) x p
-        answer-26-item r v h = answer-26-range (item-refused o s x shape-short shape-fits r v h)
+        pub answer-26-item : (k : ℕ) → refused k ≡ itemOf o s x → refused 26 ≡ placed file start (made d s o) x p
+        answer-26-item k v = answer-26-range (refused-out o s x shape-short shape-fits k v)
 
         module _ (m : Items) (v : gives (m .0) ≡ itemOf o s x) (u : Run) (f : Finds d p (Found.At u)) where
           in-range : inRange s x ≡ true

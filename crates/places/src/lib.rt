@@ -6,7 +6,7 @@ use counts::Bytes;
 use counts::Items;
 use dtype::Order;
 use entries::EntryType;
-use items::ItemNumber;
+use indexed::Indexed;
 use limits::ItemSize;
 use table::Checked;
 ghost use mathlib.Core.Path.{_≡_};
@@ -140,24 +140,24 @@ fn in_record(
     requires { ⌜ ((ns : List ℕ) × (d : Dtype) × Accepted (now table) ns (now shape) order d size count) ⌝ }
     ensures { λ r. ⌜ ((ns : List ℕ) (d : Dtype) → Accepted (now (table .entry)) ns (now (shape .entry)) order d size count → answer r ≡ placed (file .0) (start .0) (record { dtype = d; shape = now (shape .entry); order = order }) (now (index .entry)) (now (path .entry))) ⌝ }
 {
-    let ItemSize::Sized(size) = size else {
-        return Placed::Object;
-    };
-    if area::is_short(file, start, count, size) {
-        return Placed::Short;
+    match indexed::item(file, start, size, count, shape, order, index) {
+        Indexed::Item(item) => {
+            let Found::At(run) = follow(table, path) else {
+                return Placed::Nowhere;
+            };
+            let which = item.which;
+            let size = item.size;
+            let ByteCount::Is(first) = area::first_byte(start, which, size, run.first) else {
+                return Placed::Nowhere;
+            };
+            let len = run.len;
+            let kind = run.kind;
+            Placed::At(Run { first, len, kind })
+        }
+        Indexed::Object => Placed::Object,
+        Indexed::Short => Placed::Short,
+        Indexed::Nowhere => Placed::Nowhere,
     }
-    let Found::At(run) = follow(table, path) else {
-        return Placed::Nowhere;
-    };
-    let ItemNumber::Item(which) = items::item_number(shape, order, index) else {
-        return Placed::Nowhere;
-    };
-    let ByteCount::Is(first) = area::first_byte(start, which, size, run.first) else {
-        return Placed::Nowhere;
-    };
-    let len = run.len;
-    let kind = run.kind;
-    Placed::At(Run { first, len, kind })
 }
 
 // The bytes that an index and a path name in a file of this length, whose data starts at `start`.

@@ -1,0 +1,2 @@
+pub mod Indexed
+pub mod Answer
