@@ -28,7 +28,6 @@ use Rattle.sums.specs.Totals.{capped, largest, saturated, nothing, oneEntry, na
 use Rattle.sums.specs.Verdict.{both}
 use Rattle.sums.proofs.Sums.{totals-eq, or-true, or-false, over-never, over-not, over-more, over-number, saturated-number, cap-front}
 use Rattle.sums.proofs.Limits.{own-over}
-use Rattle.descr.specs.Judges.{nameBy}
 
 false-true : {A : Type 0} → false ≡ true → A
 false-true h = absurd (let z : _≡_ {A = ℕ} 0 1 = cc in omega arith)
@@ -189,8 +188,18 @@ arrays-totals ns d h =
     (ap (λ (x : ℕ). capped largest x) (arrays-outline ns d) ∙ held-levels ns (sizeOf d))
 
 -- ---- a field's items: its name, its inner descr, perhaps its sub-shape
+-- a value as a name
+abbrev pub nameBy : Value → Outcome Totals
+nameBy v = each (λ w. nameTotals (length w)) (stringOr 14 v)
+
 abbrev pub descrBy : Value → Outcome Totals
 descrBy v = each totalsOf (descrOf v)
+
+-- what stands behind a field's inner descr, by the verdicts on its name and on that descr: nothing more, or its sub-shape
+abbrev pub behindBy : Outcome Totals → Outcome Totals → Values → Outcome Totals
+behindBy x y end-of-values = both x y
+behindBy x y (value-then v end-of-values) = both x (then y (λ t. each (λ o. arrayed o t) (each outlineOf (subShape v))))
+behindBy x y (value-then v (value-then w vs)) = refused 14
 
 two-by : (x : Outcome (List ℕ)) (o : Outcome Dtype)
     → both (each (λ w. nameTotals (length w)) x) (each totalsOf o) ≡ each fieldTotals (then x (λ w. each (λ d. record { name = w; type = d }) (then o (λ d. gives d))))

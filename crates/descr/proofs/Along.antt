@@ -7,10 +7,10 @@ use mathlib.Core.List.{List, [], _∷_}
 use lib.Dec.{lit<}
 use denote.Enum.Declared.{tagOf}
 use types.Run.{OneOf}
-use Rattle.counts.specs.Outcome.{Outcome, gives, refused, then, each}
+use Rattle.counts.specs.Outcome.{Outcome, gives, refused, each}
 use Rattle.grammar.specs.Value.{Values, end-of-values, value-then}
 use Rattle.tokens.specs.Node.{Node, nodes}
-use Rattle.tokens.specs.Got.{Got, got, pos}
+use Rattle.tokens.specs.Got.{pos}
 use Rattle.literal.specs.Literal.{value}
 use Rattle.literal.specs.Brackets.{gapAt, thenAt, endedAt}
 use Rattle.literal.specs.Rows.{Row}
@@ -22,19 +22,18 @@ use Rattle.tokens.specs.declared.Parsed.the-variants.{Value}
 use Rattle.literal.proofs.Steps.{Stops}
 use Rattle.sums.specs.declared.Totals.{Totals}
 use Rattle.sums.specs.declared.Verdict.{Verdict}
-use Rattle.descr.specs.declared.Judged.{Judged}
+use Rattle.parts.specs.declared.Judged.{Judged}
 use Rattle.record.specs.Dimensions.{subShape}
 use Rattle.products.specs.Outline.{outlineOf}
 use Rattle.products.specs.declared.Outline.{Outline}
-use Rattle.dims.specs.declared.Judged as dims
-use Rattle.dims.specs.Answer as answers
-use Rattle.products.specs.Answer.{outlined}
-use Rattle.sums.specs.Totals.{nothing, arrayed}
+use Rattle.sums.specs.Totals.{nothing}
 use Rattle.sums.specs.Verdict.{verdict, both}
-use Rattle.descr.specs.Judges.{Judges, JudgesFrom, itemsFrom, nameBy, behindBy}
+use Rattle.behind.specs.Behind.{itemsFrom}
+use Rattle.parts.specs.Parts.{levelsOver}
+use Rattle.descr.specs.Judges.{Judges, JudgesFrom}
 use Rattle.sums.proofs.Sums.{both-assoc, both-nothing}
-use Rattle.descr.proofs.Adds.{fieldsBy, fieldBy, descrBy, itemsBy, fields-step, fields-start, two-items, three-items}
-use Rattle.descr.proofs.Reach.{inside, from-end, from-stop, from-more, row-over, row-behind, row-stops}
+use Rattle.descr.proofs.Adds.{fieldsBy, fieldBy, nameBy, descrBy, behindBy, itemsBy, fields-step, fields-start, two-items, three-items}
+use Rattle.behind.proofs.Reach.{inside, from-end, from-stop, from-more, row-over, row-behind, row-stops}
 
 abbrev pub valuesOf : List Node → Values
 valuesOf ns = forgetAll (nodes ns)
@@ -121,10 +120,6 @@ pub items-two : (a b : Node) (x y : Outcome Totals) → x ≡ nameBy (forget a) 
 unfolding forgetAll
 items-two a b x y hx hy = ap (λ (z : Outcome Totals). both z y) hx ∙ (ap (λ (z : Outcome Totals). both (nameBy (forget a)) z) hy ∙ two-items (forget a) (forget b))
 
--- the verdict on a type and then on its sub-shape
-abbrev pub levelsOver : Outcome Totals → Outcome Outline → Outcome Totals
-levelsOver y z = then y (λ t. each (λ o. arrayed o t) z)
-
 pub items-three : (a b c : Node) (x y w : Outcome Totals) (z : Outcome Outline) → x ≡ nameBy (forget a) → y ≡ descrBy (forget b) → z ≡ each outlineOf (subShape (forget c)) → w ≡ levelsOver y z
     → both x w ≡ itemsBy (valuesOf (a ∷ b ∷ c ∷ []))
 unfolding forgetAll
@@ -138,7 +133,3 @@ unfolding forgetAll
 items-behind a b [] x y hx hy = items-two a b x y hx hy
 items-behind a b (c ∷ []) x y hx hy = items-three a b c x y (levelsOver y (each outlineOf (subShape (forget c)))) (each outlineOf (subShape (forget c))) hx hy refl refl
 items-behind a b (c ∷ d ∷ ns) x y hx hy = items-many a b c d ns
-
--- ---- a sub-shape, as crate dims judges it
-pub sub-judged : (g : Got Node) (n : Node) (q : ℕ) (r : dims.Judged) → answers.Judges g r → g ≡ got n q → outlined (r .verdict) ≡ each outlineOf (subShape (forget n))
-sub-judged g n q r j h = j .says ∙ ap (λ (x : Got Node). each outlineOf (answers.dimensionsAt x)) h

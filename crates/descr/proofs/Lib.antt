@@ -1,5 +1,4 @@
 pub mod Adds
-pub mod Reach
 pub mod Along
 pub mod Nodes
 pub mod Items

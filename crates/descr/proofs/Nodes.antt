@@ -17,7 +17,6 @@ use Rattle.decimal.specs.Decimal.{isDigit}
 use Rattle.grammar.specs.Bytes.{isOpen, isQuote}
 use Rattle.grammar.specs.Value as value
 use Rattle.dims.specs.Walk.{closingOf}
-use Rattle.dims.proofs.Numbers.{token-value}
 use Rattle.tokens.specs.Node.{Node, string, integer, True, False, None, list, tuple, dict}
 use Rattle.tokens.specs.Got.{Got, got, deep, pos}
 use Rattle.tokens.specs.Text.{byteAt, kindOf}
@@ -37,10 +36,12 @@ use Rattle.sums.specs.Totals.{totalsOf, oneEntry, nameTotals}
 use Rattle.sums.specs.Verdict.{verdict, both}
 use Rattle.field.specs.Begins.{isString}
 use Rattle.field.proofs.Begins.{string-kind}
-use Rattle.descr.specs.declared.Judged.{Judged}
-use Rattle.descr.specs.Judges.{Judges, JudgesFrom, typedAt, nameBy}
-use Rattle.descr.proofs.Adds.{fieldsBy, fieldBy, descrBy, itemsBy, record-step}
-use Rattle.descr.proofs.Reach.{inside, list-from}
+use Rattle.parts.specs.Parts.{nameAt}
+use Rattle.parts.proofs.Names.{string-ends}
+use Rattle.parts.specs.declared.Judged.{Judged}
+use Rattle.descr.specs.Judges.{Judges, JudgesFrom, typedAt}
+use Rattle.descr.proofs.Adds.{fieldsBy, fieldBy, nameBy, descrBy, itemsBy, record-step}
+use Rattle.behind.proofs.Reach.{inside, list-from}
 use Rattle.descr.proofs.Along.{JudgesInside, valuesOf}
 
 true-false : {A : Type 0} → true ≡ false → A
@@ -118,6 +119,13 @@ module _ (s : List ℕ) (at : ℕ) where
     name-other : isString (kindOf (byteAt s at)) ≡ false → nameBy (forget n) ≡ refused 14
     name-other a = name-by n (ap isString (sym (value-kind k s at h)) ∙ a)
 
+    pub name-says : nameAt s at ≡ nameBy (forget n)
+    name-says = go (isString (kindOf (byteAt s at))) refl
+      where
+        go : (t : Bool) → isString (kindOf (byteAt s at)) ≡ t → cond t (gives (nameTotals (length (spelled (byteAt s at) s (at + 1) .bytes)))) (refused 14) ≡ nameBy (forget n)
+        go true t = sym (ap nameBy (string-is t))
+        go false t = sym (name-other t)
+
     -- a list, and what stands in it
     record-is : closingOf (kindOf (byteAt s at)) ≡ 93
         → (0 < k) × (ns : List Node) × (descrBy (forget n) ≡ both (gives oneEntry) (fieldsBy (valuesOf ns))) × Row (valueOf (k - 1) s) s 93 ns (gapAt s (at + 1) 93) e
@@ -189,15 +197,8 @@ open-round b h = rw h
 -- ---- what the walk owes for the value at `at`, by what stands there
 module _ (k : ℕ) (s : List ℕ) (at : ℕ) where
   -- a string, scanned once
-  module _ (r : Judged) (t : isString (kindOf (byteAt s at)) ≡ true) (he : r .ended ≡ spelled (byteAt s at) s (at + 1) .ended) where
-    string-ends : r .ended ≡ pos (valueOf k s at)
-    string-ends = he ∙ token-value k s at Quote (string-kind (kindOf (byteAt s at)) t) refl
-
-    pub type-judged : verdict (r .verdict) ≡ typedAt s at → Judges k s at descrBy r
-    type-judged hv = record { ends = string-ends; of-value = λ n e h. hv ∙ sym (text-says s at k n e h t) }
-
-    pub name-judged : verdict (r .verdict) ≡ gives (nameTotals (length (spelled (byteAt s at) s (at + 1) .bytes))) → Judges k s at nameBy r
-    name-judged hv = record { ends = string-ends; of-value = λ n e h. hv ∙ sym (ap nameBy (string-is s at k n e h t)) }
+  pub type-judged : (r : Judged) → isString (kindOf (byteAt s at)) ≡ true → r .ended ≡ spelled (byteAt s at) s (at + 1) .ended → verdict (r .verdict) ≡ typedAt s at → Judges k s at descrBy r
+  type-judged r t he hv = record { ends = string-ends s at k (r .ended) t he; of-value = λ n e h. hv ∙ sym (text-says s at k n e h t) }
 
   -- a value of another form
   module _ (r : Judged) (he : r .ended ≡ pos (valueOf k s at)) (hv : verdict (r .verdict) ≡ refused 14) where
@@ -206,9 +207,6 @@ module _ (k : ℕ) (s : List ℕ) (at : ℕ) where
 
     pub field-misfit : closingOf (kindOf (byteAt s at)) ≡ 0 → Judges k s at fieldBy r
     field-misfit a = record { ends = he; of-value = λ n e h. hv ∙ sym (field-other s at k n e h a) }
-
-    pub name-misfit : isString (kindOf (byteAt s at)) ≡ false → Judges k s at nameBy r
-    name-misfit a = record { ends = he; of-value = λ n e h. hv ∙ sym (name-other s at k n e h a) }
 
   -- a list or tuple
   module _ (close : ℕ) (hc : close ≡ closingOf (kindOf (byteAt s at))) (some : close ≡ 0 → ⊥) where

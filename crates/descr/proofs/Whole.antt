@@ -15,7 +15,7 @@ use Rattle.dims.specs.Answer.{valueOr}
 use Rattle.sums.specs.Totals.{totalsOf}
 use Rattle.sums.specs.declared.Totals.{Totals}
 use Rattle.sums.specs.Verdict.{verdict}
-use Rattle.descr.specs.declared.Judged.{Judged}
+use Rattle.parts.specs.declared.Judged.{Judged}
 use Rattle.descr.specs.Judges.{Judges, JudgesAt}
 
 abbrev totals : Value → Outcome Totals

@@ -1,37 +1,35 @@
 // The walk over a descr, which reads the text and judges it at once. `judge`, `fields`, `field` and `inner_at` call each other in a cycle; each bracket that
 // opens leaves one fewer. No walk stops at what it refuses, so that a wrong item count can come before what stands inside; only a fault of the literal
 // ends it. What is judged of a text with such a fault is not told: its caller looks at the end first.
-use super::Judged;
+use behind::second_at;
 use field::closing_at;
 use field::string_at;
 use field::typed_at;
 use literal::gaps::Gap;
 use literal::gaps::ended;
 use literal::gaps::gap_at;
-use literal::gaps::need;
 use literal::gaps::then_at;
 use literal::value;
-use sums::Rule;
+use parts::Judged;
+use parts::misfit;
+use parts::name_at;
+use parts::sub_shape;
 use sums::Totals;
 use sums::Verdict;
 use sums::join;
-use sums::named;
-use sums::shaped;
 use sums::typed;
 use tokens::Parsed;
-use tokens::strings::scan_at;
 ghost use mathlib.Core.Path.{_≡_};
 ghost use Prim.Native.Nat.{_+_, _<_};
 ghost use lib.ListN.{length};
 ghost use Rattle.counts.specs.Outcome.{each};
 ghost use Rattle.record.specs.Descr.{descrOf, fieldsOf, fieldOf};
-ghost use Rattle.tokens.specs.Got.{pos};
 ghost use Rattle.tokens.specs.Strings.{spelled};
 ghost use Rattle.tokens.specs.Text.{byteAt};
 ghost use Rattle.literal.specs.Brackets.{gapAt};
 ghost use Rattle.sums.specs.Totals.{totalsOf, totalsIn, fieldTotals};
 ghost use Rattle.sums.specs.Verdict.{verdict};
-ghost use Rattle.descr.specs.Judges.{Judges, JudgesFrom, itemsFrom, secondAt, nameBy, typedAt, behindBy};
+ghost use Rattle.descr.specs.Judges.{Judges, JudgesFrom, typedAt};
 
 // A value that is a descr: a type string, or a list of fields.
 pub fn judge(text: &[u8], at: usize, room: usize) -> Judged
@@ -152,93 +150,5 @@ fn plain_at(text: &[u8], at: usize) -> Judged
     Judged {
         ended: end,
         verdict: typed(read),
-    }
-}
-
-// A value of another form, or no value.
-fn misfit(end: Parsed) -> Judged
-    ensures { λ r. ⌜ r .ended ≡ end ⌝ }
-    ensures { λ r. ⌜ r .verdict ≡ Verdict.Bad Rule.Form ⌝ }
-{
-    Judged {
-        ended: end,
-        verdict: Verdict::Bad(Rule::Form),
-    }
-}
-
-// What stands behind a field's inner descr, from the gap on: nothing more, or its sub-shape.
-fn sub_shape(text: &[u8], g: Gap, close: u8, room: usize, name: Verdict, of: Verdict) -> Judged
-    ensures { λ r. ⌜ JudgesFrom room (now (text .entry)) close g (behindBy (verdict name) (verdict of)) r ⌝ }
-{
-    let Gap::Item(p) = g else {
-        return Judged {
-            ended: ended(g),
-            verdict: join(name, of),
-        };
-    };
-    let shape = dims::judge(text, p, room);
-    let end = shape.ended;
-    let levels = shape.verdict;
-    let Parsed::Value(q) = end else {
-        return misfit(end);
-    };
-    let next = then_at(text, q, close);
-    let Gap::Item(more) = next else {
-        return Judged {
-            ended: ended(next),
-            verdict: join(name, shaped(of, levels)),
-        };
-    };
-    misfit(rest(text, more, close, room))
-}
-
-// How the bracket ends whose next item begins at `from`.
-fn rest(text: &[u8], from: usize, close: u8, room: usize) -> Parsed
-    ensures { λ r. ⌜ r ≡ pos (itemsFrom room (now (text .entry)) close (Gap.Item from)) ⌝ }
-{
-    let mut g = Gap::Item(from);
-    loop {
-        let Gap::Item(p) = g else {
-            return ended(g);
-        };
-        let r = value(text, p, room);
-        let Parsed::Value(q) = r else {
-            return r;
-        };
-        g = then_at(text, q, close);
-    }
-}
-
-// The name of a field at `at`: a string, passed over once, its bytes counted decoded.
-fn name_at(text: &[u8], at: usize, room: usize) -> Judged
-    ensures { λ r. ⌜ Judges room (now (text .entry)) at nameBy r ⌝ }
-{
-    if string_at(text, at) {
-        let s = scan_at(text, at + 1, text[at]);
-        let end = s.ended;
-        return Judged {
-            ended: end,
-            verdict: Verdict::Fits(named(s.len)),
-        };
-    }
-    misfit(value(text, at, room))
-}
-
-// Behind the first item of a bracket, which ends before `at`: of a tuple it needs its comma. Where an item follows, the comma stands there.
-fn second_at(text: &[u8], at: usize, close: u8) -> Gap
-    ensures { λ r. ⌜ r ≡ secondAt (now (text .entry)) at close ⌝ }
-{
-    let g = then_at(text, at, close);
-    if close != 41 {
-        return g;
-    }
-    if let Gap::Item(_) = g {
-        return g;
-    }
-    let c = need(text, at, 44);
-    match c {
-        Parsed::Value(e) => gap_at(text, e, 41),
-        Parsed::Fault(p) => Gap::Stray(p),
-        Parsed::Deep(p) => Gap::Stray(p),
     }
 }

@@ -29,11 +29,11 @@ use Rattle.descr.proofs.inner.+field+fields+inner_at+judge.Lts-inner_at
 use Rattle.descr.proofs.inner.judge.Reads as judge
 use Rattle.descr.proofs.inner.judge.Kinds as judge-kinds
 use Rattle.descr.proofs.inner.+field+fields+inner_at+judge.Lts-judge as judge-lts
-use Rattle.descr.proofs.inner.misfit.Reads as misfit-reads
-use Rattle.descr.proofs.inner.name_at.Reads as name-at-reads
+use Rattle.parts.proofs.misfit.Reads as misfit-reads
+use Rattle.parts.proofs.name_at.Reads as name-at-reads
 use Rattle.descr.proofs.inner.plain_at.Reads as plain-at-reads
-use Rattle.descr.proofs.inner.second_at.Reads as second-at-reads
-use Rattle.descr.proofs.inner.sub_shape.Reads as sub-shape-reads
+use Rattle.behind.proofs.second_at.Reads as second-at-reads
+use Rattle.parts.proofs.sub_shape.Reads as sub-shape-reads
 use Rattle.field.proofs.closing_at.Reads as closing-at-reads
 use Rattle.field.proofs.string_at.Reads as string-at-reads
 use Rattle.literal.proofs.gaps.ended.Reads as ended-reads

@@ -6,11 +6,11 @@ use Rattle.literal.specs.Literal.{value as valueOf}
 use Rattle.literal.specs.declared.gaps.Gap.the-variants.{Item}
 use Rattle.literal.proofs.Ends.{value-ahead}
 use Rattle.literal.proofs.Steps.{stops, gapLeft, turn-less}
-use Rattle.descr.specs.Judges.{itemsFrom}
-use Rattle.descr.proofs.Reach.{from-end, from-stop, from-more}
+use Rattle.behind.specs.Behind.{itemsFrom}
+use Rattle.behind.proofs.Reach.{from-end, from-stop, from-more}
 use borrow.Author.Needs.{needs}
-use Rattle.descr.proofs.inner.rest.Statement.{statement}
-use Rattle.descr.proofs.inner.rest.Tie as tie
+use Rattle.behind.proofs.rest.Statement.{statement}
+use Rattle.behind.proofs.rest.Tie as tie
 
 abbrev Inv-loop : tie.InvT-loop
 Inv-loop text from close room g₀ g = pos (itemsFrom room text close (Item from)) ≡ pos (itemsFrom room text close g)

@@ -28,7 +28,7 @@ use Rattle.literal.proofs.Ends.{pos-with, Ahead, value-ahead, then-ahead}
 use Rattle.literal.proofs.Rows as literal
 use Rattle.literal.proofs.Rows.{row-step, row-shut, row-stray, row-reads}
 use Rattle.literal.proofs.Steps.{Stops, thing, gapLeft, gap-enough, gap-falls, tuple-end, tuple-stop, tuple-comma, tuple-more}
-use Rattle.descr.specs.Judges.{itemsFrom, commaThen, secondAt}
+use Rattle.behind.specs.Behind.{itemsFrom, commaThen, secondAt}
 
 module _ (k : ℕ) (s : List ℕ) (close : ℕ) where
   end-by : (m : ℕ) (g : Gap) → gapLeft (length s) g < m → OneOf (0 ∷ 2 ∷ []) (tagOf the-type g) → endedAt g ≡ pos (items (value k s) s close m g)

@@ -10,10 +10,10 @@ use Rattle.tokens.proofs.Positions.{getD-any}
 use Rattle.sums.specs.Totals.{nameTotals}
 use Rattle.sums.specs.Verdict.{verdict}
 use Rattle.field.proofs.Begins.{string-in}
-use Rattle.descr.proofs.Nodes.{name-judged, name-misfit}
+use Rattle.parts.proofs.Names.{string-ends, name-string, name-other}
 use borrow.Author.Needs.{needs}
-use Rattle.descr.proofs.inner.name_at.Statement.{statement}
-use Rattle.descr.proofs.inner.name_at.Tie as tie
+use Rattle.parts.proofs.name_at.Statement.{statement}
+use Rattle.parts.proofs.name_at.Tie as tie
 
 string-at-requires : tie.Need-string-at-requires
 string-at-requires c κs = search needs
@@ -40,7 +40,7 @@ returns c =
     let quote = getD-any s (a .at) 0 256 (string-in s (a .at) k) in
     let end = ap (λ (r : Scan). r .ended) (c .before .scan-at .ensures) ∙ ap (λ (b : ℕ). spelled b s (a .at + 1) .ended) quote in
     let len = ap (λ (r : Scan). r .len) (c .before .scan-at .ensures) ∙ ap (λ (b : ℕ). length (spelled b s (a .at + 1) .bytes)) quote in
-    name-judged (a .room) s (a .at) _ k end (ap gives (c .named .ensures ∙ ap nameTotals len))
+    (string-ends s (a .at) (a .room) _ k end, ap gives (c .named .ensures ∙ ap nameTotals len) ∙ name-string s (a .at) k)
 
 value-requires : tie.Need-value-requires
 value-requires c κs = search needs
@@ -51,7 +51,7 @@ misfit-requires c κs = search needs
 returns-2 : tie.Need-returns-2
 returns-2 c =
     let a = c .before .before .before .before .before .args in
-    name-misfit (a .room) (a .text .now) (a .at) (c .misfit .result) (c .misfit .ensures .0 ∙ c .before .value .ensures) (ap verdict (c .misfit .ensures .1)) (sym (c .before .before .before .string-at .ensures) ∙ c .before .before .if1 .left)
+    (c .misfit .ensures .0 ∙ c .before .value .ensures, ap verdict (c .misfit .ensures .1) ∙ name-other (a .text .now) (a .at) (sym (c .before .before .before .string-at .ensures) ∙ c .before .before .if1 .left))
 
 pub name-at-spec : {M : Type 1} → statement M
 name-at-spec =

@@ -1,9 +1,9 @@
 -- By the bracket: as behind any item, which of a tuple stands only behind its comma; or what stands behind that comma. Assumes nothing.
 use mathlib.Core.Path.{sym, _∙_}
-use Rattle.descr.proofs.Reach.{second-list, second-there, second-tuple}
+use Rattle.behind.proofs.Reach.{second-list, second-there, second-tuple}
 use borrow.Author.Needs.{needs}
-use Rattle.descr.proofs.inner.second_at.Statement.{statement}
-use Rattle.descr.proofs.inner.second_at.Tie as tie
+use Rattle.behind.proofs.second_at.Statement.{statement}
+use Rattle.behind.proofs.second_at.Tie as tie
 
 then-at-requires : tie.Need-then-at-requires
 then-at-requires c κs = search needs

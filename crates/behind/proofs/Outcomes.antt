@@ -1,0 +1,17 @@
+-- No second outcome satisfies the statements of this crate: both are equations. Assumes nothing.
+use Prim.Native.Nat.{ℕ}
+use mathlib.Core.Path.{_≡_}
+use mathlib.Core.List.{List}
+use Rattle.counts.specs.OneOutcome.{OneOutcome}
+use Rattle.counts.proofs.OneOutcome.{by-equation}
+use Rattle.tokens.specs.Got.{pos}
+use Rattle.tokens.specs.declared.Parsed.{Parsed}
+use Rattle.literal.specs.declared.gaps.Gap.{Gap}
+use Rattle.literal.specs.declared.gaps.Gap.the-variants.{Item}
+use Rattle.behind.specs.Behind.{itemsFrom, secondAt}
+
+pub second-at-one : (s : List ℕ) (at close : ℕ) → OneOutcome {A = Gap} (λ r. r ≡ secondAt s at close)
+second-at-one s at close = by-equation (secondAt s at close)
+
+pub rest-one : (k : ℕ) (s : List ℕ) (close from : ℕ) → OneOutcome {A = Parsed} (λ r. r ≡ pos (itemsFrom k s close (Item from)))
+rest-one k s close from = by-equation (pos (itemsFrom k s close (Item from)))
