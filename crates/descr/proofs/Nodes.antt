@@ -16,7 +16,7 @@ use Rattle.dtype.specs.Dtype.{plain}
 use Rattle.decimal.specs.Decimal.{isDigit}
 use Rattle.grammar.specs.Bytes.{isOpen, isQuote}
 use Rattle.grammar.specs.Value as value
-use Rattle.dims.specs.Walk.{closingOf}
+use Rattle.member.specs.Members.{closingOf}
 use Rattle.tokens.specs.Node.{Node, string, integer, True, False, None, list, tuple, dict}
 use Rattle.tokens.specs.Got.{Got, got, deep, pos}
 use Rattle.tokens.specs.Text.{byteAt, kindOf}

@@ -6,8 +6,6 @@ use mathlib.Core.Path.{_≡_, refl, sym, ap}
 use mathlib.Core.List.{List, [], _∷_}
 use mathlib.Core.Bool.{false}
 use lib.ListN.{length}
-use denote.Enum.Declared.{tagOf}
-use types.Run.{OneOf, miss}
 use Rattle.counts.specs.Outcome.{Outcome, gives, refused, then, each}
 use Rattle.counts.specs.declared.Number.the-variants.{Is}
 use Rattle.counts.proofs.Fits.{number-is}
@@ -22,7 +20,6 @@ use Rattle.literal.specs.Literal.{value}
 use Rattle.literal.specs.Rows.{Row}
 use Rattle.tokens.specs.declared.bytes.Kind.{Kind}
 use Rattle.tokens.specs.declared.bytes.Kind.the-variants.{Square, Round, Curly, Quote, Minus, Digit, TrueWord, FalseWord, NoneWord, Other}
-use Rattle.tokens.proofs.bytes.Kind.{the-type}
 use Rattle.tokens.proofs.Positions.{kind-in}
 use Rattle.literal.proofs.View.{view}
 use Rattle.products.specs.declared.Outline.{Outline}
@@ -33,20 +30,8 @@ use Rattle.products.specs.declared.Member.{Member}
 use Rattle.products.specs.Outline.{outlineOf, extendedTo, extendedBy, extends}
 use Rattle.products.specs.Answer.{sized, outlined, rankOf}
 use Rattle.products.proofs.Outlines.{outline-whole}
-use Rattle.dims.specs.Walk.{closingOf, dimensionsOf, goesOn}
-
--- every kind but a list's and a tuple's
-pub other-kind : (k : Kind) → OneOf (2 ∷ 3 ∷ 4 ∷ 5 ∷ 6 ∷ 7 ∷ 8 ∷ 9 ∷ []) (tagOf the-type k) → closingOf k ≡ 0
-other-kind Square o = absurd (miss (2 ∷ 3 ∷ 4 ∷ 5 ∷ 6 ∷ 7 ∷ 8 ∷ 9 ∷ []) 0 tt o)
-other-kind Round o = absurd (miss (2 ∷ 3 ∷ 4 ∷ 5 ∷ 6 ∷ 7 ∷ 8 ∷ 9 ∷ []) 1 tt o)
-other-kind Curly o = refl
-other-kind Quote o = refl
-other-kind Minus o = refl
-other-kind Digit o = refl
-other-kind TrueWord o = refl
-other-kind FalseWord o = refl
-other-kind NoneWord o = refl
-other-kind Other o = refl
+use Rattle.member.specs.Members.{closingOf}
+use Rattle.dims.specs.Walk.{dimensionsOf, goesOn}
 
 -- ---- members, one after the other
 none-outline : outlineOf [] ≡ record { rank = 0; empty = false; before = Is 1; behind = Is 1 }

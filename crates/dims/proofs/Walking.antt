@@ -40,7 +40,8 @@ use Rattle.products.specs.Answer.{sized, outlined, rankOf}
 use Rattle.products.proofs.Outlines.{joined-below}
 use Rattle.dims.specs.declared.Judged.{Judged}
 use Rattle.dims.specs.Answer.{dimensionsAt, Judges}
-use Rattle.dims.specs.Walk.{closingOf, dimensionsOf, SizeAt, goesOn, Walks, shutAt}
+use Rattle.member.specs.Members.{closingOf, SizeAt}
+use Rattle.dims.specs.Walk.{dimensionsOf, goesOn, Walks, shutAt}
 use Rattle.dims.proofs.Goes.{Counted, counted-at, counted-more}
 use Rattle.dims.proofs.Held.{nothing-rank, goes-whole, goes-one, goes-none, rank-more, no-bracket}
 

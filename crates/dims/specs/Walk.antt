@@ -3,44 +3,23 @@ use Prim.Native.Nat.{ℕ}
 use mathlib.Core.Path.{_≡_}
 use mathlib.Core.List.{List}
 use Rattle.counts.specs.Outcome.{Outcome, refused, then, each}
-use Rattle.record.specs.Dimensions.{dimension, dimensions}
+use Rattle.record.specs.Dimensions.{dimensions}
 use Rattle.tokens.specs.Node.{Node, nodes}
 use Rattle.tokens.specs.Got.{Got, got, fault, deep, pos}
-use Rattle.literal.specs.Forget.{forget, forgetAll}
-use Rattle.literal.specs.Literal.{value}
-use Rattle.tokens.specs.declared.bytes.Kind.{Kind}
-use Rattle.tokens.specs.declared.bytes.Kind.the-variants.{Square, Round, Curly, Quote, Minus, Digit, TrueWord, FalseWord, NoneWord, Other}
+use Rattle.literal.specs.Forget.{forgetAll}
 use Rattle.tokens.specs.declared.Parsed.the-variants.{Value, Fault}
 use Rattle.literal.specs.declared.gaps.Gap.{Gap}
 use Rattle.literal.specs.declared.gaps.Gap.the-variants.{Shut, Item, Stray}
 use Rattle.products.specs.declared.Outline.{Outline}
 use Rattle.products.specs.declared.Verdict.{Verdict}
 use Rattle.products.specs.declared.Verdict.the-variants.{Form}
-use Rattle.products.specs.declared.Member.{Member}
 use Rattle.products.specs.Outline.{extends}
-use Rattle.products.specs.Answer.{sized, outlined}
+use Rattle.products.specs.Answer.{outlined}
 use Rattle.dims.specs.declared.Judged.{Judged}
-
--- the closing bracket of a list or a tuple, by the kind of its first byte, or 0
-abbrev pub closingOf : Kind → ℕ
-closingOf Square = 93
-closingOf Round = 41
-closingOf Curly = 0
-closingOf Quote = 0
-closingOf Minus = 0
-closingOf Digit = 0
-closingOf TrueWord = 0
-closingOf FalseWord = 0
-closingOf NoneWord = 0
-closingOf Other = 0
 
 -- the dimensions of members
 abbrev pub dimensionsOf : List Node → Outcome (List ℕ)
 dimensionsOf ns = dimensions (forgetAll (nodes ns))
-
--- what the dimension of the value at a position has to be, whichever value stands there
-abbrev pub SizeAt : List ℕ → ℕ → Member → Type 0
-SizeAt s at r = (k : ℕ) (n : Node) (e : ℕ) → value k s at ≡ got n e → sized r ≡ dimension (forget n)
 
 -- the outline of the members that were read, behind those of which v is the outline; 11 where no bracket stands
 abbrev pub goesOn : Outcome Outline → Got (List Node) → Outcome Outline

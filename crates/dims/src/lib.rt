@@ -1,48 +1,32 @@
 // Shapes and sub-shapes in the text of a header (document 01, "The record"): refusals 11 and 12, and what 13, 21 and 22 need of the dimensions. No
 // public function here has a `requires`. What each answer stands for is in specs/Answer.antt.
-pub mod inner;
-
 use counts::Number;
 use literal::gaps::Gap;
 use literal::gaps::gap_at;
 use literal::gaps::need;
 use literal::gaps::then_at;
 use literal::value;
-use products::Member;
+use member::member_at;
 use products::Outline;
 use products::Verdict;
 use products::inner::joined;
-use signs::negative;
-use signs::positive;
 use tokens::Parsed;
-use tokens::bytes::Kind;
 use tokens::bytes::peek;
-use tokens::tokens::numeral_at;
 ghost use mathlib.Core.Path.{_≡_};
 ghost use mathlib.Core.List.{[]};
 ghost use Prim.Native.Nat.{_≤_};
 ghost use Rattle.counts.specs.Outcome.{gives};
-ghost use Rattle.decimal.specs.Decimal.{isDigit};
-ghost use mathlib.Core.Bool.{false};
 ghost use Rattle.literal.specs.Brackets.{listBy, tupleBy};
 ghost use Rattle.literal.specs.Literal.{value as valueOf};
-ghost use Rattle.tokens.specs.Got.{pos};
-ghost use Rattle.tokens.specs.Text.{byteAt};
 ghost use Rattle.products.specs.Answer.{outlined, rankOf};
 ghost use Rattle.products.specs.Outline.{outlineOf};
 ghost use Rattle.dims.specs.Answer.{Judges};
-ghost use Rattle.dims.specs.Walk.{closingOf, SizeAt, shutAt, Walks};
+ghost use Rattle.dims.specs.Walk.{shutAt, Walks};
 
 // How the text of a value ends, and what it is as a shape or sub-shape.
 pub struct Judged {
     pub ended: Parsed,
     pub verdict: Verdict,
-}
-
-// How the text of a member ends, and the dimension that it is.
-struct Item {
-    ended: Parsed,
-    size: Member,
 }
 
 // Judges the value at `at` while it is read, where `room` brackets more may open at once. Every member is looked at, and the first bad one decides.
@@ -149,61 +133,5 @@ fn shut(g: Gap, verdict: Verdict) -> Judged
             ended: Parsed::Fault(p),
             verdict: Verdict::Form,
         },
-    }
-}
-
-// The bracket that closes a list or a tuple, by the kind of the byte that opens it; 0 for any other kind.
-pub fn closing(k: Kind) -> u8
-    ensures { λ r. ⌜ r ≡ closingOf k ⌝ }
-{
-    match k {
-        Kind::Square => 93,
-        Kind::Round => 41,
-        Kind::Curly
-        | Kind::Quote
-        | Kind::Minus
-        | Kind::Digit
-        | Kind::TrueWord
-        | Kind::FalseWord
-        | Kind::NoneWord
-        | Kind::Other => 0,
-    }
-}
-
-// The value at `at`: how it ends, and the dimension that it is. It is asked for its digits first, as nearly every member has no sign.
-fn member_at(text: &[u8], at: usize, room: usize) -> Item
-    ensures { λ r. ⌜ r .ended ≡ pos (valueOf room (now (text .entry)) at) ⌝ }
-    ensures { λ r. ⌜ SizeAt (now (text .entry)) at (r .size) ⌝ }
-{
-    let d = numeral_at(text, at);
-    let ended = d.ended;
-    let number = d.number;
-    let Parsed::Value(e) = ended else {
-        return other_at(text, at, room);
-    };
-    Item {
-        ended: Parsed::Value(e),
-        size: positive(number),
-    }
-}
-
-// The same where no digit stands.
-fn other_at(text: &[u8], at: usize, room: usize) -> Item
-    requires { ⌜ isDigit (byteAt (now text) at) ≡ false ⌝ }
-    ensures { λ r. ⌜ r .ended ≡ pos (valueOf room (now (text .entry)) at) ⌝ }
-    ensures { λ r. ⌜ SizeAt (now (text .entry)) at (r .size) ⌝ }
-{
-    if peek(text, at) != 45 {
-        return Item {
-            ended: value(text, at, room),
-            size: Member::Form,
-        };
-    }
-    let d = numeral_at(text, at + 1);
-    let ended = d.ended;
-    let number = d.number;
-    Item {
-        ended: ended,
-        size: negative(number),
     }
 }

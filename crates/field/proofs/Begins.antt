@@ -12,7 +12,7 @@ use Rattle.tokens.specs.declared.bytes.Kind.{Kind}
 use Rattle.tokens.specs.declared.bytes.Kind.the-variants.{Square, Round, Curly, Quote, Minus, Digit, TrueWord, FalseWord, NoneWord, Other}
 use Rattle.tokens.proofs.bytes.Kind.{the-type}
 use Rattle.tokens.proofs.Positions.{kind-in}
-use Rattle.dims.specs.Walk.{closingOf}
+use Rattle.member.specs.Members.{closingOf}
 use Rattle.field.specs.Begins.{isString}
 
 true-false : {A : Type 0} → true ≡ false → A

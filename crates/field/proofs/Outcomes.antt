@@ -14,7 +14,7 @@ use Rattle.type_str.proofs.Outcomes.{answer-one}
 use Rattle.tokens.specs.declared.Parsed.{Parsed}
 use Rattle.tokens.specs.Text.{byteAt, kindOf}
 use Rattle.literal.specs.declared.gaps.Gap.{Gap}
-use Rattle.dims.specs.Walk.{closingOf}
+use Rattle.member.specs.Members.{closingOf}
 use Rattle.field.specs.declared.Typed.{Typed}
 use Rattle.field.specs.Begins.{isString, gapPlace}
 

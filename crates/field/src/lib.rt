@@ -1,7 +1,7 @@
 // What both walks over a descr, the judging and the filling one, ask of a header's text (document 01, "The record": "`descr` is a string (a type string) or
 // a list (a record). Each record item is a list or tuple of 2 or 3"). These serve our own crates. No function here has a `requires`.
-use dims::closing;
 use literal::gaps::Gap;
+use member::closing;
 use tokens::Parsed;
 use tokens::bytes::Kind;
 use tokens::bytes::kind_of;
@@ -14,7 +14,7 @@ ghost use Rattle.type_str.specs.Answer.{answer};
 ghost use Rattle.type_str.specs.TypeString.{typeString};
 ghost use Rattle.tokens.specs.Text.{byteAt, kindOf};
 ghost use Rattle.tokens.specs.Strings.{spelled};
-ghost use Rattle.dims.specs.Walk.{closingOf};
+ghost use Rattle.member.specs.Members.{closingOf};
 ghost use Rattle.field.specs.Begins.{isString, gapPlace};
 
 // Whether a string begins at `at`.

@@ -41,7 +41,7 @@ use Rattle.literal.proofs.Steps.{gapLeft, gap-falls}
 use Rattle.fill.specs.declared.Spot.{Spot}
 use Rattle.fill.specs.declared.Many.{Many}
 use Rattle.fill.specs.declared.Head.{Head}
-use Rattle.dims.specs.Walk.{closingOf}
+use Rattle.member.specs.Members.{closingOf}
 use Rattle.field.specs.declared.Typed.{Typed}
 use Rattle.field.specs.Begins.{gapPlace, isString}
 use Rattle.entry.specs.Written.{typeIn, put, bare, above}

@@ -27,9 +27,9 @@ use Rattle.literal.specs.Literal.{value}
 use Rattle.dims.specs.Answer.{dimensionsAt}
 use Rattle.products.specs.Outline.{outlineOf}
 use Rattle.products.specs.declared.Outline.{Outline}
-use Rattle.dims.specs.declared.inner.Filled as dims-filled
-use Rattle.dims.specs.Fill as dims
-use Rattle.dims.proofs.Stored.{stored-over}
+use Rattle.stored.specs.declared.Filled as dims-filled
+use Rattle.stored.specs.Fill as dims
+use Rattle.stored.proofs.Stored.{stored-over}
 use Rattle.sums.specs.declared.Totals.{Totals}
 use Rattle.sums.proofs.Limits.{entries-are, names-are}
 use Rattle.fill.specs.Filled.{DueAt, Fills}

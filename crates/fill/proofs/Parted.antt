@@ -37,11 +37,11 @@ use Rattle.literal.proofs.gaps.Gap.{the-type}
 use Rattle.tokens.proofs.Positions.{kind-in}
 use Rattle.literal.proofs.View.{view, value-kind}
 use Rattle.dims.specs.Answer.{dimensionsAt}
-use Rattle.dims.specs.declared.inner.Filled.{Filled}
-use Rattle.dims.specs.Fill.{Stored}
-use Rattle.dims.proofs.Stored.{stored-over}
+use Rattle.stored.specs.declared.Filled.{Filled}
+use Rattle.stored.specs.Fill.{Stored}
+use Rattle.stored.proofs.Stored.{stored-over}
 use Rattle.entry.specs.Written.{sizeOver, above}
-use Rattle.dims.specs.Walk.{closingOf}
+use Rattle.member.specs.Members.{closingOf}
 use Rattle.dims.proofs.Held.{Bracket, bracket, no-bracket}
 use Rattle.field.specs.Begins.{gapPlace}
 use Rattle.fill.specs.Filled.{OneField, namePlace, nameSpelled, innerPlace, DueShape, Shaped}

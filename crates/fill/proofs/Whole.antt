@@ -17,7 +17,7 @@ use Rattle.dtype.specs.Record.{table, names}
 use Rattle.dtype.specs.Limits.{overLevels}
 use Rattle.dtype.proofs.Seen.{table-length, all-names-length}
 use Rattle.record.specs.Rooms.{atFront}
-use Rattle.dims.proofs.Stored.{stored-over}
+use Rattle.stored.proofs.Stored.{stored-over}
 use Rattle.fill.specs.Filled.{Narrow, NarrowIn}
 
 -- ---- 13

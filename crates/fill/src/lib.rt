@@ -108,7 +108,7 @@ fn house(
         return TextRead::Refused(Refusal::Room);
     }
     fill(text, descr.at, OPEN - 1, table, 0, 0, 0, names, 0);
-    dims::inner::fill(text, shaped.at, OPEN - 1, shape);
+    stored::fill(text, shaped.at, OPEN - 1, shape);
     TextRead::Read(Said {
         order: order,
         rank: rank,
@@ -274,7 +274,7 @@ fn shaped(
         };
     };
     let mut shape: [u64; 32] = [0; 32];
-    let s = dims::inner::fill(text, p, room, &mut shape);
+    let s = stored::fill(text, p, room, &mut shape);
     let rank = s.rank;
     let stop = s.stop;
     let size = put_over(table, entry, up, name, &shape[..rank], r.entry, r.size);

@@ -21,7 +21,7 @@ use Rattle.tokens.proofs.Positions.{getD-any, kind-in}
 use Rattle.literal.specs.Brackets.{colonAt, keyBy}
 use Rattle.literal.specs.Literal.{value}
 use Rattle.literal.proofs.Steps.{Stops, key-stop, key-colon}
-use Rattle.dims.proofs.Numbers.{token-value}
+use Rattle.member.proofs.Numbers.{token-value}
 use Rattle.field.proofs.Escapes.{raw-inside, raw-says}
 use Rattle.key_names.specs.declared.Name.{Name}
 use Rattle.key_names.specs.Answer.{Named}

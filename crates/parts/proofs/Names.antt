@@ -11,7 +11,7 @@ use Rattle.tokens.specs.Strings.{spelled}
 use Rattle.tokens.specs.declared.Parsed.{Parsed}
 use Rattle.tokens.specs.declared.bytes.Kind.the-variants.{Quote}
 use Rattle.literal.specs.Literal.{value}
-use Rattle.dims.proofs.Numbers.{token-value}
+use Rattle.member.proofs.Numbers.{token-value}
 use Rattle.field.specs.Begins.{isString}
 use Rattle.field.proofs.Begins.{string-kind}
 use Rattle.sums.specs.Totals.{nameTotals}

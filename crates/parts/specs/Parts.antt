@@ -1,6 +1,6 @@
 -- The verdicts on a field's name and on what stands behind its inner descr, by what stands in the text. Document 01, "The record": "Each record item is a
--- list or tuple of 2 or 3: name string, inner descr, and perhaps a sub-shape." Where a fault of the literal stands they are not told: their caller looks at
--- the end first. Definitions only. Assumes nothing.
+-- list or tuple of 2 or 3: name string, inner descr, and perhaps a sub-shape." Where a fault of the literal stands they say nothing of a value: the caller
+-- looks at the end first. Definitions only. Assumes nothing.
 use Prim.Native.Nat.{ℕ, _+_}
 use mathlib.Core.List.{List}
 use mathlib.Core.Bool.{cond}

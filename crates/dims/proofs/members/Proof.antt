@@ -63,7 +63,7 @@ loop-again : tie.Need-loop-again Inv-loop μ-loop
 loop-again c =
     let a = c .before .before .before .before .before .before .before .before .before .before .before .before .args in
     let l = c .before .before .before .before .before .before .before .before .before .loop in
-    walking-more (a .room) (a .text .now) (a .close) (a .from) (a .met) (c .before .before .before .before .before .before .before .before .before .before .before .before .fits .close .fits) (l .g) (c .then-at .result) (l .verdict) (c .before .joined .result) (c .before .before .before .before .before .before .before .g .given .0 .0) (c .before .before .before .ended .given .0 .0) (c .before .before .before .before .before .member-at .result .ended) (c .before .before .before .before .before .member-at .result .size) (c .before .before .before .before .before .before .before .g .given .1) (c .before .before .before .ended .given .1) (c .before .before .before .before .before .member-at .ensures .0) (c .before .before .before .before .before .member-at .ensures .1) (c .before .joined .ensures) (c .then-at .ensures) (omega arith) (l .inv)
+    walking-more (a .room) (a .text .now) (a .close) (a .from) (a .met) (c .before .before .before .before .before .before .before .before .before .before .before .before .fits .close .fits) (l .g) (c .then-at .result) (l .verdict) (c .before .joined .result) (c .before .before .before .before .before .before .before .g .given .0 .0) (c .before .before .before .ended .given .0 .0) (c .before .before .before .before .before .member-at .result .ended) (c .before .before .before .before .before .member-at .result .size) (c .before .before .before .before .before .before .before .g .given .1) (c .before .before .before .ended .given .1) (c .before .before .before .before .before .member-at .ensures .0) (c .before .before .before .before .before .member-at .ensures .1 .0) (c .before .joined .ensures) (c .then-at .ensures) (omega arith) (l .inv)
 
 pub members-spec : {M : Type 1} → statement M
 members-spec =

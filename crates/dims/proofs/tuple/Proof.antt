@@ -77,7 +77,7 @@ returns-4 c =
     let hg : gapAt s (a .from) 41 ≡ _ = sym (c .before .before .before .before .before .before .before .before .before .before .before .before .before .before .gap-at .ensures) ∙ c .before .before .before .before .before .before .before .before .before .before .before .before .g .given .1 in
     let m = c .before .before .before .before .before .before .before .before .before .before .member-at in
     let one = first-joined (c .before .before .nothing2 .result) (c .before .joined .result) (m .result .size) (c .before .before .nothing2 .ensures) (c .before .joined .ensures) in
-    round-more (a .room) s (a .from) (gives (outlineOf [])) _ (m .result .ended) hg (m .ensures .0) _ (c .before .before .before .before .before .before .before .before .first .given .1) (c .before .before .before .before .before .before .need .result) (c .before .before .before .before .before .before .need .ensures) _ (m .result .size) (c .before .joined .result) (c .members .result) (c .before .before .before .before .c .given .1) (m .ensures .1) (one .0) (c .members .ensures)
+    round-more (a .room) s (a .from) (gives (outlineOf [])) _ (m .result .ended) hg (m .ensures .0) _ (c .before .before .before .before .before .before .before .before .first .given .1) (c .before .before .before .before .before .before .need .result) (c .before .before .before .before .before .before .need .ensures) _ (m .result .size) (c .before .joined .result) (c .members .result) (c .before .before .before .before .c .given .1) (m .ensures .1 .0) (one .0) (c .members .ensures)
 
 pub tuple-spec : {M : Type 1} → statement M
 tuple-spec =

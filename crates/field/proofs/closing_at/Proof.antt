@@ -1,7 +1,7 @@
 -- By the kind of the byte. Assumes nothing.
 use mathlib.Core.Path.{ap, _∙_}
 use Rattle.tokens.specs.Text.{kindOf}
-use Rattle.dims.specs.Walk.{closingOf}
+use Rattle.member.specs.Members.{closingOf}
 use borrow.Author.Needs.{needs}
 use Rattle.field.proofs.closing_at.Statement.{statement}
 use Rattle.field.proofs.closing_at.Tie as tie

@@ -1,6 +1,6 @@
 -- 23, and then the walks that fill. Assumes nothing.
 use mathlib.Core.Path.{sym, _∙_}
-use Rattle.dims.proofs.Stored.{stored-shape}
+use Rattle.stored.proofs.Stored.{stored-shape}
 use Rattle.fill.proofs.Housing.{house-23, fill-due, house-fits}
 use borrow.Author.Needs.{needs}
 use Rattle.fill.proofs.house.Statement.{statement}

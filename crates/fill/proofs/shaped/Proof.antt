@@ -2,7 +2,7 @@
 use native.Mathlib.Omega.{arith}
 use mathlib.Core.Path.{refl, sym, ap, _∙_}
 use lib.ListN.{length}
-use Rattle.dims.proofs.Stored.{stored-shape}
+use Rattle.stored.proofs.Stored.{stored-shape}
 use Rattle.field.specs.Begins.{gapPlace}
 use Rattle.fill.proofs.Parted.{shaped-none, shape-stands, shape-front, shaped-some}
 use borrow.Author.Needs.{needs}

@@ -2,8 +2,8 @@
 use mathlib.Core.Path.{sym}
 use lib.Seq.{set-out}
 use borrow.Author.Needs.{needs}
-use Rattle.dims.proofs.inner.put.Statement.{statement}
-use Rattle.dims.proofs.inner.put.Tie as tie
+use Rattle.stored.proofs.put.Statement.{statement}
+use Rattle.stored.proofs.put.Tie as tie
 
 mul-out : tie.Need-mul-out
 mul-out c = search needs

@@ -5,9 +5,9 @@ use Rattle.literal.specs.Literal as read
 use borrow.Author.Needs.{needs}
 use Rattle.literal.proofs.Ends.{value-ahead}
 use Rattle.literal.proofs.Steps.{gapLeft, turn-less}
-use Rattle.dims.proofs.Stored.{Filling, filling-start, filling-end, filling-stop, filling-none, filling-count, filling-more}
-use Rattle.dims.proofs.inner.fill_members.Statement.{statement}
-use Rattle.dims.proofs.inner.fill_members.Tie as tie
+use Rattle.stored.proofs.Stored.{Filling, filling-start, filling-end, filling-stop, filling-none, filling-count, filling-more}
+use Rattle.stored.proofs.fill_members.Statement.{statement}
+use Rattle.stored.proofs.fill_members.Tie as tie
 
 abbrev Inv-loop : tie.InvT-loop
 Inv-loop text from close room out₀ g₀ i₀ out g i = Filling room text close from out₀ out g i
@@ -60,7 +60,7 @@ returns-3 : tie.Need-returns-3 Inv-loop μ-loop
 returns-3 c =
     let a = c .before .before .before .before .before .before .before .before .before .before .before .before .args in
     let l = c .before .before .before .before .before .before .before .before .loop in
-    filling-none (a .room) (a .text .now) (a .close) (a .from) (a .out .now) (l .out) (l .g) (l .i) (l .inv) _ (c .before .before .before .before .member-at .result .ended) (c .before .before .before .before .before .before .g .given .1) (c .before .before .before .before .member-at .ensures .0) (c .before .before .before .before .member-at .result .size) (c .before .before .before .before .member-at .ensures .1) _ (c .before .before .ended .given .1) (c .match3 .keys2)
+    filling-none (a .room) (a .text .now) (a .close) (a .from) (a .out .now) (l .out) (l .g) (l .i) (l .inv) _ (c .before .before .before .before .member-at .result .ended) (c .before .before .before .before .before .before .g .given .1) (c .before .before .before .before .member-at .ensures .0) (c .before .before .before .before .member-at .result .size) (c .before .before .before .before .member-at .ensures .1 .0) _ (c .before .before .ended .given .1) (c .match3 .keys2)
 
 put-requires : tie.Need-put-requires Inv-loop μ-loop
 put-requires c κs = search needs
@@ -69,7 +69,7 @@ add-i : tie.Need-add-i Inv-loop μ-loop
 add-i c =
     let a = c .before .before .before .before .before .before .before .before .before .before .before .before .before .before .before .before .before .before .args in
     let l = c .before .before .before .before .before .before .before .before .before .before .before .before .before .before .loop in
-    let n = filling-count (a .room) (a .text .now) (a .close) (a .from) (a .out .now) (l .out) (l .g) (l .i) (l .inv) _ (c .before .before .before .before .before .before .before .before .before .before .member-at .result .ended) (c .before .before .before .before .before .before .before .before .before .before .before .before .g .given .1) (c .before .before .before .before .before .before .before .before .before .before .member-at .ensures .0) (c .before .before .before .before .before .before .before .before .before .before .member-at .result .size) (c .before .before .before .before .before .before .before .before .before .before .member-at .ensures .1) _ (c .before .before .before .before .before .before .before .before .ended .given .1) in
+    let n = filling-count (a .room) (a .text .now) (a .close) (a .from) (a .out .now) (l .out) (l .g) (l .i) (l .inv) _ (c .before .before .before .before .before .before .before .before .before .before .member-at .result .ended) (c .before .before .before .before .before .before .before .before .before .before .before .before .g .given .1) (c .before .before .before .before .before .before .before .before .before .before .member-at .ensures .0) (c .before .before .before .before .before .before .before .before .before .before .member-at .result .size) (c .before .before .before .before .before .before .before .before .before .before .member-at .ensures .1 .0) _ (c .before .before .before .before .before .before .before .before .ended .given .1) in
     omega arith
 
 then-at-requires : tie.Need-then-at-requires Inv-loop μ-loop
@@ -86,7 +86,7 @@ loop-again : tie.Need-loop-again Inv-loop μ-loop
 loop-again c =
     let a = c .before .before .before .before .before .before .before .before .before .before .before .before .before .before .before .before .before .before .before .args in
     let l = c .before .before .before .before .before .before .before .before .before .before .before .before .before .before .before .loop in
-    filling-more (a .room) (a .text .now) (a .close) (a .from) (a .out .now) (l .out) (l .g) (l .i) (l .inv) _ (c .before .before .before .before .before .before .before .before .before .before .before .member-at .result .ended) (c .before .before .before .before .before .before .before .before .before .before .before .before .before .g .given .1) (c .before .before .before .before .before .before .before .before .before .before .before .member-at .ensures .0) (c .before .before .before .before .before .before .before .before .before .before .before .member-at .result .size) (c .before .before .before .before .before .before .before .before .before .before .before .member-at .ensures .1) _ (c .before .before .before .before .before .before .before .before .before .ended .given .1) (c .before .before .before .before .before .before .before .before .before .before .before .before .before .before .before .before .before .before .before .fits .close .fits) _ (c .then-at .result) _ (c .before .before .before .before .before .before .size .given .1) (c .before .before .before .put .ensures) (c .then-at .ensures)
+    filling-more (a .room) (a .text .now) (a .close) (a .from) (a .out .now) (l .out) (l .g) (l .i) (l .inv) _ (c .before .before .before .before .before .before .before .before .before .before .before .member-at .result .ended) (c .before .before .before .before .before .before .before .before .before .before .before .before .before .g .given .1) (c .before .before .before .before .before .before .before .before .before .before .before .member-at .ensures .0) (c .before .before .before .before .before .before .before .before .before .before .before .member-at .result .size) (c .before .before .before .before .before .before .before .before .before .before .before .member-at .ensures .1 .0) _ (c .before .before .before .before .before .before .before .before .before .ended .given .1) (c .before .before .before .before .before .before .before .before .before .before .before .before .before .before .before .before .before .before .before .fits .close .fits) _ (c .then-at .result) _ (c .before .before .before .before .before .before .size .given .1) (c .before .before .before .put .ensures) (c .then-at .ensures)
 
 pub fill-members-spec : {M : Type 1} → statement M
 fill-members-spec =

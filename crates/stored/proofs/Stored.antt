@@ -42,12 +42,13 @@ use Rattle.products.proofs.Member.{the-type}
 use Rattle.products.specs.declared.Member as member
 use Rattle.products.specs.declared.Member.{Member}
 use Rattle.products.specs.Answer.{sized}
+use Rattle.member.specs.Members.{closingOf, SizeAt}
 use Rattle.dims.specs.Answer.{dimensionsAt}
-use Rattle.dims.specs.Walk.{closingOf, dimensionsOf, SizeAt}
-use Rattle.dims.specs.declared.inner.Filled.{Filled}
-use Rattle.dims.specs.Fill.{frontFrom, frontIn, frontAt, stopFrom, stopIn, stopAt, Stored, Fills}
+use Rattle.dims.specs.Walk.{dimensionsOf}
+use Rattle.stored.specs.declared.Filled.{Filled}
+use Rattle.stored.specs.Fill.{frontFrom, frontIn, frontAt, stopFrom, stopIn, stopAt, Stored, Fills}
 use Rattle.dims.proofs.Goes.{Counted, counted-none, counted-at, counted-more}
 use Rattle.dims.proofs.Held.{Bracket, bracket, no-bracket}
 
 -- ---- the loop
 module _ (k : ℕ) (s : List ℕ) (close : ℕ) where

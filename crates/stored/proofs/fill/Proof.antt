@@ -5,10 +5,10 @@ use lib.ListN.{length}
 use lib.Seq.{sets}
 use borrow.Author.Needs.{needs}
 use Rattle.tokens.specs.Text.{kindOf}
-use Rattle.dims.specs.Walk.{closingOf}
-use Rattle.dims.proofs.Stored.{front-nothing, front-some}
-use Rattle.dims.proofs.inner.fill.Statement.{statement}
-use Rattle.dims.proofs.inner.fill.Tie as tie
+use Rattle.member.specs.Members.{closingOf}
+use Rattle.stored.proofs.Stored.{front-nothing, front-some}
+use Rattle.stored.proofs.fill.Statement.{statement}
+use Rattle.stored.proofs.fill.Tie as tie
 
 peek-requires : tie.Need-peek-requires
 peek-requires c κs = search needs

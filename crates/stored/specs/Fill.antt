@@ -18,9 +18,9 @@ use Rattle.literal.specs.Literal.{value}
 use Rattle.literal.specs.Brackets.{gapAt, thenAt}
 use Rattle.literal.specs.declared.gaps.Gap.{Gap}
 use Rattle.literal.specs.declared.gaps.Gap.the-variants.{Shut, Item, Stray}
-use Rattle.dims.specs.declared.inner.Filled.{Filled}
+use Rattle.member.specs.Members.{closingOf}
 use Rattle.dims.specs.Answer.{dimensionsAt}
-use Rattle.dims.specs.Walk.{closingOf}
+use Rattle.stored.specs.declared.Filled.{Filled}
 
 -- the dimensions from a gap on, fewer than m: as far as each item is one
 unfoldable pub frontFrom : (ℕ → Got Node) → List ℕ → ℕ → ℕ → Gap → List ℕ

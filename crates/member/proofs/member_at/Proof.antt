@@ -2,10 +2,10 @@
 use mathlib.Core.Path.{refl, sym, _∙_}
 use Rattle.tokens.specs.declared.bytes.Kind.the-variants.{Digit}
 use Rattle.products.specs.Answer.{sized}
-use Rattle.dims.proofs.Numbers.{token-value, numeral-ends, numeral-number, numeral-stands, no-numeral, dimension-digit}
+use Rattle.member.proofs.Numbers.{token-value, numeral-ends, numeral-number, numeral-stands, no-numeral, dimension-digit, member-digit}
 use borrow.Author.Needs.{needs}
-use Rattle.dims.proofs.member_at.Statement.{statement}
-use Rattle.dims.proofs.member_at.Tie as tie
+use Rattle.member.proofs.member_at.Statement.{statement}
+use Rattle.member.proofs.member_at.Tie as tie
 
 numeral-at-requires : tie.Need-numeral-at-requires
 numeral-at-requires c κs = search needs
@@ -30,7 +30,10 @@ returns-2 c =
     let hr = c .before .before .before .before .numeral-at .ensures in
     let hk = numeral-stands s (a .at) r hr _ (c .before .before .ended .given .1) in (
       sym (c .before .before .ended .given .1) ∙ numeral-ends s (a .at) r hr ∙ token-value (a .room) s (a .at) Digit hk refl,
-      λ k n e h. dimension-digit k s (a .at) e n h (sized (c .positive .result)) hk (λ e he. c .positive .ensures .0 _ (numeral-number s (a .at) r hr e he)),
+      (
+        λ k n e h. dimension-digit k s (a .at) e n h (sized (c .positive .result)) hk (λ e he. c .positive .ensures .0 _ (numeral-number s (a .at) r hr e he)),
+        member-digit s (a .at) (c .positive .result) r hr _ (c .before .before .ended .given .1) (c .positive .ensures .1),
+      ),
     )
 
 pub member-at-spec : {M : Type 1} → statement M

@@ -6,11 +6,12 @@ use lib.Dec.{lit<}
 use Rattle.tokens.specs.Text.{byteAt}
 use Rattle.tokens.specs.declared.bytes.Kind.the-variants.{Minus}
 use Rattle.tokens.proofs.Positions.{byte-in}
+use Rattle.products.specs.declared.Member.the-variants.{Form}
 use Rattle.products.specs.Answer.{sized}
-use Rattle.dims.proofs.Numbers.{token-value, minus-kind, numeral-ends, numeral-number, dimension-minus, dimension-other}
+use Rattle.member.proofs.Numbers.{token-value, minus-kind, numeral-ends, numeral-number, dimension-minus, dimension-other, member-minus, member-none}
 use borrow.Author.Needs.{needs}
-use Rattle.dims.proofs.other_at.Statement.{statement}
-use Rattle.dims.proofs.other_at.Tie as tie
+use Rattle.member.proofs.other_at.Statement.{statement}
+use Rattle.member.proofs.other_at.Tie as tie
 
 peek-requires : tie.Need-peek-requires
 peek-requires c κs = search needs
@@ -22,7 +23,7 @@ returns : tie.Need-returns
 returns c =
     let a = c .before .before .before .before .args in
     let no : byteAt (a .text .now) (a .at) ≡ 45 → ⊥ = λ e. c .before .if1 .taken (c .before .before .peek .ensures ∙ e) in
-    (c .value .ensures, λ k n e h. dimension-other k (a .text .now) (a .at) e n h no (c .before .before .before .before .pre))
+    (c .value .ensures, (λ k n e h. dimension-other k (a .text .now) (a .at) e n h no (c .before .before .before .before .pre), member-none (a .text .now) (a .at) Form (c .before .before .before .before .pre) no))
 
 add-numeral-at : tie.Need-add-numeral-at
 add-numeral-at c =
@@ -41,7 +42,10 @@ returns-2 c =
     let s = a .text .now in
     let hk = minus-kind (byteAt s (a .at)) (sym (c .before .before .before .peek .ensures) ∙ c .before .before .if1 .left) in (
       numeral-ends s (a .at + 1) (c .before .numeral-at .result) (c .before .numeral-at .ensures) ∙ token-value (a .room) s (a .at) Minus hk refl,
-      λ k n e h. dimension-minus k s (a .at) e n h (sized (c .negative .result)) hk (λ e he. c .negative .ensures .0 _ (numeral-number s (a .at + 1) (c .before .numeral-at .result) (c .before .numeral-at .ensures) e he)),
+      (
+        λ k n e h. dimension-minus k s (a .at) e n h (sized (c .negative .result)) hk (λ e he. c .negative .ensures .0 _ (numeral-number s (a .at + 1) (c .before .numeral-at .result) (c .before .numeral-at .ensures) e he)),
+        member-minus s (a .at) (c .negative .result) (c .before .before .before .before .before .pre) (c .before .numeral-at .result) (c .before .numeral-at .ensures) (sym (c .before .before .before .peek .ensures) ∙ c .before .before .if1 .left) (c .negative .ensures .1),
+      ),
     )
 
 pub other-at-spec : {M : Type 1} → statement M

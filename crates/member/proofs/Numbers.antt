@@ -1,12 +1,12 @@
--- Digits at a position are the integer that stands there, for the kind of its first byte says so. Assumes nothing.
+-- Digits at a position are the integer that stands there, for the kind of its first byte says so; and the bracket that closes, by that kind. Assumes nothing.
 use Prim.Native.Nat.{ℕ, _+_}
 use mathlib.Core.Path.{_≡_, refl, sym, ap, subst, _∙_}
 use mathlib.Core.List.{List, [], _∷_}
 use mathlib.Core.Bool.{Bool, true, false, _||_, cond}
 use lib.Dec.{eqb}
-use borrow.Author.Tests.{eqb-true, ne-eqb}
+use borrow.Author.Tests.{eqb-true, eq-eqb, ne-eqb}
 use denote.Enum.Declared.{tagOf}
-use types.Run.{OneOf}
+use types.Run.{OneOf, miss}
 use Rattle.counts.specs.Outcome.{Outcome, refused}
 use Rattle.counts.specs.Number.{number}
 use Rattle.decimal.specs.Decimal.{isDigit, decimal}
@@ -26,9 +26,14 @@ use Rattle.tokens.specs.declared.Parsed.the-variants.{Value, Fault, Deep}
 use Rattle.tokens.specs.declared.bytes.Kind.{Kind}
 use Rattle.tokens.specs.declared.bytes.Kind.the-variants.{Square, Round, Curly, Quote, Minus, Digit, TrueWord, FalseWord, NoneWord, Other}
 use Rattle.tokens.proofs.Parsed as parsed
+use Rattle.tokens.proofs.bytes.Kind.{the-type}
 use Rattle.tokens.proofs.Ends.{tokenEnd, token-ends}
 use Rattle.literal.proofs.Steps.{Stops, stops, value-token}
 use Rattle.literal.proofs.View.{view}
+use Rattle.products.specs.declared.Member.{Member}
+use Rattle.products.specs.declared.Member.the-variants.{Form}
+use Rattle.signs.specs.Answer.{positiveOf, negativeOf}
+use Rattle.member.specs.Members.{closingOf, memberAt}
 
 -- ---- digits at a position, and the kind of the byte there
 digit-not : (b k : ℕ) → isDigit b ≡ true → isDigit k ≡ false → eqb b k ≡ false
@@ -115,6 +120,27 @@ module _ (s : List ℕ) (at : ℕ) where
         go (Fault e) h n = n
         go (Deep e) h n = absurd n
 
+-- ---- the dimension that they are, by the first byte
+module _ (s : List ℕ) (at : ℕ) (d : Member) where
+  abbrev behindSign : Member
+  behindSign = cond (eqb (byteAt s at) 45) (negativeOf (numeralAt s (at + 1) .number)) Form
+
+  pub member-digit : (r : Numeral) → r ≡ numeralAt s at → (e : ℕ) → r .ended ≡ Value e → d ≡ positiveOf (r .number) → d ≡ memberAt s at
+  member-digit r hr e he hd =
+      let t = subst (Natural s at) (sym (numeral-ends s at r hr) ∙ he) (natural-is s at) in
+      hd ∙ (ap (λ (x : Numeral). positiveOf (x .number)) hr ∙ sym (ap (λ (b : Bool). cond b (positiveOf (numeralAt s at .number)) behindSign) t))
+
+  module _ (no : isDigit (byteAt s at) ≡ false) where
+    no-digit : behindSign ≡ memberAt s at
+    no-digit = sym (ap (λ (b : Bool). cond b (positiveOf (numeralAt s at .number)) behindSign) no)
+
+    pub member-minus : (r : Numeral) → r ≡ numeralAt s (at + 1) → byteAt s at ≡ 45 → d ≡ negativeOf (r .number) → d ≡ memberAt s at
+    member-minus r hr hb hd =
+        hd ∙ (ap (λ (x : Numeral). negativeOf (x .number)) hr ∙ (sym (ap (λ (b : Bool). cond b (negativeOf (numeralAt s (at + 1) .number)) Form) (eq-eqb _ _ hb)) ∙ no-digit))
+
+    pub member-none : (byteAt s at ≡ 45 → ⊥) → Form ≡ memberAt s at
+    member-none hb = sym (ap (λ (b : Bool). cond b (negativeOf (numeralAt s (at + 1) .number)) Form) (ne-eqb _ _ hb)) ∙ no-digit
+
 -- ---- the value at a byte that opens no bracket ends as the token there
 abbrev pub isBracket : Kind → Bool
 isBracket Square = true
@@ -169,3 +195,17 @@ module _ (k : ℕ) (s : List ℕ) (at e : ℕ) (n : Node) (h : value k s at ≡ 
 
   pub dimension-other : (byteAt s at ≡ 45 → ⊥) → isDigit (byteAt s at) ≡ false → refused 11 ≡ dimension (forget n)
   dimension-other hm hd = other-by (kindOf (byteAt s at)) (no-integer (byteAt s at) hm hd) (view k s at h refl)
+
+-- ---- the bracket that closes
+-- every kind but a list's and a tuple's
+pub other-kind : (k : Kind) → OneOf (2 ∷ 3 ∷ 4 ∷ 5 ∷ 6 ∷ 7 ∷ 8 ∷ 9 ∷ []) (tagOf the-type k) → closingOf k ≡ 0
+other-kind Square o = absurd (miss (2 ∷ 3 ∷ 4 ∷ 5 ∷ 6 ∷ 7 ∷ 8 ∷ 9 ∷ []) 0 tt o)
+other-kind Round o = absurd (miss (2 ∷ 3 ∷ 4 ∷ 5 ∷ 6 ∷ 7 ∷ 8 ∷ 9 ∷ []) 1 tt o)
+other-kind Curly o = refl
+other-kind Quote o = refl
+other-kind Minus o = refl
+other-kind Digit o = refl
+other-kind TrueWord o = refl
+other-kind FalseWord o = refl
+other-kind NoneWord o = refl
+other-kind Other o = refl

@@ -1,10 +1,10 @@
 -- By the kind. Assumes nothing.
 use mathlib.Core.Path.{sym, ap}
-use Rattle.dims.specs.Walk.{closingOf}
-use Rattle.dims.proofs.Held.{other-kind}
+use Rattle.member.specs.Members.{closingOf}
+use Rattle.member.proofs.Numbers.{other-kind}
 use borrow.Author.Needs.{needs}
-use Rattle.dims.proofs.closing.Statement.{statement}
-use Rattle.dims.proofs.closing.Tie as tie
+use Rattle.member.proofs.closing.Statement.{statement}
+use Rattle.member.proofs.closing.Tie as tie
 
 enum-told : tie.Need-enum-told
 enum-told c = search needs
