@@ -19,7 +19,7 @@ use Rattle.grammar.proofs.Texts.{headOf, quote-by}
 use Rattle.grammar.proofs.Reading as reading
 use Rattle.grammar.proofs.Reading.{Read, bracketed, chosen}
 use Rattle.decimal.specs.Decimal.{isDigit, decimal}
-use Rattle.tokens.proofs.Positions.{byte-in, kind-in}
+use Rattle.classes.proofs.Positions.{byte-in, kind-in}
 use Rattle.literal.proofs.Ends.{past-within, pair-ahead, value-ahead}
 use Rattle.literal.proofs.Steps.{value-token}
 use Rattle.literal.proofs.Left.{head-left, tail-left, drop-left, skip-left, Agrees, agrees-with}
@@ -27,14 +27,14 @@ use Rattle.literal.proofs.AgreeTokens.{as-read, natural-agrees, word-ag
 use Rattle.literal.proofs.AgreeBrackets.{list-agrees, tuple-agrees, forgetPair, pair-agrees}
 use Rattle.tokens.specs.Node.{Node, Pair, span, string, integer, True, False, None, list, tuple, dict, nodes, pairs}
 use Rattle.literal.specs.Forget.{forget, forgetAll, forgetPairs}
-use Rattle.tokens.specs.Got.{Got, got, fault, deep, with, giving}
-use Rattle.tokens.specs.Text.{byteAt, part, kindOf, skip}
+use Rattle.classes.specs.Got.{Got, got, fault, deep, with, giving}
+use Rattle.classes.specs.Text.{byteAt, part, kindOf, skip}
 use Rattle.tokens.specs.Tokens.{naturalAt, word-true, word-false, word-none, tokenAt}
 use Rattle.literal.specs.Brackets.{pairBy}
 use Rattle.literal.specs.Literal.{bracketBy, value as valueOf, alone, literalOf, most-open}
-use Rattle.tokens.specs.declared.Parsed.{Parsed}
-use Rattle.tokens.specs.declared.Parsed.the-variants.{Value as Ends, Fault, Deep}
-use Rattle.tokens.specs.declared.bytes.Kind.the-variants.{Quote, Digit, Other}
+use Rattle.classes.specs.declared.Parsed.{Parsed}
+use Rattle.classes.specs.declared.Parsed.the-variants.{Value as Ends, Fault, Deep}
+use Rattle.classes.specs.declared.Kind.the-variants.{Quote, Digit, Other}
 
 -- ---- what both readings ask of a first byte
 module _ (P : ℕ → Type 0) (square : P 91) (round : P 40) (curly : P 123) (minus : P 45) (t : P 84) (f : P 70) (n : P 78) (single : P 39) (double : P 34)

@@ -1,57 +1,27 @@
 -- Where readings end: a value ends behind its first byte and within the text. Each law follows the definition that it speaks of. Assumes nothing.
 use Prim.Native.Nat.{ℕ, zero, suc, _+_, _<_, _≤_}
 use native.Mathlib.Omega.{arith}
-use mathlib.Core.Path.{_≡_}
 use mathlib.Core.List.{List, [], _∷_}
 use mathlib.Core.Bool.{Bool, true, false}
 use lib.ListN.{length}
 use lib.Dec.{eqb, lit<}
-use borrow.Author.Tests.{eqb-true}
 use Rattle.grammar.specs.Bytes.{isBlank, isOpen}
-use Rattle.tokens.proofs.Positions.{by-test, byte-in, past-from}
+use Rattle.classes.proofs.Positions.{past-from}
+use Rattle.gaps.proofs.Ends.{GapAhead, gap-from, gap-ahead, need-ahead, then-ahead}
 use Rattle.tokens.specs.Node.{Node, Pair, span, nodes, pairs, list, tuple, dict, pair}
-use Rattle.tokens.specs.Got.{Got, got, fault, deep, pos, with}
-use Rattle.tokens.specs.Text.{byteAt, skip}
+use Rattle.classes.specs.Got.{Got, got, fault, deep, pos, with}
+use Rattle.classes.specs.Text.{byteAt, skip}
 use Rattle.tokens.specs.Tokens.{tokenAt}
-use Rattle.literal.specs.Brackets.{gapAt, thenAt, needAt, items, listBy, tupleBy, keyBy, pairBy}
+use Rattle.gaps.specs.Gaps.{gapAt, thenAt, needAt}
+use Rattle.literal.specs.Brackets.{items, listBy, tupleBy, keyBy, pairBy}
 use Rattle.literal.specs.Literal.{bracketBy, value}
-use Rattle.tokens.specs.declared.Parsed.{Parsed}
-use Rattle.tokens.specs.declared.Parsed.the-variants.{Value, Fault, Deep}
-use Rattle.literal.specs.declared.gaps.Gap.{Gap}
-use Rattle.literal.specs.declared.gaps.Gap.the-variants.{Shut, Item, Stray}
-pub use Rattle.tokens.proofs.Ends.{pos-with, pos-giving, Ahead, ahead-from, past-within, Bytes, spelled-ahead, tokenEnd, token-ends, no-token, token-ahead}
-
--- ---- gaps: a bracket is shut behind lo, an item begins at lo or behind it
-abbrev pub GapAhead : ℕ → ℕ → Gap → Type 0
-GapAhead lo hi (Shut e) = (lo < e) × (e ≤ hi)
-GapAhead lo hi (Item p) = lo ≤ p
-GapAhead lo hi (Stray p) = Unit {0}
-
-pub gap-from : (lo mid hi : ℕ) (g : Gap) → lo ≤ mid → GapAhead mid hi g → GapAhead lo hi g
-gap-from lo mid hi (Shut e) le h = omega arith
-gap-from lo mid hi (Item p) le h = omega arith
-gap-from lo mid hi (Stray p) le h = tt
-
-module _ (s : List ℕ) (at close : ℕ) (small : close < 256) where
-  shut-ahead : eqb (byteAt s (skip s at)) close ≡ true → (at < skip s at + 1) × (skip s at + 1 ≤ length s)
-  shut-ahead h = omega (arith, past-from isBlank s at, byte-in s (skip s at) close (eqb-true _ _ h) small)
-
-  pub gap-ahead : GapAhead at (length s) (gapAt s at close)
-  unfolding gapAt
-  gap-ahead = by-test (λ g. GapAhead at (length s) g) (eqb (byteAt s (skip s at)) close) shut-ahead (λ h. past-from isBlank s at)
-
-  pub need-ahead : Ahead at (length s) (needAt s at close)
-  unfolding needAt
-  need-ahead = by-test (λ r. Ahead at (length s) r) (eqb (byteAt s (skip s at)) close) shut-ahead (λ h. tt)
-
-pub then-ahead : (s : List ℕ) (at close : ℕ) → close < 256 → GapAhead at (length s) (thenAt s at close)
-unfolding thenAt
-then-ahead s at close small =
-    by-test P (eqb (byteAt s (skip s at)) close) (shut-ahead s at close small)
-    (λ h. by-test P (eqb (byteAt s (skip s at)) 44) (λ h. gap-from at (skip s at + 1) (length s) (gapAt s (skip s at + 1) close) (omega (arith, past-from isBlank s at)) (gap-ahead s (skip s at + 1) close small)) (λ h. tt))
-  where
-    P : Gap → Type 0
-    P g = GapAhead at (length s) g
+use Rattle.classes.specs.declared.Parsed.{Parsed}
+use Rattle.classes.specs.declared.Parsed.the-variants.{Value, Fault, Deep}
+use Rattle.gaps.specs.declared.Gap.{Gap}
+use Rattle.gaps.specs.declared.Gap.the-variants.{Shut, Item, Stray}
+pub use Rattle.classes.proofs.Ends.{pos-with, pos-giving, Ahead, ahead-from}
+pub use Rattle.classes.proofs.Positions.{past-within}
+pub use Rattle.tokens.proofs.Ends.{Bytes, spelled-ahead, tokenEnd, token-ends, no-token, token-ahead}
 
 -- ---- items, by a reader whose values end ahead of where they begin
 module _ {A : Type 0} (rd : ℕ → Got A) (s : List ℕ) (rd-ahead : (p : ℕ) → Ahead p (length s) (pos (rd p))) where

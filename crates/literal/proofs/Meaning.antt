@@ -14,12 +14,12 @@ use Rattle.grammar.proofs.Kept.{placed, kept-at, only-kept-at, one-outcome-at}
 use Rattle.literal.proofs.Left.{Agrees}
 use Rattle.literal.proofs.AgreeValue.{literal-agrees}
 use Rattle.tokens.specs.Node.{Node}
-use Rattle.tokens.specs.Got.{Got, got, fault, deep, pos}
+use Rattle.classes.specs.Got.{Got, got, fault, deep, pos}
 use Rattle.literal.specs.Forget.{forget, forgot}
 use Rattle.literal.specs.Literal.{literalOf, most-open}
 use Rattle.literal.specs.Answer.{answer, ends, Keeps, Reads}
-use Rattle.tokens.specs.declared.Parsed.{Parsed}
-use Rattle.tokens.specs.declared.Parsed.the-variants.{Value, Fault, Deep}
+use Rattle.classes.specs.declared.Parsed.{Parsed}
+use Rattle.classes.specs.declared.Parsed.the-variants.{Value, Fault, Deep}
 
 module _ (s : List ℕ) where
   position : (p : ℕ) (q : List ℕ) → p ≤ length s → q ≡ drop p s → length s - length q ≡ p

@@ -9,17 +9,20 @@ use mathlib.Core.Bool.{Bool, true, false}
 use lib.ListN.{length}
 use lib.Dec.{eqb}
 use borrow.Author.Tests.{eqb-true}
-use Rattle.literal.proofs.Ends.{Ahead, then-ahead}
-use Rattle.literal.proofs.Steps.{Stops, gapLeft, gap-enough, gap-falls}
+use Rattle.literal.proofs.Ends.{Ahead}
+use Rattle.gaps.proofs.Ends.{then-ahead}
+use Rattle.classes.proofs.Ends.{Stops}
+use Rattle.literal.proofs.Steps.{gapLeft, gap-enough, gap-falls}
 use Rattle.tokens.specs.Node.{Node, Pair, pair}
-use Rattle.tokens.specs.Got.{Got, got, fault, deep, pos, with}
-use Rattle.tokens.specs.Text.{byteAt, skip}
-use Rattle.literal.specs.Brackets.{gapAt, thenAt, needAt, items, listBy, tupleBy, keyBy, pairBy}
+use Rattle.classes.specs.Got.{Got, got, fault, deep, pos, with}
+use Rattle.classes.specs.Text.{byteAt, skip}
+use Rattle.gaps.specs.Gaps.{gapAt, thenAt, needAt}
+use Rattle.literal.specs.Brackets.{items, listBy, tupleBy, keyBy, pairBy}
 use Rattle.literal.specs.Rows.{Row}
-use Rattle.tokens.specs.declared.Parsed.{Parsed}
-use Rattle.tokens.specs.declared.Parsed.the-variants.{Value, Fault, Deep}
-use Rattle.literal.specs.declared.gaps.Gap.{Gap}
-use Rattle.literal.specs.declared.gaps.Gap.the-variants.{Shut, Item, Stray}
+use Rattle.classes.specs.declared.Parsed.{Parsed}
+use Rattle.classes.specs.declared.Parsed.the-variants.{Value, Fault, Deep}
+use Rattle.gaps.specs.declared.Gap.{Gap}
+use Rattle.gaps.specs.declared.Gap.the-variants.{Shut, Item, Stray}
 
 module _ {A : Type 0} (rd : ℕ → Got A) (s : List ℕ) (close : ℕ) where
   -- what a reading of the items from the gap on says of them

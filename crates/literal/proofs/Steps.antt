@@ -12,31 +12,22 @@ use borrow.Author.Tests.{eq-eqb, ne-eqb}
 use denote.Enum.Declared.{tagOf}
 use types.Run.{OneOf, miss}
 use Rattle.grammar.specs.Bytes.{isOpen}
-use Rattle.tokens.proofs.Parsed.{the-type}
-use Rattle.literal.proofs.gaps.Gap as gap
-use Rattle.literal.proofs.Ends.{pos-with, Ahead, GapAhead, gap-from, gap-ahead, then-ahead}
+use Rattle.classes.proofs.Parsed.{the-type}
+use Rattle.classes.proofs.Ends.{Stops, stops}
+use Rattle.gaps.proofs.Gap as gap
+use Rattle.literal.proofs.Ends.{pos-with, Ahead}
+use Rattle.gaps.proofs.Ends.{GapAhead, gap-from, gap-ahead, then-ahead}
 use Rattle.tokens.specs.Node.{Node}
-use Rattle.tokens.specs.Got.{Got, got, fault, deep, pos}
-use Rattle.tokens.specs.Text.{byteAt, skip}
+use Rattle.classes.specs.Got.{Got, got, fault, deep, pos}
+use Rattle.classes.specs.Text.{byteAt, skip}
 use Rattle.tokens.specs.Tokens.{tokenAt}
-use Rattle.literal.specs.Brackets.{gapAt, thenAt, needAt, endedAt, items, listBy, tupleBy, keyBy, pairBy, beginsBy, colonAt}
+use Rattle.gaps.specs.Gaps.{gapAt, thenAt, needAt, endedAt, beginsBy, colonAt}
+use Rattle.literal.specs.Brackets.{items, listBy, tupleBy, keyBy, pairBy}
 use Rattle.literal.specs.Literal.{bracketBy, value, alone, aloneAt, literalOf, most-open}
-use Rattle.tokens.specs.declared.Parsed.{Parsed}
-use Rattle.tokens.specs.declared.Parsed.the-variants.{Value, Fault, Deep}
-use Rattle.literal.specs.declared.gaps.Gap.{Gap}
-use Rattle.literal.specs.declared.gaps.Gap.the-variants.{Shut, Item, Stray}
-
--- ---- a reading that is no value, which every reader above hands on
-abbrev pub Stops : Parsed → Type 0
-Stops (Value e) = ⊥
-Stops (Fault p) = Unit {0}
-Stops (Deep p) = Unit {0}
-
--- what the `else` of `let Parsed::Value(e) = r else { .. }` knows of r
-pub stops : (r : Parsed) → OneOf (1 ∷ 2 ∷ []) (tagOf the-type r) → Stops r
-stops (Value e) h = miss (1 ∷ 2 ∷ []) 0 tt h
-stops (Fault p) h = tt
-stops (Deep p) h = tt
+use Rattle.classes.specs.declared.Parsed.{Parsed}
+use Rattle.classes.specs.declared.Parsed.the-variants.{Value, Fault, Deep}
+use Rattle.gaps.specs.declared.Gap.{Gap}
+use Rattle.gaps.specs.declared.Gap.the-variants.{Shut, Item, Stray}
 
 -- where the outcome is a value, something was read
 pub thing : {A : Type 0} (g : Got A) (e : ℕ) → Value e ≡ pos g → (v : A) × (g ≡ got v e)
@@ -132,11 +123,6 @@ module _ {A : Type 0} (rd : ℕ → Got A) (s : List ℕ) (at : ℕ) where
   tuple-more p q e hg hr hn = rw (tupleBy, hg, thing (rd p) q hr .1, sym hn) (sym (pos-with _ (listBy rd s e 41)))
 
 -- ---- a key with its colon, and a pair
-pub begins-stop : (s : List ℕ) (r : Parsed) → Stops r → r ≡ beginsBy s r
-begins-stop s (Value e) st = absurd st
-begins-stop s (Fault p) st = refl
-begins-stop s (Deep p) st = refl
-
 module _ (rd : ℕ → Got Node) (s : List ℕ) (at : ℕ) where
   key-stop-by : (g : Got Node) → rd at ≡ g → Stops (pos g) → pos g ≡ pos (keyBy rd s at)
   unfolding keyBy

@@ -8,10 +8,10 @@ use mathlib.Core.List.{List}
 use Rattle.counts.specs.Outcome.{Outcome, gives, refused}
 use Rattle.grammar.specs.Value as value
 use Rattle.grammar.specs.Promise.{got, fault, deep, PromiseAt}
-use Rattle.tokens.specs.Got.{Got, pos}
+use Rattle.classes.specs.Got.{Got, pos}
 use Rattle.literal.specs.Literal.{most-open, literalOf}
-use Rattle.tokens.specs.declared.Parsed.{Parsed}
-use Rattle.tokens.specs.declared.Parsed.the-variants.{Value, Fault, Deep}
+use Rattle.classes.specs.declared.Parsed.{Parsed}
+use Rattle.classes.specs.declared.Parsed.the-variants.{Value, Fault, Deep}
 
 -- the end of the value, or document 01's number
 abbrev pub answer : Parsed → Outcome ℕ

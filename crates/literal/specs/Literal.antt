@@ -8,11 +8,11 @@ use lib.ListN.{length}
 use lib.Dec.{eqb}
 use Rattle.grammar.specs.Bytes.{isOpen}
 use Rattle.tokens.specs.Node.{Node, span, list, tuple, dict, nodes, pairs}
-use Rattle.tokens.specs.Got.{Got, got, fault, deep, with}
-use Rattle.tokens.specs.Text.{byteAt, skip}
+use Rattle.classes.specs.Got.{Got, got, fault, deep, with}
+use Rattle.classes.specs.Text.{byteAt, skip}
 use Rattle.tokens.specs.Tokens.{tokenAt}
-use Rattle.tokens.specs.declared.Parsed.{Parsed}
-use Rattle.tokens.specs.declared.Parsed.the-variants.{Value, Fault, Deep}
+use Rattle.classes.specs.declared.Parsed.{Parsed}
+use Rattle.classes.specs.declared.Parsed.the-variants.{Value, Fault, Deep}
 use Rattle.literal.specs.Brackets.{listBy, tupleBy, pairBy}
 
 -- a bracket at `at`, by a reader of the values in it

@@ -6,17 +6,18 @@ use mathlib.Core.Bool.{true, false}
 use mathlib.Core.Path.{_≡_}
 use Rattle.decimal.specs.Decimal.{decimal}
 use Rattle.tokens.specs.Node.{Node, Pair, span, string, integer, True, False, None, list, tuple, dict, nodes, pairs}
-use Rattle.tokens.specs.Got.{Got, got}
-use Rattle.tokens.specs.Text.{byteAt, part}
-use Rattle.tokens.specs.Strings.{spelled}
+use Rattle.classes.specs.Got.{Got, got}
+use Rattle.classes.specs.Text.{byteAt, part}
+use Rattle.escapes.specs.Strings.{spelled}
 use Rattle.tokens.specs.Tokens.{naturalAt}
-use Rattle.literal.specs.Brackets.{gapAt, thenAt, pairBy}
+use Rattle.gaps.specs.Gaps.{gapAt, thenAt}
+use Rattle.literal.specs.Brackets.{pairBy}
 use Rattle.literal.specs.Literal.{value}
-use Rattle.tokens.specs.declared.Parsed.the-variants.{Value}
-use Rattle.tokens.specs.declared.bytes.Kind.{Kind}
-use Rattle.tokens.specs.declared.bytes.Kind.the-variants.{Square, Round, Curly, Quote, Minus, Digit, TrueWord, FalseWord, NoneWord, Other}
-use Rattle.literal.specs.declared.gaps.Gap.{Gap}
-use Rattle.literal.specs.declared.gaps.Gap.the-variants.{Shut, Item, Stray}
+use Rattle.classes.specs.declared.Parsed.the-variants.{Value}
+use Rattle.classes.specs.declared.Kind.{Kind}
+use Rattle.classes.specs.declared.Kind.the-variants.{Square, Round, Curly, Quote, Minus, Digit, TrueWord, FalseWord, NoneWord, Other}
+use Rattle.gaps.specs.declared.Gap.{Gap}
+use Rattle.gaps.specs.declared.Gap.the-variants.{Shut, Item, Stray}
 
 -- a value stands at the position, where k brackets more may open
 abbrev pub Stands : ℕ → List ℕ → ℕ → Type 0

@@ -10,13 +10,13 @@ use Rattle.counts.specs.declared.Number.{Number}
 use Rattle.counts.specs.declared.Number.the-variants.{Over}
 use Rattle.decimal.specs.Decimal.{isDigit, decimal}
 use Rattle.tokens.specs.Node.{Node, span, string, integer, True, False, None}
-use Rattle.tokens.specs.Got.{Got, fault, with, giving}
-use Rattle.tokens.specs.Text.{byteAt, part, kindOf, past}
-use Rattle.tokens.specs.Strings.{stringAt}
-use Rattle.tokens.specs.declared.Parsed.{Parsed}
-use Rattle.tokens.specs.declared.Parsed.the-variants.{Value, Fault, Deep}
-use Rattle.tokens.specs.declared.tokens.Numeral.{Numeral}
-use Rattle.tokens.specs.declared.bytes.Kind.the-variants.{Square, Round, Curly, Quote, Minus, Digit, TrueWord, FalseWord, NoneWord, Other}
+use Rattle.classes.specs.Got.{Got, fault, with, giving}
+use Rattle.classes.specs.Text.{byteAt, part, kindOf, past}
+use Rattle.escapes.specs.Strings.{stringAt}
+use Rattle.classes.specs.declared.Parsed.{Parsed}
+use Rattle.classes.specs.declared.Parsed.the-variants.{Value, Fault, Deep}
+use Rattle.tokens.specs.declared.Numeral.{Numeral}
+use Rattle.classes.specs.declared.Kind.the-variants.{Square, Round, Curly, Quote, Minus, Digit, TrueWord, FalseWord, NoneWord, Other}
 
 -- "`0` or a nonzero digit with more digits"
 unfoldable pub naturalAt : List ℕ → ℕ → Parsed

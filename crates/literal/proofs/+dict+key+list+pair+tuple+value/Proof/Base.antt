@@ -25,14 +25,14 @@ use Rattle.literal.proofs.+dict+key+list+pair+tuple+value.Lts-tuple as 
 use Rattle.literal.proofs.value.Reads as value
 use Rattle.literal.proofs.value.Kinds as value-kinds
 use Rattle.literal.proofs.+dict+key+list+pair+tuple+value.Lts-value as value-lts
-use Rattle.tokens.proofs.bytes.is_open.Reads as is-open-reads
-use Rattle.tokens.proofs.bytes.peek.Reads as peek-reads
-use Rattle.literal.proofs.gaps.colon_at.Reads as colon-at-reads
-use Rattle.literal.proofs.gaps.ended.Reads as ended-reads
-use Rattle.literal.proofs.gaps.gap_at.Reads as gap-at-reads
-use Rattle.literal.proofs.gaps.need.Reads as need-reads
-use Rattle.literal.proofs.gaps.then_at.Reads as then-at-reads
-use Rattle.tokens.proofs.tokens.token.Reads as token-reads
+use Rattle.classes.proofs.is_open.Reads as is-open-reads
+use Rattle.classes.proofs.peek.Reads as peek-reads
+use Rattle.gaps.proofs.colon_at.Reads as colon-at-reads
+use Rattle.gaps.proofs.ended.Reads as ended-reads
+use Rattle.gaps.proofs.gap_at.Reads as gap-at-reads
+use Rattle.gaps.proofs.need.Reads as need-reads
+use Rattle.gaps.proofs.then_at.Reads as then-at-reads
+use Rattle.tokens.proofs.token.Reads as token-reads
 use Rattle.literal.proofs.+dict+key+list+pair+tuple+value.Tie.{close}
 
 abbrev pub μ-dict : Measures 1 dict-kinds.ps ℕ

@@ -4,7 +4,8 @@ use native.Mathlib.Omega.{arith}
 use borrow.Author.Needs.{needs}
 use mathlib.Core.Path.{sym, _∙_}
 use Rattle.literal.specs.Literal.{value as valueOf}
-use Rattle.literal.proofs.Steps.{stops, key-stop, key-colon}
+use Rattle.classes.proofs.Ends.{stops}
+use Rattle.literal.proofs.Steps.{key-stop, key-colon}
 use Rattle.literal.proofs.key.Reads as key
 use Rattle.literal.proofs.+dict+key+list+pair+tuple+value.Lts-key as key-lts
 use Rattle.literal.proofs.+dict+key+list+pair+tuple+value.Proof.Base.{key-at, key-told}

@@ -6,7 +6,8 @@ use mathlib.Core.Path.{sym, _∙_}
 use lib.ListN.{length}
 use Rattle.literal.specs.Literal.{value as valueOf}
 use Rattle.literal.proofs.Ends.{key-ahead, value-ahead}
-use Rattle.literal.proofs.Steps.{stops, read-ahead, pair-stop, pair-more}
+use Rattle.classes.proofs.Ends.{stops}
+use Rattle.literal.proofs.Steps.{read-ahead, pair-stop, pair-more}
 use Prim.Native.Nat.{ℕ}
 use Rattle.literal.proofs.pair.Reads as pair
 use Rattle.literal.proofs.+dict+key+list+pair+tuple+value.Lts-pair as pair-lts

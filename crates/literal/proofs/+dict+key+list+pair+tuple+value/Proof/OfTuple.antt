@@ -5,10 +5,12 @@ use borrow.Author.Needs.{needs}
 use mathlib.Core.Path.{_≡_, sym, _∙_}
 use lib.ListN.{length}
 use lib.Dec.{lit<}
-use Rattle.literal.specs.Brackets.{gapAt}
+use Rattle.gaps.specs.Gaps.{gapAt}
 use Rattle.literal.specs.Literal.{value as valueOf}
-use Rattle.literal.proofs.Ends.{need-ahead, value-ahead}
-use Rattle.literal.proofs.Steps.{stops, read-ahead, gap-item, tuple-end, tuple-stop, tuple-comma, tuple-more}
+use Rattle.gaps.proofs.Ends.{need-ahead}
+use Rattle.literal.proofs.Ends.{value-ahead}
+use Rattle.classes.proofs.Ends.{stops}
+use Rattle.literal.proofs.Steps.{read-ahead, gap-item, tuple-end, tuple-stop, tuple-comma, tuple-more}
 use Prim.Native.Nat.{ℕ}
 use Rattle.literal.proofs.tuple.Reads as tuple
 use Rattle.literal.proofs.+dict+key+list+pair+tuple+value.Lts-tuple as tuple-lts
