@@ -4,10 +4,10 @@ use mathlib.Core.Path.{_≡_}
 use mathlib.Core.List.{List}
 use Rattle.counts.specs.OneOutcome.{OneOutcome}
 use Rattle.counts.proofs.OneOutcome.{by-equation}
-use Rattle.tokens.specs.Got.{pos}
-use Rattle.tokens.specs.declared.Parsed.{Parsed}
-use Rattle.literal.specs.declared.gaps.Gap.{Gap}
-use Rattle.literal.specs.declared.gaps.Gap.the-variants.{Item}
+use Rattle.classes.specs.Got.{pos}
+use Rattle.classes.specs.declared.Parsed.{Parsed}
+use Rattle.gaps.specs.declared.Gap.{Gap}
+use Rattle.gaps.specs.declared.Gap.the-variants.{Item}
 use Rattle.behind.specs.Behind.{itemsFrom, secondAt}
 
 pub second-at-one : (s : List ℕ) (at close : ℕ) → OneOutcome {A = Gap} (λ r. r ≡ secondAt s at close)

@@ -14,20 +14,23 @@ use borrow.Author.Tests.{eqb-true, eq-eqb, ne-eqb}
 use denote.Enum.Declared.{tagOf}
 use types.Run.{OneOf, miss}
 use Rattle.tokens.specs.Node.{Node}
-use Rattle.tokens.specs.Got.{Got, got, fault, deep, pos, with}
-use Rattle.tokens.specs.Text.{byteAt, skip}
+use Rattle.classes.specs.Got.{Got, got, fault, deep, pos, with}
+use Rattle.classes.specs.Text.{byteAt, skip}
 use Rattle.literal.specs.Literal.{value}
-use Rattle.literal.specs.Brackets.{gapAt, thenAt, needAt, endedAt, items, listBy, tupleBy}
+use Rattle.gaps.specs.Gaps.{gapAt, thenAt, needAt, endedAt}
+use Rattle.literal.specs.Brackets.{items, listBy, tupleBy}
 use Rattle.literal.specs.Rows.{Row}
-use Rattle.tokens.specs.declared.Parsed.{Parsed}
-use Rattle.tokens.specs.declared.Parsed.the-variants.{Value, Fault, Deep}
-use Rattle.literal.specs.declared.gaps.Gap.{Gap}
-use Rattle.literal.specs.declared.gaps.Gap.the-variants.{Shut, Item, Stray}
-use Rattle.literal.proofs.gaps.Gap.{the-type}
-use Rattle.literal.proofs.Ends.{pos-with, Ahead, value-ahead, then-ahead}
+use Rattle.classes.specs.declared.Parsed.{Parsed}
+use Rattle.classes.specs.declared.Parsed.the-variants.{Value, Fault, Deep}
+use Rattle.gaps.specs.declared.Gap.{Gap}
+use Rattle.gaps.specs.declared.Gap.the-variants.{Shut, Item, Stray}
+use Rattle.gaps.proofs.Gap.{the-type}
+use Rattle.literal.proofs.Ends.{pos-with, Ahead, value-ahead}
+use Rattle.gaps.proofs.Ends.{then-ahead}
 use Rattle.literal.proofs.Rows as literal
 use Rattle.literal.proofs.Rows.{row-step, row-shut, row-stray, row-reads}
-use Rattle.literal.proofs.Steps.{Stops, thing, gapLeft, gap-enough, gap-falls, tuple-end, tuple-stop, tuple-comma, tuple-more}
+use Rattle.classes.proofs.Ends.{Stops}
+use Rattle.literal.proofs.Steps.{thing, gapLeft, gap-enough, gap-falls, tuple-end, tuple-stop, tuple-comma, tuple-more}
 use Rattle.behind.specs.Behind.{itemsFrom, commaThen, secondAt}
 
 module _ (k : ℕ) (s : List ℕ) (close : ℕ) where

@@ -5,13 +5,14 @@ use mathlib.Core.Bool.{cond}
 use lib.ListN.{length}
 use lib.Dec.{eqb}
 use Rattle.tokens.specs.Node.{Node}
-use Rattle.tokens.specs.Got.{Got}
+use Rattle.classes.specs.Got.{Got}
 use Rattle.literal.specs.Literal.{value}
-use Rattle.literal.specs.Brackets.{gapAt, thenAt, needAt, items}
-use Rattle.tokens.specs.declared.Parsed.{Parsed}
-use Rattle.tokens.specs.declared.Parsed as parsed
-use Rattle.literal.specs.declared.gaps.Gap.{Gap}
-use Rattle.literal.specs.declared.gaps.Gap.the-variants.{Stray}
+use Rattle.gaps.specs.Gaps.{gapAt, thenAt, needAt}
+use Rattle.literal.specs.Brackets.{items}
+use Rattle.classes.specs.declared.Parsed.{Parsed}
+use Rattle.classes.specs.declared.Parsed as parsed
+use Rattle.gaps.specs.declared.Gap.{Gap}
+use Rattle.gaps.specs.declared.Gap.the-variants.{Stray}
 
 -- the items from the gap on, where k brackets more may open
 abbrev pub itemsFrom : ℕ → List ℕ → ℕ → Gap → Got (List Node)

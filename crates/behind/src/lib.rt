@@ -1,14 +1,14 @@
 // What stands behind an item of a bracket in a header's text (document 01, "The literal"): behind the first one, where a tuple needs its comma, and
 // how the others end. These serve our own crates. No function here has a `requires`.
-use literal::gaps::Gap;
-use literal::gaps::ended;
-use literal::gaps::gap_at;
-use literal::gaps::need;
-use literal::gaps::then_at;
+use classes::Parsed;
+use gaps::Gap;
+use gaps::ended;
+use gaps::gap_at;
+use gaps::need;
+use gaps::then_at;
 use literal::value;
-use tokens::Parsed;
 ghost use mathlib.Core.Path.{_≡_};
-ghost use Rattle.tokens.specs.Got.{pos};
+ghost use Rattle.classes.specs.Got.{pos};
 ghost use Rattle.behind.specs.Behind.{itemsFrom, secondAt};
 
 // Behind the first item of a bracket, which ends before `at`: of a tuple it needs its comma. Where an item follows, the comma stands there.

@@ -10,16 +10,16 @@ use types.Run.{OneOf}
 use Rattle.counts.specs.Outcome.{Outcome, gives, refused, each}
 use Rattle.grammar.specs.Value.{Values, end-of-values, value-then}
 use Rattle.tokens.specs.Node.{Node, nodes}
-use Rattle.tokens.specs.Got.{pos}
+use Rattle.classes.specs.Got.{pos}
 use Rattle.literal.specs.Literal.{value}
-use Rattle.literal.specs.Brackets.{gapAt, thenAt, endedAt}
+use Rattle.gaps.specs.Gaps.{gapAt, thenAt, endedAt}
 use Rattle.literal.specs.Rows.{Row}
 use Rattle.literal.specs.Forget.{forget, forgetAll}
-use Rattle.literal.specs.declared.gaps.Gap.{Gap}
-use Rattle.literal.specs.declared.gaps.Gap.the-variants.{Item}
-use Rattle.literal.proofs.gaps.Gap.{the-type}
-use Rattle.tokens.specs.declared.Parsed.the-variants.{Value}
-use Rattle.literal.proofs.Steps.{Stops}
+use Rattle.gaps.specs.declared.Gap.{Gap}
+use Rattle.gaps.specs.declared.Gap.the-variants.{Item}
+use Rattle.gaps.proofs.Gap.{the-type}
+use Rattle.classes.specs.declared.Parsed.the-variants.{Value}
+use Rattle.classes.proofs.Ends.{Stops}
 use Rattle.sums.specs.declared.Totals.{Totals}
 use Rattle.sums.specs.declared.Verdict.{Verdict}
 use Rattle.parts.specs.declared.Judged.{Judged}

@@ -7,16 +7,16 @@ use denote.Enum.Declared.{tagOf}
 use types.Run.{OneOf}
 use Rattle.counts.specs.Outcome.{Outcome, refused, each}
 use Rattle.tokens.specs.Node.{Node}
-use Rattle.tokens.specs.Got.{got, pos}
+use Rattle.classes.specs.Got.{got, pos}
 use Rattle.literal.specs.Literal.{value}
-use Rattle.literal.specs.Brackets.{gapAt, thenAt, endedAt}
+use Rattle.gaps.specs.Gaps.{gapAt, thenAt, endedAt}
 use Rattle.literal.specs.Rows.{Row}
 use Rattle.literal.specs.Forget.{forget, forgetAll}
-use Rattle.tokens.specs.declared.Parsed.the-variants.{Value}
-use Rattle.literal.specs.declared.gaps.Gap.{Gap}
-use Rattle.literal.specs.declared.gaps.Gap.the-variants.{Shut, Item, Stray}
-use Rattle.literal.proofs.gaps.Gap.{the-type}
-use Rattle.literal.proofs.Steps.{Stops}
+use Rattle.classes.specs.declared.Parsed.the-variants.{Value}
+use Rattle.gaps.specs.declared.Gap.{Gap}
+use Rattle.gaps.specs.declared.Gap.the-variants.{Shut, Item, Stray}
+use Rattle.gaps.proofs.Gap.{the-type}
+use Rattle.classes.proofs.Ends.{Stops}
 use Rattle.literal.proofs.Rows.{row-shut, row-stray}
 use Rattle.record.specs.Dimensions.{subShape}
 use Rattle.products.specs.Outline.{outlineOf}

@@ -18,17 +18,17 @@ use Rattle.grammar.specs.Bytes.{isOpen, isQuote}
 use Rattle.grammar.specs.Value as value
 use Rattle.member.specs.Members.{closingOf}
 use Rattle.tokens.specs.Node.{Node, string, integer, True, False, None, list, tuple, dict}
-use Rattle.tokens.specs.Got.{Got, got, deep, pos}
-use Rattle.tokens.specs.Text.{byteAt, kindOf}
-use Rattle.tokens.specs.Strings.{spelled}
-use Rattle.tokens.proofs.Positions.{open-in}
+use Rattle.classes.specs.Got.{Got, got, deep, pos}
+use Rattle.classes.specs.Text.{byteAt, kindOf}
+use Rattle.escapes.specs.Strings.{spelled}
+use Rattle.classes.proofs.Positions.{open-in}
 use Rattle.literal.specs.Literal.{value as valueOf}
-use Rattle.literal.specs.Brackets.{gapAt}
+use Rattle.gaps.specs.Gaps.{gapAt}
 use Rattle.literal.specs.Rows.{Row, kindOfNode}
 use Rattle.literal.specs.Forget.{forget}
-use Rattle.tokens.specs.declared.Parsed.the-variants.{Deep}
-use Rattle.tokens.specs.declared.bytes.Kind.{Kind}
-use Rattle.tokens.specs.declared.bytes.Kind.the-variants.{Square, Round, Curly, Quote, Minus, Digit, TrueWord, FalseWord, NoneWord, Other}
+use Rattle.classes.specs.declared.Parsed.the-variants.{Deep}
+use Rattle.classes.specs.declared.Kind.{Kind}
+use Rattle.classes.specs.declared.Kind.the-variants.{Square, Round, Curly, Quote, Minus, Digit, TrueWord, FalseWord, NoneWord, Other}
 use Rattle.literal.proofs.Steps.{value-deep, value-list, value-tuple}
 use Rattle.literal.proofs.View.{view, value-kind}
 use Rattle.sums.specs.declared.Totals.{Totals}

@@ -3,7 +3,7 @@ use Rattle.counts.specs.Outcome.{then, each}
 use Rattle.counts.specs.OneOutcome.{OneOutcome}
 use Rattle.record.specs.Descr.{descrOf}
 use Rattle.tokens.specs.Node.{Node}
-use Rattle.tokens.specs.Got.{Got, pos}
+use Rattle.classes.specs.Got.{Got, pos}
 use Rattle.dims.specs.Answer.{valueOr}
 use Rattle.sums.specs.Totals.{totalsOf}
 use Rattle.parts.specs.declared.Judged.{Judged}

@@ -6,11 +6,12 @@ use Rattle.counts.specs.Outcome.{Outcome, refused, then, each}
 use Rattle.grammar.specs.Value.{Value}
 use Rattle.record.specs.Descr.{descrOf}
 use Rattle.tokens.specs.Node.{Node}
-use Rattle.tokens.specs.Got.{Got, got, fault, deep, pos}
-use Rattle.tokens.specs.declared.Parsed as parsed
-use Rattle.tokens.specs.declared.Parsed.{Parsed}
+use Rattle.classes.specs.Got.{Got, got, fault, deep, pos}
+use Rattle.classes.specs.declared.Parsed as parsed
+use Rattle.classes.specs.declared.Parsed.{Parsed}
 use Rattle.literal.specs.Literal.{value}
-use Rattle.literal.proofs.Steps.{Stops, thing}
+use Rattle.classes.proofs.Ends.{Stops}
+use Rattle.literal.proofs.Steps.{thing}
 use Rattle.dims.specs.Answer.{valueOr}
 use Rattle.sums.specs.Totals.{totalsOf}
 use Rattle.sums.specs.declared.Totals.{Totals}

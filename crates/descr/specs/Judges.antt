@@ -9,13 +9,13 @@ use Rattle.type_str.specs.TypeString.{typeString}
 use Rattle.dtype.specs.Dtype.{plain}
 use Rattle.record.specs.Descr.{descrOf}
 use Rattle.tokens.specs.Node.{Node, nodes}
-use Rattle.tokens.specs.Got.{Got, got, pos}
-use Rattle.tokens.specs.Text.{byteAt}
-use Rattle.tokens.specs.Strings.{spelled}
+use Rattle.classes.specs.Got.{Got, got, pos}
+use Rattle.classes.specs.Text.{byteAt}
+use Rattle.escapes.specs.Strings.{spelled}
 use Rattle.literal.specs.Literal.{value}
 use Rattle.literal.specs.Rows.{Row}
 use Rattle.literal.specs.Forget.{forget, forgetAll}
-use Rattle.literal.specs.declared.gaps.Gap.{Gap}
+use Rattle.gaps.specs.declared.Gap.{Gap}
 use Rattle.sums.specs.declared.Totals.{Totals}
 use Rattle.dims.specs.Answer.{valueOr}
 use Rattle.sums.specs.Totals.{totalsOf}

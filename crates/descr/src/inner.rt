@@ -2,13 +2,14 @@
 // opens leaves one fewer. No walk stops at what it refuses, so that a wrong item count can come before what stands inside; only a fault of the literal
 // ends it. What is judged of a text with such a fault is not told: its caller looks at the end first.
 use behind::second_at;
+use classes::Parsed;
 use field::closing_at;
 use field::string_at;
 use field::typed_at;
-use literal::gaps::Gap;
-use literal::gaps::ended;
-use literal::gaps::gap_at;
-use literal::gaps::then_at;
+use gaps::Gap;
+use gaps::ended;
+use gaps::gap_at;
+use gaps::then_at;
 use literal::value;
 use parts::Judged;
 use parts::misfit;
@@ -18,15 +19,14 @@ use sums::Totals;
 use sums::Verdict;
 use sums::join;
 use sums::typed;
-use tokens::Parsed;
 ghost use mathlib.Core.Path.{_≡_};
 ghost use Prim.Native.Nat.{_+_, _<_};
 ghost use lib.ListN.{length};
 ghost use Rattle.counts.specs.Outcome.{each};
 ghost use Rattle.record.specs.Descr.{descrOf, fieldsOf, fieldOf};
-ghost use Rattle.tokens.specs.Strings.{spelled};
-ghost use Rattle.tokens.specs.Text.{byteAt};
-ghost use Rattle.literal.specs.Brackets.{gapAt};
+ghost use Rattle.escapes.specs.Strings.{spelled};
+ghost use Rattle.classes.specs.Text.{byteAt};
+ghost use Rattle.gaps.specs.Gaps.{gapAt};
 ghost use Rattle.sums.specs.Totals.{totalsOf, totalsIn, fieldTotals};
 ghost use Rattle.sums.specs.Verdict.{verdict};
 ghost use Rattle.descr.specs.Judges.{Judges, JudgesFrom, typedAt};

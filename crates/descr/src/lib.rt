@@ -3,10 +3,10 @@
 // public function here has a `requires`.
 mod inner;
 
+use classes::Parsed;
 use parts::Judged;
 use sums::Rule;
 use sums::Verdict;
-use tokens::Parsed;
 ghost use Rattle.literal.specs.Literal.{value as valueOf};
 ghost use Rattle.descr.specs.Judges.{JudgesAt};
 

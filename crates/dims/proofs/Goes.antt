@@ -7,17 +7,17 @@ use mathlib.Core.Path.{_≡_, sym, ap, subst, _∙_}
 use mathlib.Core.List.{List, [], _∷_}
 use denote.Enum.Declared.{tagOf}
 use types.Run.{OneOf, miss}
-use Rattle.tokens.specs.Got.{Got, got, pos}
-use Rattle.literal.specs.Brackets.{gapAt, thenAt}
+use Rattle.classes.specs.Got.{Got, got, pos}
+use Rattle.gaps.specs.Gaps.{gapAt, thenAt}
 use Rattle.literal.specs.Rows.{Row}
-use Rattle.tokens.specs.declared.Parsed.{Parsed}
-use Rattle.tokens.specs.declared.Parsed.the-variants.{Value}
-use Rattle.literal.specs.declared.gaps.Gap.{Gap}
-use Rattle.literal.specs.declared.gaps.Gap.the-variants.{Shut, Item, Stray}
-use Rattle.tokens.proofs.Parsed.{the-type}
-use Rattle.literal.proofs.gaps.Gap as gap
-use Rattle.literal.proofs.Ends.{GapAhead}
-use Rattle.literal.proofs.Steps.{Stops, stops}
+use Rattle.classes.specs.declared.Parsed.{Parsed}
+use Rattle.classes.specs.declared.Parsed.the-variants.{Value}
+use Rattle.gaps.specs.declared.Gap.{Gap}
+use Rattle.gaps.specs.declared.Gap.the-variants.{Shut, Item, Stray}
+use Rattle.classes.proofs.Parsed.{the-type}
+use Rattle.gaps.proofs.Gap as gap
+use Rattle.gaps.proofs.Ends.{GapAhead}
+use Rattle.classes.proofs.Ends.{Stops, stops}
 use Rattle.literal.proofs.Rows.{row-step, row-shut, row-stray}
 
 module _ {A : Type 0} (rd : ℕ → Got A) (s : List ℕ) (close from : ℕ) where

@@ -12,15 +12,15 @@ use Rattle.counts.proofs.Fits.{number-is}
 use Rattle.record.specs.Parts.{membersOr}
 use Rattle.record.specs.Dimensions.{dimension}
 use Rattle.tokens.specs.Node.{Node, nodes}
-use Rattle.tokens.specs.Got.{Got, got, fault, deep, with}
+use Rattle.classes.specs.Got.{Got, got, fault, deep, with}
 use Rattle.literal.specs.Forget.{forget, forgetAll}
-use Rattle.tokens.specs.Text.{byteAt, kindOf}
-use Rattle.literal.specs.Brackets.{gapAt}
+use Rattle.classes.specs.Text.{byteAt, kindOf}
+use Rattle.gaps.specs.Gaps.{gapAt}
 use Rattle.literal.specs.Literal.{value}
 use Rattle.literal.specs.Rows.{Row}
-use Rattle.tokens.specs.declared.bytes.Kind.{Kind}
-use Rattle.tokens.specs.declared.bytes.Kind.the-variants.{Square, Round, Curly, Quote, Minus, Digit, TrueWord, FalseWord, NoneWord, Other}
-use Rattle.tokens.proofs.Positions.{kind-in}
+use Rattle.classes.specs.declared.Kind.{Kind}
+use Rattle.classes.specs.declared.Kind.the-variants.{Square, Round, Curly, Quote, Minus, Digit, TrueWord, FalseWord, NoneWord, Other}
+use Rattle.classes.proofs.Positions.{kind-in}
 use Rattle.literal.proofs.View.{view}
 use Rattle.products.specs.declared.Outline.{Outline}
 use Rattle.products.specs.declared.Verdict.{Verdict}

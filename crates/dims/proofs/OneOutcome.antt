@@ -2,8 +2,8 @@
 use mathlib.Core.Path.{_≡_, refl, sym, _∙_}
 use Rattle.counts.specs.OneOutcome.{OneOutcome}
 use Rattle.tokens.specs.Node.{Node}
-use Rattle.tokens.specs.Got.{Got}
-use Rattle.tokens.specs.declared.Parsed.{Parsed}
+use Rattle.classes.specs.Got.{Got}
+use Rattle.classes.specs.declared.Parsed.{Parsed}
 use Rattle.products.specs.declared.Verdict.{Verdict}
 use Rattle.products.specs.Answer.{outlined}
 use Rattle.products.proofs.OneOutcome.{joined-one}

@@ -16,21 +16,24 @@ use Rattle.grammar.specs.Bytes.{isOpen, isQuote}
 use Rattle.grammar.proofs.Texts.{true-false}
 use Rattle.decimal.specs.Decimal.{isDigit}
 use Rattle.tokens.specs.Node.{Node, span, list, tuple, nodes}
-use Rattle.tokens.specs.Got.{Got, got, fault, deep, pos, with}
-use Rattle.tokens.specs.Text.{byteAt, kindOf}
-use Rattle.tokens.specs.declared.Parsed.{Parsed}
-use Rattle.tokens.specs.declared.Parsed.the-variants.{Value, Deep}
-use Rattle.tokens.specs.declared.bytes.Kind.{Kind}
-use Rattle.tokens.specs.declared.bytes.Kind.the-variants.{Curly, Quote, Minus, Digit, TrueWord, FalseWord, NoneWord, Other}
-use Rattle.tokens.proofs.Parsed.{the-type}
+use Rattle.classes.specs.Got.{Got, got, fault, deep, pos, with}
+use Rattle.classes.specs.Text.{byteAt, kindOf}
+use Rattle.classes.specs.declared.Parsed.{Parsed}
+use Rattle.classes.specs.declared.Parsed.the-variants.{Value, Deep}
+use Rattle.classes.specs.declared.Kind.{Kind}
+use Rattle.classes.specs.declared.Kind.the-variants.{Curly, Quote, Minus, Digit, TrueWord, FalseWord, NoneWord, Other}
+use Rattle.classes.proofs.Parsed.{the-type}
 use Rattle.literal.specs.Forget.{forget}
-use Rattle.literal.specs.Brackets.{gapAt, thenAt, needAt, items, listBy, tupleBy}
+use Rattle.gaps.specs.Gaps.{gapAt, thenAt, needAt}
+use Rattle.literal.specs.Brackets.{items, listBy, tupleBy}
 use Rattle.literal.specs.Literal.{bracketBy, value}
-use Rattle.literal.specs.declared.gaps.Gap.{Gap}
-use Rattle.literal.specs.declared.gaps.Gap.the-variants.{Shut, Item, Stray}
-use Rattle.literal.proofs.gaps.Gap as gap
-use Rattle.literal.proofs.Ends.{pos-with, GapAhead, value-ahead, gap-ahead, then-ahead}
-use Rattle.literal.proofs.Steps.{Stops, stops, thing, gapLeft, gap-enough, gap-falls, read-ahead, tuple-stop, tuple-comma, value-deep}
+use Rattle.gaps.specs.declared.Gap.{Gap}
+use Rattle.gaps.specs.declared.Gap.the-variants.{Shut, Item, Stray}
+use Rattle.gaps.proofs.Gap as gap
+use Rattle.literal.proofs.Ends.{pos-with, value-ahead}
+use Rattle.gaps.proofs.Ends.{GapAhead, gap-ahead, then-ahead}
+use Rattle.classes.proofs.Ends.{Stops, stops}
+use Rattle.literal.proofs.Steps.{thing, gapLeft, gap-enough, gap-falls, read-ahead, tuple-stop, tuple-comma, value-deep}
 use Rattle.products.specs.declared.Outline.{Outline}
 use Rattle.products.specs.declared.Verdict.{Verdict}
 use Rattle.products.specs.declared.Verdict.the-variants.{Form}

@@ -8,7 +8,7 @@ use Rattle.counts.specs.Outcome.{Outcome, gives, refused, then, each}
 use Rattle.grammar.specs.Value.{Value}
 use Rattle.record.specs.Dimensions.{subShape}
 use Rattle.tokens.specs.Node.{Node}
-use Rattle.tokens.specs.Got.{Got, got, fault, deep, pos}
+use Rattle.classes.specs.Got.{Got, got, fault, deep, pos}
 use Rattle.literal.specs.Forget.{forget}
 use Rattle.products.specs.Outline.{outlineOf}
 use Rattle.products.specs.Answer.{outlined}

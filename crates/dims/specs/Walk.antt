@@ -5,11 +5,11 @@ use mathlib.Core.List.{List}
 use Rattle.counts.specs.Outcome.{Outcome, refused, then, each}
 use Rattle.record.specs.Dimensions.{dimensions}
 use Rattle.tokens.specs.Node.{Node, nodes}
-use Rattle.tokens.specs.Got.{Got, got, fault, deep, pos}
+use Rattle.classes.specs.Got.{Got, got, fault, deep, pos}
 use Rattle.literal.specs.Forget.{forgetAll}
-use Rattle.tokens.specs.declared.Parsed.the-variants.{Value, Fault}
-use Rattle.literal.specs.declared.gaps.Gap.{Gap}
-use Rattle.literal.specs.declared.gaps.Gap.the-variants.{Shut, Item, Stray}
+use Rattle.classes.specs.declared.Parsed.the-variants.{Value, Fault}
+use Rattle.gaps.specs.declared.Gap.{Gap}
+use Rattle.gaps.specs.declared.Gap.the-variants.{Shut, Item, Stray}
 use Rattle.products.specs.declared.Outline.{Outline}
 use Rattle.products.specs.declared.Verdict.{Verdict}
 use Rattle.products.specs.declared.Verdict.the-variants.{Form}

@@ -1,17 +1,17 @@
 // Shapes and sub-shapes in the text of a header (document 01, "The record"): refusals 11 and 12, and what 13, 21 and 22 need of the dimensions. No
 // public function here has a `requires`. What each answer stands for is in specs/Answer.antt.
+use classes::Parsed;
+use classes::peek;
 use counts::Number;
-use literal::gaps::Gap;
-use literal::gaps::gap_at;
-use literal::gaps::need;
-use literal::gaps::then_at;
+use gaps::Gap;
+use gaps::gap_at;
+use gaps::need;
+use gaps::then_at;
 use literal::value;
 use member::member_at;
 use products::Outline;
 use products::Verdict;
 use products::inner::joined;
-use tokens::Parsed;
-use tokens::bytes::peek;
 ghost use mathlib.Core.Path.{_≡_};
 ghost use mathlib.Core.List.{[]};
 ghost use Prim.Native.Nat.{_≤_};

@@ -7,11 +7,11 @@ use mathlib.Core.Bool.{true, false}
 use lib.ListN.{length}
 use denote.Enum.Declared.{tagOf}
 use types.Run.{OneOf, miss}
-use Rattle.tokens.specs.Text.{byteAt, kindOf}
-use Rattle.tokens.specs.declared.bytes.Kind.{Kind}
-use Rattle.tokens.specs.declared.bytes.Kind.the-variants.{Square, Round, Curly, Quote, Minus, Digit, TrueWord, FalseWord, NoneWord, Other}
-use Rattle.tokens.proofs.bytes.Kind.{the-type}
-use Rattle.tokens.proofs.Positions.{kind-in}
+use Rattle.classes.specs.Text.{byteAt, kindOf}
+use Rattle.classes.specs.declared.Kind.{Kind}
+use Rattle.classes.specs.declared.Kind.the-variants.{Square, Round, Curly, Quote, Minus, Digit, TrueWord, FalseWord, NoneWord, Other}
+use Rattle.classes.proofs.Kind.{the-type}
+use Rattle.classes.proofs.Positions.{kind-in}
 use Rattle.member.specs.Members.{closingOf}
 use Rattle.field.specs.Begins.{isString}
 

@@ -15,12 +15,12 @@ use Rattle.counts.specs.Same.{same}
 use Rattle.counts.proofs.Alike.{or-none}
 use Rattle.grammar.specs.Bytes.{isBreak, isEscape, unescape}
 use Rattle.decimal.specs.Decimal.{isDigit, digitsOf, afterDigits}
-use Rattle.tokens.specs.Text.{byteAt}
-use Rattle.tokens.specs.Strings.{Spelled, escapeAt, pieceBy, pieceAt, ends, heard, pieces, spelled, scanned}
-use Rattle.tokens.specs.declared.Parsed.the-variants.{Value, Fault}
-use Rattle.tokens.specs.declared.strings.Scan.{Scan}
-use Rattle.tokens.specs.declared.strings.Piece.{Piece}
-use Rattle.tokens.specs.declared.strings.Piece.the-variants.{Close, Byte, Bad}
+use Rattle.classes.specs.Text.{byteAt}
+use Rattle.escapes.specs.Strings.{Spelled, escapeAt, pieceBy, pieceAt, ends, heard, pieces, spelled, scanned}
+use Rattle.classes.specs.declared.Parsed.the-variants.{Value, Fault}
+use Rattle.escapes.specs.declared.Scan.{Scan}
+use Rattle.escapes.specs.declared.Piece.{Piece}
+use Rattle.escapes.specs.declared.Piece.the-variants.{Close, Byte, Bad}
 use Rattle.spelling.specs.declared.Endianness.{Endianness}
 use Rattle.spelling.specs.declared.TypeChar.{TypeChar}
 use Rattle.type_str.specs.declared.TypeStr.{TypeStr}

@@ -11,9 +11,9 @@ use Rattle.type_str.specs.declared.TypeStr.{TypeStr}
 use Rattle.type_str.specs.declared.TypeRead.{TypeRead}
 use Rattle.type_str.specs.Answer.{answer}
 use Rattle.type_str.proofs.Outcomes.{answer-one}
-use Rattle.tokens.specs.declared.Parsed.{Parsed}
-use Rattle.tokens.specs.Text.{byteAt, kindOf}
-use Rattle.literal.specs.declared.gaps.Gap.{Gap}
+use Rattle.classes.specs.declared.Parsed.{Parsed}
+use Rattle.classes.specs.Text.{byteAt, kindOf}
+use Rattle.gaps.specs.declared.Gap.{Gap}
 use Rattle.member.specs.Members.{closingOf}
 use Rattle.field.specs.declared.Typed.{Typed}
 use Rattle.field.specs.Begins.{isString, gapPlace}

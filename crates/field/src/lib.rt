@@ -1,19 +1,19 @@
 // What both walks over a descr, the judging and the filling one, ask of a header's text (document 01, "The record": "`descr` is a string (a type string) or
 // a list (a record). Each record item is a list or tuple of 2 or 3"). These serve our own crates. No function here has a `requires`.
-use literal::gaps::Gap;
+use classes::Kind;
+use classes::Parsed;
+use classes::kind_of;
+use classes::peek;
+use gaps::Gap;
 use member::closing;
-use tokens::Parsed;
-use tokens::bytes::Kind;
-use tokens::bytes::kind_of;
-use tokens::bytes::peek;
-use tokens::strings::scan_at;
+use tokens::scan_at;
 use type_read::parse;
 use type_str::TypeRead;
 ghost use mathlib.Core.Path.{_≡_};
 ghost use Rattle.type_str.specs.Answer.{answer};
 ghost use Rattle.type_str.specs.TypeString.{typeString};
-ghost use Rattle.tokens.specs.Text.{byteAt, kindOf};
-ghost use Rattle.tokens.specs.Strings.{spelled};
+ghost use Rattle.classes.specs.Text.{byteAt, kindOf};
+ghost use Rattle.escapes.specs.Strings.{spelled};
 ghost use Rattle.member.specs.Members.{closingOf};
 ghost use Rattle.field.specs.Begins.{isString, gapPlace};
 

@@ -21,22 +21,23 @@ use Rattle.type_str.specs.Answer.{answer}
 use Rattle.type_str.specs.TypeString.{typeString}
 use Rattle.record.specs.Descr.{Field, arrays, descrOf, fieldOf, fieldsOf}
 use Rattle.tokens.specs.Node.{Node, nodes, string, integer, True, False, None, list, tuple, dict}
-use Rattle.tokens.specs.declared.Parsed.{Parsed}
-use Rattle.tokens.specs.Got.{Got, got, pos}
+use Rattle.classes.specs.declared.Parsed.{Parsed}
+use Rattle.classes.specs.Got.{Got, got, pos}
 use Rattle.literal.specs.Answer.{place}
 use Rattle.literal.specs.Forget.{forget, forgetAll}
-use Rattle.tokens.specs.Text.{byteAt, kindOf}
-use Rattle.tokens.specs.Strings.{spelled}
+use Rattle.classes.specs.Text.{byteAt, kindOf}
+use Rattle.escapes.specs.Strings.{spelled}
 use Rattle.literal.specs.Literal.{value}
-use Rattle.literal.specs.Brackets.{gapAt, thenAt}
+use Rattle.gaps.specs.Gaps.{gapAt, thenAt}
 use Rattle.literal.specs.Rows.{Row}
-use Rattle.literal.specs.declared.gaps.Gap.{Gap}
-use Rattle.literal.specs.declared.gaps.Gap.the-variants.{Item}
-use Rattle.literal.proofs.gaps.Gap.{the-type}
-use Rattle.tokens.proofs.Positions.{kind-in, getD-any}
+use Rattle.gaps.specs.declared.Gap.{Gap}
+use Rattle.gaps.specs.declared.Gap.the-variants.{Item}
+use Rattle.gaps.proofs.Gap.{the-type}
+use Rattle.classes.proofs.Positions.{kind-in, getD-any}
 use Rattle.literal.proofs.View.{view, value-kind}
 use Rattle.literal.proofs.Rows.{row-step}
-use Rattle.literal.proofs.Ends.{Ahead, value-ahead, then-ahead}
+use Rattle.literal.proofs.Ends.{Ahead, value-ahead}
+use Rattle.gaps.proofs.Ends.{then-ahead}
 use Rattle.literal.proofs.Steps.{gapLeft, gap-falls}
 use Rattle.fill.specs.declared.Spot.{Spot}
 use Rattle.fill.specs.declared.Many.{Many}

@@ -21,8 +21,8 @@ use Rattle.dtype.specs.Limits.{overDimensions, overLevels, overEntries, overSiz
 use Rattle.fronts.specs.Rooms as fronts
 use Rattle.record.specs.Rooms.{Rooms, needs, tooSmall, Lent, roomsOf, atFront, holding}
 use Rattle.tokens.specs.Node.{Node}
-use Rattle.tokens.specs.Got.{Got}
-use Rattle.tokens.specs.Text.{skip}
+use Rattle.classes.specs.Got.{Got}
+use Rattle.classes.specs.Text.{skip}
 use Rattle.literal.specs.Literal.{value}
 use Rattle.dims.specs.Answer.{dimensionsAt}
 use Rattle.products.specs.Outline.{outlineOf}

@@ -21,20 +21,20 @@ use Rattle.type_str.specs.Answer.{answer}
 use Rattle.record.specs.Parts.{stringOr, membersOr}
 use Rattle.record.specs.Dimensions.{subShape}
 use Rattle.record.specs.Descr.{Field, arrays, twoOrThree, perhaps, descrOf, fieldOf, namedOf, typedOf}
-use Rattle.tokens.specs.declared.Parsed.{Parsed}
+use Rattle.classes.specs.declared.Parsed.{Parsed}
 use Rattle.tokens.specs.Node.{Node, nodes, string, integer, True, False, None, list, tuple, dict}
-use Rattle.tokens.specs.Got.{Got, got, pos}
+use Rattle.classes.specs.Got.{Got, got, pos}
 use Rattle.literal.specs.Answer.{place}
 use Rattle.literal.specs.Forget.{forget, forgetAll}
-use Rattle.tokens.specs.Text.{byteAt, kindOf}
-use Rattle.tokens.specs.Strings.{spelled}
+use Rattle.classes.specs.Text.{byteAt, kindOf}
+use Rattle.escapes.specs.Strings.{spelled}
 use Rattle.literal.specs.Literal as read
-use Rattle.literal.specs.Brackets.{gapAt, thenAt}
+use Rattle.gaps.specs.Gaps.{gapAt, thenAt}
 use Rattle.literal.specs.Rows.{Row}
-use Rattle.literal.specs.declared.gaps.Gap.{Gap}
-use Rattle.literal.specs.declared.gaps.Gap.the-variants.{Shut, Item, Stray}
-use Rattle.literal.proofs.gaps.Gap.{the-type}
-use Rattle.tokens.proofs.Positions.{kind-in}
+use Rattle.gaps.specs.declared.Gap.{Gap}
+use Rattle.gaps.specs.declared.Gap.the-variants.{Shut, Item, Stray}
+use Rattle.gaps.proofs.Gap.{the-type}
+use Rattle.classes.proofs.Positions.{kind-in}
 use Rattle.literal.proofs.View.{view, value-kind}
 use Rattle.dims.specs.Answer.{dimensionsAt}
 use Rattle.stored.specs.declared.Filled.{Filled}

@@ -11,7 +11,7 @@ use Rattle.refusal.proofs.Names.{number-apart}
 use Rattle.dtype.specs.Record.{Record}
 use Rattle.record.specs.Rooms.{Lent, roomsOf}
 use Rattle.record.specs.Header as header
-use Rattle.tokens.specs.Text.{skip}
+use Rattle.classes.specs.Text.{skip}
 use Rattle.judge.specs.declared.Plan.{Plan}
 use Rattle.judge.specs.declared.Judged.{Judged}
 use Rattle.judge.specs.Judged.{reading, PlanOf, JudgedIs}

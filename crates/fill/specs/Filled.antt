@@ -13,13 +13,13 @@ use Rattle.dtype.specs.Names.{nameBytes, nameBytesIn, namesOf, namesIn}
 use Rattle.dtype.specs.Flat.{entry-width, saturated, flat, flats}
 use Rattle.record.specs.Descr.{Field, perhaps, descrOf, fieldOf, fieldsOf}
 use Rattle.tokens.specs.Node.{Node, nodes}
-use Rattle.tokens.specs.Got.{got}
-use Rattle.tokens.specs.Text.{byteAt}
-use Rattle.tokens.specs.Strings.{Spelled, spelled}
+use Rattle.classes.specs.Got.{got}
+use Rattle.classes.specs.Text.{byteAt}
+use Rattle.escapes.specs.Strings.{Spelled, spelled}
 use Rattle.literal.specs.Answer.{place}
 use Rattle.field.specs.Begins.{gapPlace}
 use Rattle.literal.specs.Literal.{value}
-use Rattle.literal.specs.Brackets.{gapAt, thenAt}
+use Rattle.gaps.specs.Gaps.{gapAt, thenAt}
 use Rattle.literal.specs.Rows.{Row}
 use Rattle.literal.specs.Forget.{forget, forgetAll}
 use Rattle.entry.specs.Written.{sizeOver, above}

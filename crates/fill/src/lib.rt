@@ -3,27 +3,27 @@
 // and each bracket that opens leaves one fewer. A type string and a field's name are written by functions that the cycle does not go through, so that they
 // can stand where they are called. A record's entry is written behind its fields', and the array levels of a sub-shape behind their type's: their sizes are
 // known then. No public function here has a `requires`.
+use classes::Parsed;
+use decoded::decode;
 use dtype::Order;
 use entry::inner::put_over;
 use entry::inner::put_plain;
 use entry::inner::put_record;
 use entry::inner::type_of;
+use escapes::Scan;
 use field::closing_at;
 use field::place_of;
 use field::string_at;
 use field::typed_at;
 use fronts::too_small;
+use gaps::Gap;
+use gaps::gap_at;
+use gaps::then_at;
 use grammar::OPEN;
 use held::held_sum;
 use judge::Judged;
 use judge::Plan;
-use literal::gaps::Gap;
-use literal::gaps::gap_at;
-use literal::gaps::then_at;
 use refusal::Refusal;
-use tokens::Parsed;
-use tokens::strings::Scan;
-use tokens::strings::decode;
 ghost use mathlib.Core.Path.{_≡_};
 ghost use mathlib.Core.Bool.{true, false};
 ghost use Prim.Native.Nat.{_+_, _≤_, _<_};
@@ -31,9 +31,9 @@ ghost use lib.ListN.{length};
 ghost use lib.Seq.{sets};
 ghost use Rattle.field.specs.Begins.{isString};
 ghost use Rattle.literal.specs.Answer.{place};
-ghost use Rattle.tokens.specs.Strings.{spelled, scanned};
+ghost use Rattle.escapes.specs.Strings.{spelled, scanned};
 ghost use Rattle.dtype.specs.Record.{Record};
-ghost use Rattle.tokens.specs.Text.{byteAt, kindOf, skip};
+ghost use Rattle.classes.specs.Text.{byteAt, kindOf, skip};
 ghost use Rattle.judge.specs.Judged.{PlanOf};
 ghost use Rattle.fill.specs.Text.{lent, ReadsText, Houses};
 ghost use Rattle.fill.specs.Filled.{DueHead, Headed, DueShapeAt, Shapes, DueAt, Fills, DuePlainAt, FillsPlain, DueFieldsFrom, FillsFields};

@@ -13,7 +13,7 @@ use Rattle.record.specs.Dimensions.{subShape, ranked, shapeOf}
 use Rattle.record.specs.Descr.{descrOf}
 use Rattle.record.specs.FromValue.{orderOf}
 use Rattle.tokens.specs.Node.{Node}
-use Rattle.tokens.specs.Got.{Got}
+use Rattle.classes.specs.Got.{Got}
 use Rattle.literal.specs.Forget.{forget}
 use Rattle.literal.specs.Literal.{value, most-open}
 use Rattle.products.specs.Answer.{outlined}

@@ -12,8 +12,8 @@ use Rattle.dtype.specs.Record.{Record}
 use Rattle.record.specs.Dict.{key-shape, key-descr}
 use Rattle.record.specs.Header.{recordIn}
 use Rattle.tokens.specs.Node.{Node, Span, spanOf}
-use Rattle.tokens.specs.Got.{got}
-use Rattle.tokens.specs.Text.{skip}
+use Rattle.classes.specs.Got.{got}
+use Rattle.classes.specs.Text.{skip}
 use Rattle.literal.specs.Literal.{value}
 use Rattle.literal.proofs.View.{value-span}
 use Rattle.products.specs.declared.Outline.{Outline}

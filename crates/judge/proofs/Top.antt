@@ -24,11 +24,11 @@ use Rattle.record.specs.Descr.{descrOf}
 use Rattle.record.specs.FromValue.{orderOf, recordFrom, recordOf}
 use Rattle.record.specs.Header.{Keeps, valueRead, recordIn}
 use Rattle.tokens.specs.Node.{Node}
-use Rattle.tokens.specs.Got.{Got, got, fault, deep, pos}
+use Rattle.classes.specs.Got.{Got, got, fault, deep, pos}
 use Rattle.literal.specs.Forget.{forget, forgot}
-use Rattle.tokens.specs.Text.{skip}
+use Rattle.classes.specs.Text.{skip}
 use Rattle.literal.specs.Literal.{value, alone, aloneAt, literalOf, most-open}
-use Rattle.tokens.specs.declared.Parsed as parsed
+use Rattle.classes.specs.declared.Parsed as parsed
 use Rattle.literal.proofs.Meaning.{literal-means}
 use Rattle.literal.proofs.Steps.{alone-at, literal-is}
 use Rattle.dims.specs.Answer.{valueOr}

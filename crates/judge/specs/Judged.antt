@@ -18,7 +18,7 @@ use Rattle.record.specs.Descr.{descrOf}
 use Rattle.record.specs.FromValue.{orderOf, recordOf}
 use Rattle.record.specs.Header.{Reading}
 use Rattle.tokens.specs.Node.{Node}
-use Rattle.tokens.specs.Got.{Got, got}
+use Rattle.classes.specs.Got.{Got, got}
 use Rattle.literal.specs.Forget.{forget, forgot}
 use Rattle.literal.specs.Literal.{value, literalOf, most-open}
 use Rattle.dims.specs.Answer.{valueOr}

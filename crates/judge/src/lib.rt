@@ -2,6 +2,8 @@
 // function here has a `requires`. What each answer stands for is in specs/Judged.antt.
 use bounds::Limit;
 use bounds::within;
+use classes::Parsed;
+use classes::blanks;
 use dtype::Order;
 use key_names::Declared;
 use keys::DescrFound;
@@ -12,12 +14,10 @@ use products::Outline;
 use refusal::Refusal;
 use sums::Rule;
 use sums::Totals;
-use tokens::Parsed;
-use tokens::bytes::blanks;
 use utf8::Text;
 ghost use mathlib.Core.Path.{_≡_};
 ghost use Rattle.record.specs.Header.{recordIn};
-ghost use Rattle.tokens.specs.Text.{skip};
+ghost use Rattle.classes.specs.Text.{skip};
 ghost use Rattle.key_names.specs.Answer.{ordered};
 ghost use Rattle.judge.specs.Judged.{reading, orderAnswer, KeysOf, OrderOf, BehindOf, ShapeIn, DescrIn, RankedOf, LimitsOf, JudgedIs};
 ghost use Rattle.refusal.specs.Numbers.{numberOf};

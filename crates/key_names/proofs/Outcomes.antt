@@ -7,8 +7,8 @@ use Rattle.counts.specs.Outcome.{Outcome, gives}
 use Rattle.counts.specs.OneOutcome.{OneOutcome}
 use Rattle.counts.proofs.OneOutcome.{by-equation}
 use Rattle.record.specs.Dict.{key-order, key-shape, key-descr, isString, isThe}
-use Rattle.tokens.specs.Strings.{spelled}
-use Rattle.tokens.specs.Text.{byteAt, kindOf}
+use Rattle.escapes.specs.Strings.{spelled}
+use Rattle.classes.specs.Text.{byteAt, kindOf}
 use Rattle.key_names.specs.declared.Name.{Name}
 use Rattle.key_names.specs.Answer.{keyOf, Named, WordAt, wordOf}
 

@@ -8,11 +8,11 @@ use Rattle.counts.specs.Outcome.{gives, refused}
 use Rattle.dtype.specs.declared.Order.the-variants.{C, Fortran}
 use Rattle.record.specs.FromValue.{orderOf}
 use Rattle.tokens.specs.Node.{Node}
-use Rattle.tokens.specs.Got.{got}
-use Rattle.tokens.specs.Text.{byteAt, kindOf}
-use Rattle.tokens.specs.declared.bytes.Kind.{Kind}
-use Rattle.tokens.specs.declared.bytes.Kind.the-variants.{Square, Round, Curly, Quote, Minus, Digit, TrueWord, FalseWord, NoneWord, Other}
-use Rattle.tokens.proofs.bytes.Kind.{the-type}
+use Rattle.classes.specs.Got.{got}
+use Rattle.classes.specs.Text.{byteAt, kindOf}
+use Rattle.classes.specs.declared.Kind.{Kind}
+use Rattle.classes.specs.declared.Kind.the-variants.{Square, Round, Curly, Quote, Minus, Digit, TrueWord, FalseWord, NoneWord, Other}
+use Rattle.classes.proofs.Kind.{the-type}
 use Rattle.literal.specs.Forget.{forget}
 use Rattle.literal.specs.Literal.{value}
 use Rattle.literal.specs.Rows.{View}

@@ -9,9 +9,9 @@ use Rattle.dtype.specs.declared.Order.the-variants.{C, Fortran}
 use Rattle.record.specs.FromValue.{orderOf}
 use Rattle.record.specs.Dict.{key-order, key-shape, key-descr, isString, isThe}
 use Rattle.tokens.specs.Node.{Node}
-use Rattle.tokens.specs.Got.{got}
-use Rattle.tokens.specs.declared.bytes.Kind.{Kind}
-use Rattle.tokens.specs.declared.bytes.Kind.the-variants.{Square, Round, Curly, Quote, Minus, Digit, TrueWord, FalseWord, NoneWord, Other}
+use Rattle.classes.specs.Got.{got}
+use Rattle.classes.specs.declared.Kind.{Kind}
+use Rattle.classes.specs.declared.Kind.the-variants.{Square, Round, Curly, Quote, Minus, Digit, TrueWord, FalseWord, NoneWord, Other}
 use Rattle.literal.specs.Forget.{forget}
 use Rattle.literal.specs.Literal.{value}
 use Rattle.key_names.specs.declared.Name as name

@@ -1,17 +1,17 @@
 // The keys of a header's dict that count, by their names, and the order that the value of `fortran_order` declares (document 01, "The record"): refusals 8 and 10. These
 // serve our own crates, which judge a header. No function here has a `requires`. What each answer stands for is in specs/Answer.antt.
+use classes::Kind;
+use classes::kind_of;
+use classes::peek;
 use dtype::Order;
-use tokens::bytes::Kind;
-use tokens::bytes::kind_of;
-use tokens::bytes::peek;
-use tokens::strings::is_text;
+use escapes::is_text;
 ghost use mathlib.Core.Path.{_≡_};
 ghost use mathlib.Core.Bool.{_&&_};
 ghost use Rattle.counts.specs.Outcome.{gives};
 ghost use Rattle.counts.specs.Same.{same};
 ghost use Rattle.record.specs.Dict.{isString};
-ghost use Rattle.tokens.specs.Strings.{spelled};
-ghost use Rattle.tokens.specs.Text.{byteAt, kindOf};
+ghost use Rattle.escapes.specs.Strings.{spelled};
+ghost use Rattle.classes.specs.Text.{byteAt, kindOf};
 ghost use Rattle.key_names.specs.Answer.{keyOf, Named, WordAt, wordOf};
 
 // What a key is: one of the three, another string, or no string.

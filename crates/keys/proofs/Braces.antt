@@ -14,16 +14,16 @@ use Rattle.record.specs.Dict.{key-order, key-shape, key-descr, isString, isThe}
 use Rattle.grammar.specs.Bytes.{isOpen, isQuote}
 use Rattle.decimal.specs.Decimal.{isDigit}
 use Rattle.tokens.specs.Node.{Node, span, dict, pairs}
-use Rattle.tokens.specs.Got.{got, with}
+use Rattle.classes.specs.Got.{got, with}
 use Rattle.literal.specs.Forget.{forget}
-use Rattle.tokens.specs.Text.{byteAt, kindOf}
-use Rattle.tokens.specs.Strings.{spelled}
+use Rattle.classes.specs.Text.{byteAt, kindOf}
+use Rattle.escapes.specs.Strings.{spelled}
 use Rattle.literal.specs.Brackets.{listBy, pairBy}
 use Rattle.literal.specs.Literal.{bracketBy, value}
 use Rattle.literal.specs.Rows.{View}
-use Rattle.tokens.specs.declared.bytes.Kind.{Kind}
-use Rattle.tokens.specs.declared.bytes.Kind.the-variants.{Square, Round, Curly, Quote, Minus, Digit, TrueWord, FalseWord, NoneWord, Other}
-use Rattle.tokens.proofs.bytes.Kind.{the-type}
+use Rattle.classes.specs.declared.Kind.{Kind}
+use Rattle.classes.specs.declared.Kind.the-variants.{Square, Round, Curly, Quote, Minus, Digit, TrueWord, FalseWord, NoneWord, Other}
+use Rattle.classes.proofs.Kind.{the-type}
 use Rattle.literal.proofs.View.{view}
 use Rattle.key_names.specs.declared.Name as name
 use Rattle.key_names.specs.declared.Name.{Name}

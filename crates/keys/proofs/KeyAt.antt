@@ -9,18 +9,20 @@ use lib.Dec.{ltb}
 use borrow.Author.Tests.{le-ltb}
 use Rattle.counts.specs.Outcome.{gives}
 use Rattle.tokens.specs.Node.{Node}
-use Rattle.tokens.specs.Got.{Got, pos}
-use Rattle.tokens.specs.Text.{byteAt, kindOf}
-use Rattle.tokens.specs.Strings.{spelled, scanned}
-use Rattle.tokens.specs.declared.Parsed.{Parsed}
-use Rattle.tokens.specs.declared.Parsed.the-variants.{Value as Ends, Fault, Deep}
-use Rattle.tokens.specs.declared.strings.Scan.{Scan}
-use Rattle.tokens.specs.declared.bytes.Kind.{Kind}
-use Rattle.tokens.specs.declared.bytes.Kind.the-variants.{Quote}
-use Rattle.tokens.proofs.Positions.{getD-any, kind-in}
-use Rattle.literal.specs.Brackets.{colonAt, keyBy}
+use Rattle.classes.specs.Got.{Got, pos}
+use Rattle.classes.specs.Text.{byteAt, kindOf}
+use Rattle.escapes.specs.Strings.{spelled, scanned}
+use Rattle.classes.specs.declared.Parsed.{Parsed}
+use Rattle.classes.specs.declared.Parsed.the-variants.{Value as Ends, Fault, Deep}
+use Rattle.escapes.specs.declared.Scan.{Scan}
+use Rattle.classes.specs.declared.Kind.{Kind}
+use Rattle.classes.specs.declared.Kind.the-variants.{Quote}
+use Rattle.classes.proofs.Positions.{getD-any, kind-in}
+use Rattle.gaps.specs.Gaps.{colonAt}
+use Rattle.literal.specs.Brackets.{keyBy}
 use Rattle.literal.specs.Literal.{value}
-use Rattle.literal.proofs.Steps.{Stops, key-stop, key-colon}
+use Rattle.classes.proofs.Ends.{Stops}
+use Rattle.literal.proofs.Steps.{key-stop, key-colon}
 use Rattle.member.proofs.Numbers.{token-value}
 use Rattle.field.proofs.Escapes.{raw-inside, raw-says}
 use Rattle.key_names.specs.declared.Name.{Name}

@@ -8,7 +8,7 @@ use Rattle.grammar.specs.Value.{Value, Items}
 use Rattle.record.specs.Parts.{itemsOr}
 use Rattle.record.specs.Dict.{lastOf, needed}
 use Rattle.tokens.specs.Node.{Node, Pairs, string, integer, True, False, None, list, tuple, dict, end-of-pairs, pair-then}
-use Rattle.tokens.specs.Got.{Got, got, fault, deep}
+use Rattle.classes.specs.Got.{Got, got, fault, deep}
 use Rattle.literal.specs.Forget.{forget, forgetPairs}
 use Rattle.dims.specs.Answer.{valueOr}
 use Rattle.keys.specs.Pairs.{pairsIn, isKey, lastIn, nodeFor}

@@ -12,8 +12,8 @@ use Rattle.dtype.specs.declared.Order.{Order}
 use Rattle.record.specs.Dict.{key-order, key-shape, key-descr}
 use Rattle.record.specs.FromValue.{orderOf}
 use Rattle.tokens.specs.Node.{Node, Span}
-use Rattle.tokens.specs.Got.{got}
-use Rattle.tokens.specs.declared.Parsed.{Parsed}
+use Rattle.classes.specs.Got.{got}
+use Rattle.classes.specs.declared.Parsed.{Parsed}
 use Rattle.literal.specs.Forget.{forget}
 use Rattle.literal.specs.Literal.{value}
 use Rattle.literal.proofs.View.{value-span}

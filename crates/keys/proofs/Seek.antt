@@ -11,22 +11,24 @@ use Rattle.record.specs.Parts.{stringOr}
 use Rattle.record.specs.Descr.{descrOf}
 use Rattle.record.specs.Dict.{key-order, key-shape, key-descr, isString, isThe, allStrings}
 use Rattle.tokens.specs.Node.{Node, Pair, Pairs, span, dict, pairs}
-use Rattle.tokens.specs.Got.{Got, got, fault, deep, pos, with}
+use Rattle.classes.specs.Got.{Got, got, fault, deep, pos, with}
 use Rattle.literal.specs.Forget.{forget, forgetPairs}
-use Rattle.tokens.specs.Text.{byteAt, kindOf}
-use Rattle.literal.specs.Brackets.{gapAt, endedAt, listBy, keyBy, pairBy}
+use Rattle.classes.specs.Text.{byteAt, kindOf}
+use Rattle.gaps.specs.Gaps.{gapAt, endedAt}
+use Rattle.literal.specs.Brackets.{listBy, keyBy, pairBy}
 use Rattle.literal.specs.Literal.{value}
-use Rattle.literal.specs.declared.gaps.Gap.{Gap}
-use Rattle.literal.specs.declared.gaps.Gap.the-variants.{Item}
-use Rattle.tokens.specs.declared.Parsed.{Parsed}
-use Rattle.tokens.specs.declared.Parsed.the-variants.{Value as Ends, Fault, Deep}
-use Rattle.tokens.specs.declared.bytes.Kind.{Kind}
-use Rattle.tokens.specs.declared.bytes.Kind.the-variants.{Curly}
-use Rattle.tokens.proofs.Parsed.{the-type}
-use Rattle.literal.proofs.gaps.Gap as gap
+use Rattle.gaps.specs.declared.Gap.{Gap}
+use Rattle.gaps.specs.declared.Gap.the-variants.{Item}
+use Rattle.classes.specs.declared.Parsed.{Parsed}
+use Rattle.classes.specs.declared.Parsed.the-variants.{Value as Ends, Fault, Deep}
+use Rattle.classes.specs.declared.Kind.{Kind}
+use Rattle.classes.specs.declared.Kind.the-variants.{Curly}
+use Rattle.classes.proofs.Parsed.{the-type}
+use Rattle.gaps.proofs.Gap as gap
 use Rattle.literal.proofs.Ends.{pos-with}
 use Rattle.literal.proofs.Rows.{RowGot, row-list, pair-parts, key-stands}
-use Rattle.literal.proofs.Steps.{Stops, stops, Turn, turn-end, turn-stop}
+use Rattle.classes.proofs.Ends.{Stops, stops}
+use Rattle.literal.proofs.Steps.{Turn, turn-end, turn-stop}
 use Rattle.dims.proofs.Goes.{Goes, goes-end}
 use Rattle.dims.specs.Answer.{valueOr, dimensionsAt}
 use Rattle.products.specs.Outline.{outlineOf}

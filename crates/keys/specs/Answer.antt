@@ -10,9 +10,9 @@ use Rattle.record.specs.Dimensions.{subShape}
 use Rattle.record.specs.Descr.{descrOf}
 use Rattle.record.specs.Dict.{key-order, key-shape, key-descr, isThe, allStrings}
 use Rattle.tokens.specs.Node.{Node, Pair, pairs}
-use Rattle.tokens.specs.Got.{Got, got, fault, deep, pos}
-use Rattle.tokens.specs.declared.Parsed.{Parsed}
-use Rattle.tokens.specs.declared.Parsed.the-variants.{Value, Fault, Deep}
+use Rattle.classes.specs.Got.{Got, got, fault, deep, pos}
+use Rattle.classes.specs.declared.Parsed.{Parsed}
+use Rattle.classes.specs.declared.Parsed.the-variants.{Value, Fault, Deep}
 use Rattle.literal.specs.Forget.{forget, forgetPairs}
 use Rattle.literal.specs.Brackets.{keyBy}
 use Rattle.literal.specs.Literal.{value, most-open}

@@ -9,7 +9,7 @@ use Rattle.grammar.specs.Value.{Items}
 use Rattle.record.specs.Parts.{stringOr, itemsOr}
 use Rattle.record.specs.Dict.{isThe, allStrings}
 use Rattle.tokens.specs.Node.{Node, Pairs, string, integer, True, False, None, list, tuple, dict, end-of-pairs, pair-then}
-use Rattle.tokens.specs.Got.{Got, got, fault, deep}
+use Rattle.classes.specs.Got.{Got, got, fault, deep}
 use Rattle.literal.specs.Forget.{forget}
 use Rattle.dims.specs.Answer.{valueOr}
 

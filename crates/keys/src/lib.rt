@@ -1,5 +1,14 @@
 // The keys of a header's dict (document 01, "The record"): refusals 8 and 9, and the verdicts on the three values that count, in the same walk that tells whether
 // the dict is a literal at all. These serve our own crates, which judge a header. No function here has a `requires`. What each answer stands for is in specs/Answer.antt.
+use classes::Kind;
+use classes::Parsed;
+use classes::kind_of;
+use classes::peek;
+use gaps::Gap;
+use gaps::colon_at;
+use gaps::ended;
+use gaps::gap_at;
+use gaps::then_at;
 use grammar::OPEN;
 use key_names::Declared;
 use key_names::Name;
@@ -7,17 +16,8 @@ use key_names::all_strings;
 use key_names::known;
 use key_names::name_at;
 use key_names::word_at;
-use literal::gaps::Gap;
-use literal::gaps::colon_at;
-use literal::gaps::ended;
-use literal::gaps::gap_at;
-use literal::gaps::then_at;
 use literal::value;
-use tokens::Parsed;
-use tokens::bytes::Kind;
-use tokens::bytes::kind_of;
-use tokens::bytes::peek;
-use tokens::strings::scan_at;
+use tokens::scan_at;
 ghost use mathlib.Core.Path.{_≡_};
 ghost use Rattle.literal.specs.Brackets.{listBy, pairBy};
 ghost use Rattle.literal.specs.Literal.{value as valueOf};

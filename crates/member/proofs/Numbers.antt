@@ -14,21 +14,22 @@ use Rattle.grammar.specs.Bytes.{isOpen, isQuote}
 use Rattle.grammar.proofs.Texts.{true-false}
 use Rattle.record.specs.Dimensions.{signed, dimension}
 use Rattle.tokens.specs.Node.{Node}
-use Rattle.tokens.specs.Got.{got, pos}
+use Rattle.classes.specs.Got.{got, pos}
 use Rattle.literal.specs.Forget.{forget}
-use Rattle.tokens.specs.Text.{byteAt, part, kindOf, past}
+use Rattle.classes.specs.Text.{byteAt, part, kindOf, past}
 use Rattle.tokens.specs.Tokens.{naturalAt, numberBy, numeralAt}
 use Rattle.literal.specs.Literal.{value}
 use Rattle.literal.specs.Rows.{View}
-use Rattle.tokens.specs.declared.tokens.Numeral.{Numeral}
-use Rattle.tokens.specs.declared.Parsed.{Parsed}
-use Rattle.tokens.specs.declared.Parsed.the-variants.{Value, Fault, Deep}
-use Rattle.tokens.specs.declared.bytes.Kind.{Kind}
-use Rattle.tokens.specs.declared.bytes.Kind.the-variants.{Square, Round, Curly, Quote, Minus, Digit, TrueWord, FalseWord, NoneWord, Other}
-use Rattle.tokens.proofs.Parsed as parsed
-use Rattle.tokens.proofs.bytes.Kind.{the-type}
+use Rattle.tokens.specs.declared.Numeral.{Numeral}
+use Rattle.classes.specs.declared.Parsed.{Parsed}
+use Rattle.classes.specs.declared.Parsed.the-variants.{Value, Fault, Deep}
+use Rattle.classes.specs.declared.Kind.{Kind}
+use Rattle.classes.specs.declared.Kind.the-variants.{Square, Round, Curly, Quote, Minus, Digit, TrueWord, FalseWord, NoneWord, Other}
+use Rattle.classes.proofs.Parsed as parsed
+use Rattle.classes.proofs.Kind.{the-type}
 use Rattle.tokens.proofs.Ends.{tokenEnd, token-ends}
-use Rattle.literal.proofs.Steps.{Stops, stops, value-token}
+use Rattle.classes.proofs.Ends.{Stops, stops}
+use Rattle.literal.proofs.Steps.{value-token}
 use Rattle.literal.proofs.View.{view}
 use Rattle.products.specs.declared.Member.{Member}
 use Rattle.products.specs.declared.Member.the-variants.{Form}

@@ -4,8 +4,8 @@ use mathlib.Core.Path.{_≡_, sym, _∙_}
 use mathlib.Core.List.{List}
 use Rattle.counts.specs.OneOutcome.{OneOutcome}
 use Rattle.counts.proofs.OneOutcome.{by-equation}
-use Rattle.tokens.specs.declared.Parsed.{Parsed}
-use Rattle.tokens.specs.declared.bytes.Kind.{Kind}
+use Rattle.classes.specs.declared.Parsed.{Parsed}
+use Rattle.classes.specs.declared.Kind.{Kind}
 use Rattle.products.specs.declared.Member.{Member}
 use Rattle.member.specs.declared.Item.{Item}
 use Rattle.member.specs.Members.{closingOf, SizeAt, memberAt}

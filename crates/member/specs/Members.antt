@@ -8,13 +8,13 @@ use lib.Dec.{eqb}
 use Rattle.decimal.specs.Decimal.{isDigit}
 use Rattle.record.specs.Dimensions.{dimension}
 use Rattle.tokens.specs.Node.{Node}
-use Rattle.tokens.specs.Got.{got}
-use Rattle.tokens.specs.Text.{byteAt}
+use Rattle.classes.specs.Got.{got}
+use Rattle.classes.specs.Text.{byteAt}
 use Rattle.tokens.specs.Tokens.{numeralAt}
 use Rattle.literal.specs.Forget.{forget}
 use Rattle.literal.specs.Literal.{value}
-use Rattle.tokens.specs.declared.bytes.Kind.{Kind}
-use Rattle.tokens.specs.declared.bytes.Kind.the-variants.{Square, Round, Curly, Quote, Minus, Digit, TrueWord, FalseWord, NoneWord, Other}
+use Rattle.classes.specs.declared.Kind.{Kind}
+use Rattle.classes.specs.declared.Kind.the-variants.{Square, Round, Curly, Quote, Minus, Digit, TrueWord, FalseWord, NoneWord, Other}
 use Rattle.products.specs.declared.Member.{Member}
 use Rattle.products.specs.declared.Member.the-variants.{Form}
 use Rattle.products.specs.Answer.{sized}

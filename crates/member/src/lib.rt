@@ -1,19 +1,19 @@
 // One member of a shape or sub-shape in the text of a header (document 01, "The record"): where it ends, and the dimension that it is; and the bracket that
 // closes a list or a tuple. These serve our own crates. No public function here has a `requires`.
+use classes::Kind;
+use classes::Parsed;
+use classes::peek;
 use literal::value;
 use products::Member;
 use signs::negative;
 use signs::positive;
-use tokens::Parsed;
-use tokens::bytes::Kind;
-use tokens::bytes::peek;
-use tokens::tokens::numeral_at;
+use tokens::numeral_at;
 ghost use mathlib.Core.Path.{_≡_};
 ghost use Rattle.decimal.specs.Decimal.{isDigit};
 ghost use mathlib.Core.Bool.{false};
 ghost use Rattle.literal.specs.Literal.{value as valueOf};
-ghost use Rattle.tokens.specs.Got.{pos};
-ghost use Rattle.tokens.specs.Text.{byteAt};
+ghost use Rattle.classes.specs.Got.{pos};
+ghost use Rattle.classes.specs.Text.{byteAt};
 ghost use Rattle.member.specs.Members.{closingOf, SizeAt, memberAt};
 
 // How the text of a member ends, and the dimension that it is.

@@ -8,16 +8,17 @@ use types.Run.{OneOf, miss}
 use Rattle.counts.specs.Outcome.{Outcome, refused, each}
 use Rattle.record.specs.Dimensions.{subShape}
 use Rattle.tokens.specs.Node.{Node}
-use Rattle.tokens.specs.Got.{Got, got, fault, deep, pos}
-use Rattle.tokens.specs.declared.Parsed.{Parsed}
-use Rattle.tokens.specs.declared.Parsed.the-variants.{Value}
+use Rattle.classes.specs.Got.{Got, got, fault, deep, pos}
+use Rattle.classes.specs.declared.Parsed.{Parsed}
+use Rattle.classes.specs.declared.Parsed.the-variants.{Value}
 use Rattle.literal.specs.Literal.{value}
-use Rattle.literal.specs.Brackets.{thenAt, endedAt}
+use Rattle.gaps.specs.Gaps.{thenAt, endedAt}
 use Rattle.literal.specs.Forget.{forget}
-use Rattle.literal.specs.declared.gaps.Gap.{Gap}
-use Rattle.literal.specs.declared.gaps.Gap.the-variants.{Shut, Item, Stray}
-use Rattle.literal.proofs.gaps.Gap.{the-type}
-use Rattle.literal.proofs.Steps.{Stops, thing}
+use Rattle.gaps.specs.declared.Gap.{Gap}
+use Rattle.gaps.specs.declared.Gap.the-variants.{Shut, Item, Stray}
+use Rattle.gaps.proofs.Gap.{the-type}
+use Rattle.classes.proofs.Ends.{Stops}
+use Rattle.literal.proofs.Steps.{thing}
 use Rattle.products.specs.declared.Outline.{Outline}
 use Rattle.products.specs.Outline.{outlineOf}
 use Rattle.products.specs.Answer.{outlined}

@@ -5,11 +5,11 @@ use mathlib.Core.List.{List}
 use mathlib.Core.Bool.{Bool, true, false, cond}
 use lib.ListN.{length}
 use Rattle.counts.specs.Outcome.{gives, refused}
-use Rattle.tokens.specs.Got.{pos}
-use Rattle.tokens.specs.Text.{byteAt, kindOf}
-use Rattle.tokens.specs.Strings.{spelled}
-use Rattle.tokens.specs.declared.Parsed.{Parsed}
-use Rattle.tokens.specs.declared.bytes.Kind.the-variants.{Quote}
+use Rattle.classes.specs.Got.{pos}
+use Rattle.classes.specs.Text.{byteAt, kindOf}
+use Rattle.escapes.specs.Strings.{spelled}
+use Rattle.classes.specs.declared.Parsed.{Parsed}
+use Rattle.classes.specs.declared.Kind.the-variants.{Quote}
 use Rattle.literal.specs.Literal.{value}
 use Rattle.member.proofs.Numbers.{token-value}
 use Rattle.field.specs.Begins.{isString}

@@ -2,7 +2,7 @@
 use mathlib.Core.Path.{_≡_, sym, _∙_}
 use Rattle.counts.specs.Outcome.{Outcome}
 use Rattle.counts.specs.OneOutcome.{OneOutcome}
-use Rattle.tokens.specs.declared.Parsed.{Parsed}
+use Rattle.classes.specs.declared.Parsed.{Parsed}
 use Rattle.sums.specs.declared.Totals.{Totals}
 use Rattle.sums.specs.declared.Verdict.{Verdict}
 use Rattle.sums.specs.Verdict.{verdict}

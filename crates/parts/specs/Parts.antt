@@ -8,14 +8,14 @@ use lib.ListN.{length}
 use Rattle.counts.specs.Outcome.{Outcome, gives, refused, then, each}
 use Rattle.record.specs.Dimensions.{subShape}
 use Rattle.tokens.specs.Node.{Node}
-use Rattle.tokens.specs.Got.{Got, got, fault, deep}
-use Rattle.tokens.specs.Text.{byteAt, kindOf}
-use Rattle.tokens.specs.Strings.{spelled}
+use Rattle.classes.specs.Got.{Got, got, fault, deep}
+use Rattle.classes.specs.Text.{byteAt, kindOf}
+use Rattle.escapes.specs.Strings.{spelled}
 use Rattle.literal.specs.Literal.{value}
-use Rattle.literal.specs.Brackets.{thenAt}
+use Rattle.gaps.specs.Gaps.{thenAt}
 use Rattle.literal.specs.Forget.{forget}
-use Rattle.literal.specs.declared.gaps.Gap.{Gap}
-use Rattle.literal.specs.declared.gaps.Gap.the-variants.{Shut, Item, Stray}
+use Rattle.gaps.specs.declared.Gap.{Gap}
+use Rattle.gaps.specs.declared.Gap.the-variants.{Shut, Item, Stray}
 use Rattle.products.specs.declared.Outline.{Outline}
 use Rattle.products.specs.Outline.{outlineOf}
 use Rattle.field.specs.Begins.{isString}

@@ -1,20 +1,20 @@
 // The parts of a field judged while a header's text is read (document 01, "The record"): its name, and what stands behind its inner descr. No walk stops at
 // what it refuses; only a fault of the literal ends it. These serve our own crates. No function here has a `requires`.
 use behind::rest;
+use classes::Parsed;
 use field::string_at;
-use literal::gaps::Gap;
-use literal::gaps::ended;
-use literal::gaps::then_at;
+use gaps::Gap;
+use gaps::ended;
+use gaps::then_at;
 use literal::value;
 use sums::Rule;
 use sums::Verdict;
 use sums::join;
 use sums::named;
 use sums::shaped;
-use tokens::Parsed;
-use tokens::strings::scan_at;
+use tokens::scan_at;
 ghost use mathlib.Core.Path.{_≡_};
-ghost use Rattle.tokens.specs.Got.{pos};
+ghost use Rattle.classes.specs.Got.{pos};
 ghost use Rattle.literal.specs.Literal.{value as valueOf};
 ghost use Rattle.sums.specs.Verdict.{verdict};
 ghost use Rattle.behind.specs.Behind.{itemsFrom};

@@ -1,7 +1,7 @@
 // Replays recorded texts, framed as the crate frames reads them, one answer a line: `ok`, or `6` or `7` and the place of the fault or of the bracket.
+use classes::Parsed;
 use frames::Frame;
 use libc::STDOUT_FILENO;
-use tokens::Parsed;
 
 fn main() {
     let mut room = io::large_buffer();

@@ -3,7 +3,7 @@ use Prim.Native.Nat.{ℕ}
 use mathlib.Core.Path.{_≡_, sym, _∙_}
 use mathlib.Core.List.{List}
 use Rattle.counts.specs.OneOutcome.{OneOutcome}
-use Rattle.literal.specs.declared.gaps.Gap.{Gap}
+use Rattle.gaps.specs.declared.Gap.{Gap}
 use Rattle.stored.specs.declared.Filled.{Filled}
 use Rattle.stored.specs.Fill.{Stored}
 

@@ -20,24 +20,26 @@ use Rattle.record.specs.Parts.{membersOr}
 use Rattle.record.specs.Dimensions.{dimension, dimensions}
 use Rattle.record.specs.Rooms.{atFront}
 use Rattle.tokens.specs.Node.{Node}
-use Rattle.tokens.specs.Got.{Got, got, fault, deep, pos}
+use Rattle.classes.specs.Got.{Got, got, fault, deep, pos}
 use Rattle.literal.specs.Answer.{place}
 use Rattle.literal.specs.Forget.{forget, forgetAll}
-use Rattle.tokens.specs.Text.{byteAt, kindOf}
+use Rattle.classes.specs.Text.{byteAt, kindOf}
 use Rattle.literal.specs.Literal.{value}
-use Rattle.literal.specs.Brackets.{gapAt, thenAt}
+use Rattle.gaps.specs.Gaps.{gapAt, thenAt}
 use Rattle.literal.specs.Rows.{Row}
-use Rattle.tokens.specs.declared.bytes.Kind.{Kind}
-use Rattle.tokens.specs.declared.bytes.Kind.the-variants.{Square, Round, Curly, Quote, Minus, Digit, TrueWord, FalseWord, NoneWord, Other}
-use Rattle.tokens.specs.declared.Parsed.{Parsed}
-use Rattle.tokens.specs.declared.Parsed.the-variants.{Value}
-use Rattle.literal.specs.declared.gaps.Gap.{Gap}
-use Rattle.literal.specs.declared.gaps.Gap.the-variants.{Shut, Item, Stray}
-use Rattle.tokens.proofs.Parsed as parsed
-use Rattle.tokens.proofs.Positions.{kind-in}
-use Rattle.literal.proofs.gaps.Gap as gap
-use Rattle.literal.proofs.Ends.{Ahead, GapAhead, value-ahead, then-ahead}
-use Rattle.literal.proofs.Steps.{Stops, stops, thing, gapLeft, gap-enough, gap-falls, read-ahead}
+use Rattle.classes.specs.declared.Kind.{Kind}
+use Rattle.classes.specs.declared.Kind.the-variants.{Square, Round, Curly, Quote, Minus, Digit, TrueWord, FalseWord, NoneWord, Other}
+use Rattle.classes.specs.declared.Parsed.{Parsed}
+use Rattle.classes.specs.declared.Parsed.the-variants.{Value}
+use Rattle.gaps.specs.declared.Gap.{Gap}
+use Rattle.gaps.specs.declared.Gap.the-variants.{Shut, Item, Stray}
+use Rattle.classes.proofs.Parsed as parsed
+use Rattle.classes.proofs.Positions.{kind-in}
+use Rattle.gaps.proofs.Gap as gap
+use Rattle.literal.proofs.Ends.{Ahead, value-ahead}
+use Rattle.gaps.proofs.Ends.{GapAhead, then-ahead}
+use Rattle.classes.proofs.Ends.{Stops, stops}
+use Rattle.literal.proofs.Steps.{thing, gapLeft, gap-enough, gap-falls, read-ahead}
 use Rattle.products.proofs.Member.{the-type}
 use Rattle.products.specs.declared.Member as member
 use Rattle.products.specs.declared.Member.{Member}

@@ -10,14 +10,14 @@ use lib.Dec.{eqb}
 use Rattle.counts.specs.Outcome.{gives, refused}
 use Rattle.record.specs.Dimensions.{dimension}
 use Rattle.tokens.specs.Node.{Node}
-use Rattle.tokens.specs.Got.{Got, got, fault, deep, pos}
-use Rattle.tokens.specs.Text.{byteAt, kindOf}
+use Rattle.classes.specs.Got.{Got, got, fault, deep, pos}
+use Rattle.classes.specs.Text.{byteAt, kindOf}
 use Rattle.literal.specs.Answer.{place}
 use Rattle.literal.specs.Forget.{forget}
 use Rattle.literal.specs.Literal.{value}
-use Rattle.literal.specs.Brackets.{gapAt, thenAt}
-use Rattle.literal.specs.declared.gaps.Gap.{Gap}
-use Rattle.literal.specs.declared.gaps.Gap.the-variants.{Shut, Item, Stray}
+use Rattle.gaps.specs.Gaps.{gapAt, thenAt}
+use Rattle.gaps.specs.declared.Gap.{Gap}
+use Rattle.gaps.specs.declared.Gap.the-variants.{Shut, Item, Stray}
 use Rattle.member.specs.Members.{closingOf}
 use Rattle.dims.specs.Answer.{dimensionsAt}
 use Rattle.stored.specs.declared.Filled.{Filled}

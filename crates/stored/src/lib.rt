@@ -1,13 +1,13 @@
 // Storing the dimensions of a shape in the text of a header: for the crates of the header reader, which judge first. No function here has a `requires`.
-use literal::gaps::Gap;
-use literal::gaps::gap_at;
-use literal::gaps::then_at;
+use classes::Parsed;
+use classes::kind_of;
+use classes::peek;
+use gaps::Gap;
+use gaps::gap_at;
+use gaps::then_at;
 use member::closing;
 use member::member_at;
 use products::Member;
-use tokens::Parsed;
-use tokens::bytes::kind_of;
-use tokens::bytes::peek;
 ghost use mathlib.Core.Path.{_≡_};
 ghost use lib.ListN.{set};
 ghost use Rattle.stored.specs.Fill.{frontIn, frontAt, stopIn, stopAt, Stored};

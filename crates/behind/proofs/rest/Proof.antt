@@ -1,11 +1,12 @@
 -- All end as the items from the gap on do; each item that is read leaves less of the text. Assumes nothing.
 use mathlib.Core.Path.{_≡_, refl, sym, _∙_}
 use lib.ListN.{length}
-use Rattle.tokens.specs.Got.{pos}
+use Rattle.classes.specs.Got.{pos}
 use Rattle.literal.specs.Literal.{value as valueOf}
-use Rattle.literal.specs.declared.gaps.Gap.the-variants.{Item}
+use Rattle.gaps.specs.declared.Gap.the-variants.{Item}
 use Rattle.literal.proofs.Ends.{value-ahead}
-use Rattle.literal.proofs.Steps.{stops, gapLeft, turn-less}
+use Rattle.classes.proofs.Ends.{stops}
+use Rattle.literal.proofs.Steps.{gapLeft, turn-less}
 use Rattle.behind.specs.Behind.{itemsFrom}
 use Rattle.behind.proofs.Reach.{from-end, from-stop, from-more}
 use borrow.Author.Needs.{needs}

@@ -4,8 +4,8 @@ use mathlib.Core.Path.{_≡_, sym, ap, _∙_}
 use mathlib.Core.Bool.{true, false}
 use borrow.Author.Tests.{not-true, not-false}
 use borrow.Author.Needs.{needs}
-use Rattle.tokens.specs.Text.{byteAt}
-use Rattle.tokens.proofs.Positions.{open-in}
+use Rattle.classes.specs.Text.{byteAt}
+use Rattle.classes.proofs.Positions.{open-in}
 use Rattle.dims.proofs.Held.{nothing-rank}
 use Rattle.dims.proofs.Walking.{isShape, no-shape, shape-round, shape-open, judged-other, judged-deep, judged-square, judged-round}
 use Rattle.dims.proofs.judge.Statement.{statement}

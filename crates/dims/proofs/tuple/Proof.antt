@@ -6,8 +6,8 @@ use lib.ListN.{length}
 use lib.Dec.{lit<}
 use borrow.Author.Needs.{needs}
 use Rattle.counts.specs.Outcome.{gives}
-use Rattle.literal.specs.Brackets.{gapAt}
-use Rattle.literal.proofs.Ends.{need-ahead}
+use Rattle.gaps.specs.Gaps.{gapAt}
+use Rattle.gaps.proofs.Ends.{need-ahead}
 use Rattle.literal.proofs.Steps.{read-ahead}
 use Rattle.products.specs.Outline.{outlineOf}
 use Rattle.dims.proofs.Walking.{round-end, round-stop, round-comma, round-more, first-joined}

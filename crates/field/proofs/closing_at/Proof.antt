@@ -1,6 +1,6 @@
 -- By the kind of the byte. Assumes nothing.
 use mathlib.Core.Path.{ap, _∙_}
-use Rattle.tokens.specs.Text.{kindOf}
+use Rattle.classes.specs.Text.{kindOf}
 use Rattle.member.specs.Members.{closingOf}
 use borrow.Author.Needs.{needs}
 use Rattle.field.proofs.closing_at.Statement.{statement}

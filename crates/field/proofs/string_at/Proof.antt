@@ -1,6 +1,6 @@
 -- By the kind of the byte. Assumes nothing.
 use mathlib.Core.Path.{sym, ap, _∙_}
-use Rattle.tokens.specs.Text.{kindOf}
+use Rattle.classes.specs.Text.{kindOf}
 use Rattle.field.specs.Begins.{isString}
 use Rattle.field.proofs.Begins.{other-kind}
 use borrow.Author.Needs.{needs}

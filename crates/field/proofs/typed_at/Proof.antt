@@ -2,7 +2,7 @@
 use native.Mathlib.Omega.{arith}
 use mathlib.Core.Path.{ap, _∙_}
 use Rattle.type_str.specs.TypeString.{typeString}
-use Rattle.tokens.specs.declared.strings.Scan.{Scan}
+use Rattle.escapes.specs.declared.Scan.{Scan}
 use Rattle.field.proofs.Escapes.{escaped-says, raw-inside, raw-says}
 use borrow.Author.Needs.{needs}
 use Rattle.field.proofs.typed_at.Statement.{statement}

@@ -27,8 +27,8 @@ use Rattle.fill.proofs.fill_plain.Reads as fill-plain-reads
 use Rattle.fill.proofs.head_at.Reads as head-at-reads
 use Rattle.fill.proofs.shaped.Reads as shaped-reads
 use Rattle.held.proofs.held_sum.Reads as held-sum-reads
-use Rattle.literal.proofs.gaps.gap_at.Reads as gap-at-reads
-use Rattle.literal.proofs.gaps.then_at.Reads as then-at-reads
+use Rattle.gaps.proofs.gap_at.Reads as gap-at-reads
+use Rattle.gaps.proofs.then_at.Reads as then-at-reads
 use Rattle.fill.proofs.+fields+fill+fill_record.{statement}
 use Rattle.fill.proofs.+fields+fill+fill_record.Tie.{close}
 

@@ -4,11 +4,11 @@ use native.Mathlib.Omega.{arith}
 use mathlib.Core.Path.{_≡_, sym, ap, subst, _∙_}
 use lib.ListN.{length}
 use lib.Seq.{sets}
-use Rattle.tokens.specs.Text.{byteAt}
-use Rattle.tokens.specs.Strings.{Spelled, spelled}
-use Rattle.tokens.specs.declared.strings.Scan.{Scan}
+use Rattle.classes.specs.Text.{byteAt}
+use Rattle.escapes.specs.Strings.{Spelled, spelled}
+use Rattle.escapes.specs.declared.Scan.{Scan}
 use Rattle.literal.specs.Answer.{place}
-use Rattle.literal.specs.Brackets.{thenAt}
+use Rattle.gaps.specs.Gaps.{thenAt}
 use Rattle.field.specs.Begins.{gapPlace}
 use Rattle.fill.specs.Filled.{namePlace}
 use borrow.Author.Needs.{needs}

@@ -7,8 +7,8 @@ use borrow.Rule.Slice.PartMut.{putMid}
 use Rattle.entry.proofs.Stores.{part-stored}
 use mathlib.Core.Path.{ap, _∙_}
 use lib.ListN.{length, getD}
-use Rattle.tokens.specs.Strings.{spelled, scanned}
-use Rattle.tokens.proofs.Positions.{getD-any}
+use Rattle.escapes.specs.Strings.{spelled, scanned}
+use Rattle.classes.proofs.Positions.{getD-any}
 use borrow.Author.Needs.{needs}
 use Rattle.fill.proofs.name_at.Statement.{statement}
 use Rattle.fill.proofs.name_at.Tie as tie

@@ -2,7 +2,7 @@
 use mathlib.Core.Path.{sym, _∙_}
 use Rattle.counts.proofs.OneOutcome.{told}
 use Rattle.refusal.specs.declared.Refusal.{Refusal}
-use Rattle.tokens.specs.Text.{skip}
+use Rattle.classes.specs.Text.{skip}
 use Rattle.utf8.specs.Answer.{answer}
 use Rattle.judge.proofs.Tests.{refused-by}
 use Rattle.judge.proofs.Top.{ill-record, ended-so, fault-record, deep-record, value-judged}

@@ -1,7 +1,7 @@
 -- The string is compared as it is spelled. Assumes nothing.
 use mathlib.Core.Path.{refl}
 use borrow.Author.Needs.{needs}
-use Rattle.tokens.specs.Strings.{spelled}
+use Rattle.escapes.specs.Strings.{spelled}
 use Rattle.record.specs.Dict.{key-order, key-shape, key-descr}
 use Rattle.key_names.specs.declared.Name.{Name}
 use Rattle.key_names.proofs.Names.{name-is, name-none}

@@ -1,7 +1,7 @@
 -- The kind of the first byte decides. Assumes nothing.
 use mathlib.Core.Path.{sym, ap, _∙_}
 use borrow.Author.Needs.{needs}
-use Rattle.tokens.specs.Text.{kindOf}
+use Rattle.classes.specs.Text.{kindOf}
 use Rattle.key_names.specs.Answer.{wordOf}
 use Rattle.key_names.proofs.Words.{no-word, order-true, order-false, order-other}
 use Rattle.key_names.proofs.word_at.Statement.{statement}

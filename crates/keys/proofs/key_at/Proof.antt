@@ -2,9 +2,9 @@
 use native.Mathlib.Omega.{arith}
 use mathlib.Core.Path.{refl, sym, ap, _∙_}
 use borrow.Author.Needs.{needs}
-use Rattle.tokens.specs.Text.{kindOf}
-use Rattle.tokens.proofs.Positions.{kind-in}
-use Rattle.literal.proofs.Steps.{stops}
+use Rattle.classes.specs.Text.{kindOf}
+use Rattle.classes.proofs.Positions.{kind-in}
+use Rattle.classes.proofs.Ends.{stops}
 use Rattle.keys.proofs.Braces.{no-string}
 use Rattle.keys.proofs.KeyAt.{key-fault, key-string, raw-within, raw-named}
 use Rattle.keys.proofs.key_at.Statement.{statement}

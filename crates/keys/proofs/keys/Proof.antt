@@ -3,9 +3,9 @@ use Prim.Native.Nat.{_-_}
 use native.Mathlib.Omega.{arith}
 use mathlib.Core.Path.{refl, sym, ap, _∙_}
 use borrow.Author.Needs.{needs}
-use Rattle.tokens.specs.Text.{kindOf}
+use Rattle.classes.specs.Text.{kindOf}
 use Rattle.literal.specs.Literal.{most-open}
-use Rattle.tokens.proofs.Positions.{kind-in}
+use Rattle.classes.proofs.Positions.{kind-in}
 use Rattle.keys.proofs.Seek.{dict-keys, dict-walked, no-dict}
 use Rattle.keys.proofs.keys.Statement.{statement}
 use Rattle.keys.proofs.keys.Tie as tie

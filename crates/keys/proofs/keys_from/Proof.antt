@@ -7,7 +7,8 @@ use borrow.Author.Needs.{needs}
 use Rattle.literal.specs.Brackets.{pairBy}
 use Rattle.literal.specs.Literal as read
 use Rattle.literal.proofs.Ends.{value-ahead, pair-ahead}
-use Rattle.literal.proofs.Steps.{Turn, turn-start, turn-more, gapLeft, turn-less, stops, pair-stop, pair-more}
+use Rattle.literal.proofs.Steps.{Turn, turn-start, turn-more, gapLeft, turn-less, pair-stop, pair-more}
+use Rattle.classes.proofs.Ends.{stops}
 use Rattle.dims.proofs.Goes.{Goes, goes-start, goes-more}
 use Rattle.keys.proofs.Seek.{PairIs, pair-descr, pair-shape, pair-else, pair-as, Seen, seen-start, seen-more, walked-end, walked-stop}
 use Rattle.keys.proofs.keys_from.Statement.{statement}

@@ -1,5 +1,5 @@
 -- A value, by whether the keys are all strings; a fault is handed on. Assumes nothing.
-use Rattle.literal.proofs.Steps.{stops}
+use Rattle.classes.proofs.Ends.{stops}
 use Rattle.keys.proofs.Seek.{walk-stop}
 use borrow.Author.Needs.{needs}
 use Rattle.keys.proofs.walk_end.Statement.{statement}

@@ -1,6 +1,6 @@
 -- Digits end somewhere exactly where one stands, and then they are the integer there. Assumes nothing.
 use mathlib.Core.Path.{refl, sym, _∙_}
-use Rattle.tokens.specs.declared.bytes.Kind.the-variants.{Digit}
+use Rattle.classes.specs.declared.Kind.the-variants.{Digit}
 use Rattle.products.specs.Answer.{sized}
 use Rattle.member.proofs.Numbers.{token-value, numeral-ends, numeral-number, numeral-stands, no-numeral, dimension-digit, member-digit}
 use borrow.Author.Needs.{needs}

@@ -3,9 +3,9 @@ use Prim.Native.Nat.{_+_}
 use mathlib.Core.Path.{_≡_, refl, sym, _∙_}
 use native.Mathlib.Omega.{arith}
 use lib.Dec.{lit<}
-use Rattle.tokens.specs.Text.{byteAt}
-use Rattle.tokens.specs.declared.bytes.Kind.the-variants.{Minus}
-use Rattle.tokens.proofs.Positions.{byte-in}
+use Rattle.classes.specs.Text.{byteAt}
+use Rattle.classes.specs.declared.Kind.the-variants.{Minus}
+use Rattle.classes.proofs.Positions.{byte-in}
 use Rattle.products.specs.declared.Member.the-variants.{Form}
 use Rattle.products.specs.Answer.{sized}
 use Rattle.member.proofs.Numbers.{token-value, minus-kind, numeral-ends, numeral-number, dimension-minus, dimension-other, member-minus, member-none}

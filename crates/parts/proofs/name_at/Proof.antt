@@ -4,9 +4,9 @@ use native.Mathlib.Omega.{arith}
 use mathlib.Core.Path.{sym, ap, _∙_}
 use lib.ListN.{length}
 use Rattle.counts.specs.Outcome.{gives}
-use Rattle.tokens.specs.Strings.{spelled}
-use Rattle.tokens.specs.declared.strings.Scan.{Scan}
-use Rattle.tokens.proofs.Positions.{getD-any}
+use Rattle.escapes.specs.Strings.{spelled}
+use Rattle.escapes.specs.declared.Scan.{Scan}
+use Rattle.classes.proofs.Positions.{getD-any}
 use Rattle.sums.specs.Totals.{nameTotals}
 use Rattle.sums.specs.Verdict.{verdict}
 use Rattle.field.proofs.Begins.{string-in}

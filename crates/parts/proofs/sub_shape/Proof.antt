@@ -3,7 +3,7 @@ use mathlib.Core.Path.{ap, _∙_}
 use Rattle.counts.specs.Outcome.{Outcome}
 use Rattle.sums.specs.declared.Totals.{Totals}
 use Rattle.sums.specs.Verdict.{verdict, both}
-use Rattle.literal.proofs.Steps.{stops}
+use Rattle.classes.proofs.Ends.{stops}
 use Rattle.behind.proofs.Reach.{from-end}
 use Rattle.parts.proofs.Behind.{says-none, says-stop, ends-stop, says-shape, ends-shape, says-more, ends-more}
 use borrow.Author.Needs.{needs}

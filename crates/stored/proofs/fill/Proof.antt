@@ -4,7 +4,7 @@ use mathlib.Core.Path.{ap, _∙_}
 use lib.ListN.{length}
 use lib.Seq.{sets}
 use borrow.Author.Needs.{needs}
-use Rattle.tokens.specs.Text.{kindOf}
+use Rattle.classes.specs.Text.{kindOf}
 use Rattle.member.specs.Members.{closingOf}
 use Rattle.stored.proofs.Stored.{front-nothing, front-some}
 use Rattle.stored.proofs.fill.Statement.{statement}

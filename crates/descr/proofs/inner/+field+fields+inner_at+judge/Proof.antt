@@ -7,7 +7,8 @@ use lib.ListN.{length}
 use lib.Dec.{lit<}
 use Rattle.literal.specs.Literal.{value as valueOf}
 use Rattle.literal.proofs.Ends.{value-ahead}
-use Rattle.literal.proofs.Steps.{stops, gapLeft, turn-less as literal-less}
+use Rattle.classes.proofs.Ends.{stops}
+use Rattle.literal.proofs.Steps.{gapLeft, turn-less as literal-less}
 use Rattle.field.proofs.Begins.{string-in}
 use Rattle.sums.specs.Verdict.{verdict}
 use Rattle.descr.proofs.Adds.{fieldBy, descrBy}
@@ -36,9 +37,9 @@ use Rattle.behind.proofs.second_at.Reads as second-at-reads
 use Rattle.parts.proofs.sub_shape.Reads as sub-shape-reads
 use Rattle.field.proofs.closing_at.Reads as closing-at-reads
 use Rattle.field.proofs.string_at.Reads as string-at-reads
-use Rattle.literal.proofs.gaps.ended.Reads as ended-reads
-use Rattle.literal.proofs.gaps.gap_at.Reads as gap-at-reads
-use Rattle.literal.proofs.gaps.then_at.Reads as then-at-reads
+use Rattle.gaps.proofs.ended.Reads as ended-reads
+use Rattle.gaps.proofs.gap_at.Reads as gap-at-reads
+use Rattle.gaps.proofs.then_at.Reads as then-at-reads
 use Rattle.literal.proofs.value.Reads as value-reads
 use Rattle.sums.proofs.join.Reads as join-reads
 use Rattle.descr.proofs.inner.+field+fields+inner_at+judge.{statement}

@@ -5,8 +5,8 @@ use Rattle.counts.specs.Outcome.{Outcome, each}
 use Rattle.type_str.specs.declared.TypeStr.{TypeStr}
 use Rattle.type_str.specs.TypeString.{typeString}
 use Rattle.dtype.specs.Dtype.{plain}
-use Rattle.tokens.specs.Strings.{spelled}
-use Rattle.tokens.proofs.Positions.{getD-any}
+use Rattle.escapes.specs.Strings.{spelled}
+use Rattle.classes.proofs.Positions.{getD-any}
 use Rattle.sums.specs.Totals.{totalsOf}
 use borrow.Author.Needs.{needs}
 use Rattle.descr.proofs.inner.plain_at.Statement.{statement}
