@@ -1,5 +1,5 @@
 """A model of document 01's string elements, written from its text ("String elements"): S, U and V, from the bytes of one element and back. A type is what rule.type_string gives; it
-is for the caller of `write_bytes` and `write_points` to have 27 judged before. An answer is the bytes or the points, or the refusal's number; `room` counts bytes, and for read_points
+is for the caller to have 27 judged before. An answer is the bytes or the points, or the refusal's number; `room` counts bytes, and for read_points
 code points."""
 
 

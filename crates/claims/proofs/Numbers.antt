@@ -486,12 +486,15 @@ points-out-numbered Kind.Other order size value = a-number (refl, refl)
 
 pub read-bytes-numbered : (t : TypeStr) (run room : List ℕ) → Numbered (readBytes t run room)
 unfolding readBytes
-read-bytes-numbered t run room = then-numbered (bytesIn (kindOf (t .letter)) run) (roomed 23 room) (bytes-in-numbered (kindOf (t .letter)) run) (λ c. roomed-numbered 23 room c (refl, refl))
+read-bytes-numbered t run room =
+    unless-numbered (not (isType t)) 27 (refl, refl)
+    (then-numbered (bytesIn (kindOf (t .letter)) run) (roomed 23 room) (bytes-in-numbered (kindOf (t .letter)) run) (λ c. roomed-numbered 23 room c (refl, refl)))
 
 pub read-points-numbered : (t : TypeStr) (run room : List ℕ) → Numbered (readPoints t run room)
 unfolding readPoints
 read-points-numbered t run room =
-    then-numbered (pointsIn (kindOf (t .letter)) (t .order) run) (roomed 23 room) (points-in-numbered (kindOf (t .letter)) (t .order) run) (λ c. roomed-numbered 23 room c (refl, refl))
+    unless-numbered (not (isType t)) 27 (refl, refl)
+    (then-numbered (pointsIn (kindOf (t .letter)) (t .order) run) (roomed 23 room) (points-in-numbered (kindOf (t .letter)) (t .order) run) (λ c. roomed-numbered 23 room c (refl, refl)))
 
 pub write-bytes-numbered : (t : TypeStr) (value room : List ℕ) → Numbered (writeBytes t value room)
 unfolding writeBytes

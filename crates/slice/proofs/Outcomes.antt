@@ -17,21 +17,23 @@ use Rattle.slice.specs.declared.Wrote.{Wrote}
 
 bytes-back : Outcome ℕ → BytesRead
 bytes-back (gives n) = BytesRead.Read (record { 0 = n })
-bytes-back (refused n) = cond (eqb n 26) BytesRead.NoString BytesRead.Room
+bytes-back (refused n) = cond (eqb n 27) BytesRead.NoType (cond (eqb n 26) BytesRead.NoString BytesRead.Room)
 
 bytes-same : (r : BytesRead) → bytes-back (bytesAnswer r) ≡ r
 unfolding bytes-back
 bytes-same (BytesRead.Read n) = refl
+bytes-same BytesRead.NoType = refl
 bytes-same BytesRead.NoString = refl
 bytes-same BytesRead.Room = refl
 
 points-back : Outcome ℕ → PointsRead
 points-back (gives n) = PointsRead.Read (record { 0 = n })
-points-back (refused n) = cond (eqb n 26) PointsRead.NoString (cond (eqb n 29) PointsRead.BadScalar PointsRead.Room)
+points-back (refused n) = cond (eqb n 27) PointsRead.NoType (cond (eqb n 26) PointsRead.NoString (cond (eqb n 29) PointsRead.BadScalar PointsRead.Room))
 
 points-same : (r : PointsRead) → points-back (pointsAnswer r) ≡ r
 unfolding points-back
 points-same (PointsRead.Read n) = refl
+points-same PointsRead.NoType = refl
 points-same PointsRead.NoString = refl
 points-same PointsRead.BadScalar = refl
 points-same PointsRead.Room = refl

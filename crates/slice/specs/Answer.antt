@@ -8,11 +8,13 @@ use Rattle.slice.specs.declared.Wrote.{Wrote}
 
 abbrev pub bytesAnswer : BytesRead → Outcome ℕ
 bytesAnswer (BytesRead.Read n) = gives (n .0)
+bytesAnswer BytesRead.NoType = refused 27
 bytesAnswer BytesRead.NoString = refused 26
 bytesAnswer BytesRead.Room = refused 23
 
 abbrev pub pointsAnswer : PointsRead → Outcome ℕ
 pointsAnswer (PointsRead.Read n) = gives (n .0)
+pointsAnswer PointsRead.NoType = refused 27
 pointsAnswer PointsRead.NoString = refused 26
 pointsAnswer PointsRead.BadScalar = refused 29
 pointsAnswer PointsRead.Room = refused 23

@@ -20,16 +20,18 @@ ghost use Rattle.strings.specs.Runs.{filled, pointBytes};
 ghost use Rattle.strings.specs.Rooms.{roomed, readBytes, readPoints, writeBytes, writePoints, Owes};
 ghost use Rattle.slice.specs.Answer.{bytesAnswer, pointsAnswer, wroteAnswer};
 
-// What reading bytes answers: how many were written, that the type has none, or that the room is too small.
+// What reading bytes answers: how many were written, or the first of 27, 26 and 23 that applies.
 pub enum BytesRead {
     Read(Bytes),
+    NoType,
     NoString,
     Room,
 }
 
-// What reading code points answers: how many were written, that the type has none, that four bytes are no scalar value, or that the room is too small.
+// What reading code points answers: how many were written, or the first of 27, 26, 29 and 23 that applies.
 pub enum PointsRead {
     Read(Points),
+    NoType,
     NoString,
     BadScalar,
     Room,
@@ -67,6 +69,9 @@ fn kind_of(letter: TypeChar) -> Kind
 pub fn read_bytes(run: &[u8], t: TypeStr, out: &mut [u8]) -> BytesRead
     ensures { λ r. ⌜ Owes (readBytes t (now (run .entry)) (now (out .entry))) (now (out .entry)) (bytesAnswer r) (now (out .exit)) ⌝ }
 {
+    if !t.is_type() {
+        return BytesRead::NoType;
+    }
     let letter = t.letter;
     let kind = kind_of(letter);
     match kind {
@@ -94,6 +99,9 @@ fn copy(value: &[u8], out: &mut [u8]) -> BytesRead
 pub fn read_points(run: &[u8], t: TypeStr, out: &mut [u32]) -> PointsRead
     ensures { λ r. ⌜ Owes (readPoints t (now (run .entry)) (now (out .entry))) (now (out .entry)) (pointsAnswer r) (now (out .exit)) ⌝ }
 {
+    if !t.is_type() {
+        return PointsRead::NoType;
+    }
     let letter = t.letter;
     let order = t.order;
     if !letter.is_unicode() {

@@ -43,6 +43,15 @@ unfolding writeBytes
 bytes-run t value room run kind k e =
     ap (λ (x : Kind). bytesOut x (t .size) value) (sym k) ∙ had-room (bytesOut (kindOf (t .letter)) (t .size) value) 28 room run (passed (not (isType t)) 27 _ e .1)
 
+-- a value that was written was written to a type that readings give
+bytes-typed : (t : TypeStr) (value room run : List ℕ) → writeBytes t value room ≡ gives run → isType t ≡ true
+unfolding writeBytes
+bytes-typed t value room run e = not-false (isType t) (passed (not (isType t)) 27 _ e .0)
+
+points-typed : (t : TypeStr) (value room run : List ℕ) → writePoints t value room ≡ gives run → isType t ≡ true
+unfolding writePoints
+points-typed t value room run e = not-false (isType t) (passed (not (isType t)) 27 _ e .0)
+
 -- ---- S and V
 s-run : (t : TypeStr) (value room run : List ℕ) → kindOf (t .letter) ≡ Kind.ByteStr → writeBytes t value room ≡ gives run → trimmed run ≡ trimmed value
 unfolding bytesOut
@@ -56,11 +65,13 @@ v-run t value room run k e = sym (gives-same (passed (not (eqb (t .size) (length
 
 pub s-back : (t : TypeStr) (value room run room′ : List ℕ) → kindOf (t .letter) ≡ Kind.ByteStr → writeBytes t value room ≡ gives run
     → readBytes t run room′ ≡ roomed 23 room′ (trimmed value)
-s-back t value room run room′ k e = sym (read-bytes-by t run room′ Kind.ByteStr (sym k)) ∙ ap (λ (l : List ℕ). roomed 23 room′ l) (s-run t value room run k e)
+s-back t value room run room′ k e =
+    sym (read-bytes-by t run room′ (bytes-typed t value room run e) Kind.ByteStr (sym k)) ∙ ap (λ (l : List ℕ). roomed 23 room′ l) (s-run t value room run k e)
 
 pub v-back : (t : TypeStr) (value room run room′ : List ℕ) → kindOf (t .letter) ≡ Kind.RawData → writeBytes t value room ≡ gives run
     → readBytes t run room′ ≡ roomed 23 room′ value
-v-back t value room run room′ k e = sym (read-bytes-by t run room′ Kind.RawData (sym k)) ∙ ap (λ (l : List ℕ). roomed 23 room′ l) (v-run t value room run k e)
+v-back t value room run room′ k e =
+    sym (read-bytes-by t run room′ (bytes-typed t value room run e) Kind.RawData (sym k)) ∙ ap (λ (l : List ℕ). roomed 23 room′ l) (v-run t value room run k e)
 
 pub s-apart : (t : TypeStr) (a b room room′ run : List ℕ) → kindOf (t .letter) ≡ Kind.ByteStr → writeBytes t a room ≡ gives run → writeBytes t b room′ ≡ gives run → trimmed a ≡ trimmed b
 s-apart t a b room room′ run k d e = sym (s-run t a room run k d) ∙ s-run t b room′ run k e
@@ -119,7 +130,8 @@ u-run t value room run e =
 
 pub u-back : (t : TypeStr) (value room run room′ : List ℕ) → writePoints t value room ≡ gives run → readPoints t run room′ ≡ roomed 23 room′ (trimmed value)
 unfolding readPoints
-u-back t value room run room′ e = ap (λ (o : Outcome (List ℕ)). then o (roomed 23 room′)) (u-run t value room run e)
+u-back t value room run room′ e =
+    rw (readPoints, points-typed t value room run e) (ap (λ (o : Outcome (List ℕ)). then o (roomed 23 room′)) (u-run t value room run e))
 
 pub u-apart : (t : TypeStr) (a b room room′ run : List ℕ) → writePoints t a room ≡ gives run → writePoints t b room′ ≡ gives run → trimmed a ≡ trimmed b
 u-apart t a b room room′ run d e = gives-same (sym (u-run t a room run d) ∙ u-run t b room′ run e)

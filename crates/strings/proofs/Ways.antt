@@ -56,10 +56,28 @@ other-kind f a s v o UnicodeStr h = true-false h
 other-kind f a s v o Object h = sym o
 other-kind f a s v o RawData h = sym v
 
+-- ---- a type that no reading gives: 27 of each of the four
+module _ (t : TypeStr) (content room : List ℕ) (h : isType t ≡ false) where
+  pub read-bytes-none : refused 27 ≡ readBytes t content room
+  unfolding readBytes
+  read-bytes-none = rw (readBytes, h)
+
+  pub read-points-none : refused 27 ≡ readPoints t content room
+  unfolding readPoints
+  read-points-none = rw (readPoints, h)
+
+  pub write-bytes-none : refused 27 ≡ writeBytes t content room
+  unfolding writeBytes
+  write-bytes-none = rw (writeBytes, h)
+
+  pub write-points-none : refused 27 ≡ writePoints t content room
+  unfolding writePoints
+  write-points-none = rw (writePoints, h)
+
 -- ---- reading
-pub read-bytes-by : (t : TypeStr) (run room : List ℕ) (kind : Kind) → kind ≡ kindOf (t .letter) → then (bytesIn kind run) (roomed 23 room) ≡ readBytes t run room
+pub read-bytes-by : (t : TypeStr) (run room : List ℕ) → isType t ≡ true → (kind : Kind) → kind ≡ kindOf (t .letter) → then (bytesIn kind run) (roomed 23 room) ≡ readBytes t run room
 unfolding readBytes
-read-bytes-by t run room kind e = ap (λ (k : Kind). then (bytesIn k run) (roomed 23 room)) e
+read-bytes-by t run room h kind e = rw (readBytes, h) (ap (λ (k : Kind). then (bytesIn k run) (roomed 23 room)) e)
 
 -- what was judged tells what was found
 judged-bad : {A : Type 0} (f : List ℕ → A) (o : Outcome (List ℕ)) (n : ℕ) → refused n ≡ each f o → o ≡ refused n
@@ -70,15 +88,15 @@ judged-found : {A : Type 0} (f : List ℕ → A) (o : Outcome (List ℕ)) (k : A
 judged-found f (gives ps) k e = (refl, cc)
 judged-found f (refused m) k e = apart e
 
-module _ (t : TypeStr) (run room : List ℕ) where
-  pub read-points-none : isUnicode (t .letter) ≡ false → refused 26 ≡ readPoints t run room
+module _ (t : TypeStr) (run room : List ℕ) (h : isType t ≡ true) where
+  pub read-points-other : isUnicode (t .letter) ≡ false → refused 26 ≡ readPoints t run room
   unfolding readPoints
-  read-points-none h = other-kind (λ k. then (pointsIn k (t .order) run) (roomed 23 room)) (refused 26) refl refl refl (t .letter) h
+  read-points-other u = rw (readPoints, h) (other-kind (λ k. then (pointsIn k (t .order) run) (roomed 23 room)) (refused 26) refl refl refl (t .letter) u)
 
   module _ (u : isUnicode (t .letter) ≡ true) where
     in-points : then (each trimmed (points (t .order) run)) (roomed 23 room) ≡ readPoints t run room
     unfolding readPoints
-    in-points = ap (λ (k : Kind). then (pointsIn k (t .order) run) (roomed 23 room)) (sym (unicode-kind (t .letter) u))
+    in-points = rw (readPoints, h) (ap (λ (k : Kind). then (pointsIn k (t .order) run) (roomed 23 room)) (sym (unicode-kind (t .letter) u)))
 
     pub read-points-bad : refused 29 ≡ each (λ (ps : List ℕ). length (trimmed ps)) (points (t .order) run) → refused 29 ≡ readPoints t run room
     read-points-bad j =
@@ -96,41 +114,32 @@ module _ (t : TypeStr) (run room : List ℕ) where
           sym (ap (λ (o : Outcome (List ℕ)). then (each trimmed o) (roomed 23 room)) (judged-found (λ ps. length (trimmed ps)) (points (t .order) run) k j .0)) ∙ in-points
 
       pub read-points-short : length room < k → Owes (readPoints t run room) room (refused 23) room
-      read-points-short h = owes-same _ _ _ _ _ in-room (owes-short 23 room (trimmed (found (points (t .order) run))) (omega (arith, left-of)))
+      read-points-short s = owes-same _ _ _ _ _ in-room (owes-short 23 room (trimmed (found (points (t .order) run))) (omega (arith, left-of)))
 
       pub read-points-whole : (answer : Outcome ℕ) (out : List ℕ) → k ≤ length room → answer ≡ gives k → out ≡ take k (found (points (t .order) run)) ++ drop k room
           → Owes (readPoints t run room) room answer out
-      read-points-whole answer out h a e =
+      read-points-whole answer out le a e =
           let ps = found (points (t .order) run) in
           let o : out ≡ trimmed ps ++ drop (length (trimmed ps)) room =
           e ∙ ap (λ (n : ℕ). take n ps ++ drop n room) left-of ∙ ap (λ (l : List ℕ). l ++ drop (length (trimmed ps)) room) (trim-take ps) in
           owes-same _ _ _ _ _ in-room
           (rw (a, o) (owes-whole 23 room (trimmed ps) k (omega (arith, left-of)) left-of))
 
--- ---- writing bytes
-module _ (t : TypeStr) (value room : List ℕ) where
-  pub write-bytes-none : isType t ≡ false → refused 27 ≡ writeBytes t value room
+-- ---- writing
+module _ (t : TypeStr) (value room : List ℕ) (h : isType t ≡ true) where
+  pub write-bytes-by : (kind : Kind) (put : Outcome (List ℕ)) → kind ≡ kindOf (t .letter) → bytesOut kind (t .size) value ≡ put → then put (roomed 28 room) ≡ writeBytes t value room
   unfolding writeBytes
-  write-bytes-none h = rw (writeBytes, h)
+  write-bytes-by kind put e p =
+      rw (writeBytes, h) (ap (λ (o : Outcome (List ℕ)). then o (roomed 28 room)) (sym p) ∙ ap (λ (k : Kind). then (bytesOut k (t .size) value) (roomed 28 room)) e)
 
-  pub write-points-none : isType t ≡ false → refused 27 ≡ writePoints t value room
+  pub write-points-other : isUnicode (t .letter) ≡ false → refused 26 ≡ writePoints t value room
+  unfolding writePoints pointsOut
+  write-points-other u = rw (writePoints, h) (other-kind (λ k. then (pointsOut k (t .order) (t .size) value) (roomed 28 room)) (refused 26) refl refl refl (t .letter) u)
+
+  pub write-points-by : (put : Outcome (List ℕ)) → isUnicode (t .letter) ≡ true → pointsOut Kind.UnicodeStr (t .order) (t .size) value ≡ put → then put (roomed 28 room) ≡ writePoints t value room
   unfolding writePoints
-  write-points-none h = rw (writePoints, h)
-
-  module _ (h : isType t ≡ true) where
-    pub write-bytes-by : (kind : Kind) (put : Outcome (List ℕ)) → kind ≡ kindOf (t .letter) → bytesOut kind (t .size) value ≡ put → then put (roomed 28 room) ≡ writeBytes t value room
-    unfolding writeBytes
-    write-bytes-by kind put e p =
-        rw (writeBytes, h) (ap (λ (o : Outcome (List ℕ)). then o (roomed 28 room)) (sym p) ∙ ap (λ (k : Kind). then (bytesOut k (t .size) value) (roomed 28 room)) e)
-
-    pub write-points-other : isUnicode (t .letter) ≡ false → refused 26 ≡ writePoints t value room
-    unfolding writePoints pointsOut
-    write-points-other u = rw (writePoints, h) (other-kind (λ k. then (pointsOut k (t .order) (t .size) value) (roomed 28 room)) (refused 26) refl refl refl (t .letter) u)
-
-    pub write-points-by : (put : Outcome (List ℕ)) → isUnicode (t .letter) ≡ true → pointsOut Kind.UnicodeStr (t .order) (t .size) value ≡ put → then put (roomed 28 room) ≡ writePoints t value room
-    unfolding writePoints
-    write-points-by put u p =
-        rw (writePoints, h) (ap (λ (o : Outcome (List ℕ)). then o (roomed 28 room)) (sym p) ∙ ap (λ (k : Kind). then (pointsOut k (t .order) (t .size) value) (roomed 28 room)) (sym (unicode-kind (t .letter) u)))
+  write-points-by put u p =
+      rw (writePoints, h) (ap (λ (o : Outcome (List ℕ)). then o (roomed 28 room)) (sym p) ∙ ap (λ (k : Kind). then (pointsOut k (t .order) (t .size) value) (roomed 28 room)) (sym (unicode-kind (t .letter) u)))
 
 -- ---- the run of a value
 module _ (size : ℕ) (value : List ℕ) where

@@ -25,10 +25,10 @@ after room (refused n) = room
 -- ---- the four functions: what goes to the room, or the first refusal
 
 unfoldable pub readBytes : TypeStr → (run room : List ℕ) → Outcome (List ℕ)
-readBytes t run room = then (bytesIn (kindOf (t .letter)) run) (roomed 23 room)
+readBytes t run room = unless (not (isType t)) 27 (then (bytesIn (kindOf (t .letter)) run) (roomed 23 room))
 
 unfoldable pub readPoints : TypeStr → (run room : List ℕ) → Outcome (List ℕ)
-readPoints t run room = then (pointsIn (kindOf (t .letter)) (t .order) run) (roomed 23 room)
+readPoints t run room = unless (not (isType t)) 27 (then (pointsIn (kindOf (t .letter)) (t .order) run) (roomed 23 room))
 
 unfoldable pub writeBytes : TypeStr → (value room : List ℕ) → Outcome (List ℕ)
 writeBytes t value room = unless (not (isType t)) 27 (then (bytesOut (kindOf (t .letter)) (t .size) value) (roomed 28 room))

@@ -16,6 +16,7 @@ pub fn tell_bytes(a: BytesRead, said: &mut [u64; 1]) -> u8
             *said = [n.0];
             0
         }
+        BytesRead::NoType => 27,
         BytesRead::NoString => 26,
         BytesRead::Room => 23,
     }
@@ -29,6 +30,7 @@ pub fn tell_points(a: PointsRead, said: &mut [u64; 1]) -> u8
             *said = [n.0];
             0
         }
+        PointsRead::NoType => 27,
         PointsRead::NoString => 26,
         PointsRead::BadScalar => 29,
         PointsRead::Room => 23,

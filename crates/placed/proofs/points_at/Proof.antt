@@ -51,6 +51,9 @@ enum-told-10 c = search needs
 enum-told-11 : tie.Need-enum-told-11
 enum-told-11 c = search needs
 
+enum-told-12 : tie.Need-enum-told-12
+enum-told-12 c = search needs
+
 same-length : tie.Need-same-length
 same-length c = search needs
 
@@ -75,29 +78,35 @@ same-length-4 c = search needs
 returns-4 : tie.Need-returns-4
 returns-4 c = points-placed (c .before .before .before .before .before .before .before .before .before .before .before .before .before .args .file .now) (c .before .before .before .before .before .before .before .before .before .before .before .before .before .args .out .now) (c .before .before .before .before .before .before .before .before .before .place .given .1) (c .before .before .before .before .before .before .part .ensures) (c .enum-told3 .given .1) (c .before .before .before .before .read-points .ensures)
 
+same-length-5 : tie.Need-same-length-5
+same-length-5 c = search needs
+
 returns-5 : tie.Need-returns-5
-returns-5 c = no-place 27 _ _ (ap answer (c .enum-told4 .given .1))
+returns-5 c = points-placed (c .before .before .before .before .before .before .before .before .before .before .before .before .before .args .file .now) (c .before .before .before .before .before .before .before .before .before .before .before .before .before .args .out .now) (c .before .before .before .before .before .before .before .before .before .place .given .1) (c .before .before .before .before .before .before .part .ensures) (c .enum-told4 .given .1) (c .before .before .before .before .read-points .ensures)
 
 returns-6 : tie.Need-returns-6
-returns-6 c = no-place 13 _ _ (ap answer (c .enum-told5 .given .1))
+returns-6 c = no-place 27 _ _ (ap answer (c .enum-told5 .given .1))
 
 returns-7 : tie.Need-returns-7
-returns-7 c = no-place 20 _ _ (ap answer (c .enum-told6 .given .1))
+returns-7 c = no-place 13 _ _ (ap answer (c .enum-told6 .given .1))
 
 returns-8 : tie.Need-returns-8
-returns-8 c = no-place 21 _ _ (ap answer (c .enum-told7 .given .1))
+returns-8 c = no-place 20 _ _ (ap answer (c .enum-told7 .given .1))
 
 returns-9 : tie.Need-returns-9
-returns-9 c = no-place 22 _ _ (ap answer (c .enum-told8 .given .1))
+returns-9 c = no-place 21 _ _ (ap answer (c .enum-told8 .given .1))
 
 returns-10 : tie.Need-returns-10
-returns-10 c = no-place 24 _ _ (ap answer (c .enum-told9 .given .1))
+returns-10 c = no-place 22 _ _ (ap answer (c .enum-told9 .given .1))
 
 returns-11 : tie.Need-returns-11
-returns-11 c = no-place 25 _ _ (ap answer (c .enum-told10 .given .1))
+returns-11 c = no-place 24 _ _ (ap answer (c .enum-told10 .given .1))
 
 returns-12 : tie.Need-returns-12
-returns-12 c = no-place 26 _ _ (ap answer (c .enum-told11 .given .1))
+returns-12 c = no-place 25 _ _ (ap answer (c .enum-told11 .given .1))
+
+returns-13 : tie.Need-returns-13
+returns-13 c = no-place 26 _ _ (ap answer (c .enum-told12 .given .1))
 
 pub points-at-spec : {M : Type 1} → statement M
 points-at-spec =
@@ -118,6 +127,7 @@ points-at-spec =
     enum-told-9
     enum-told-10
     enum-told-11
+    enum-told-12
     same-length
     returns
     same-length-2
@@ -126,6 +136,7 @@ points-at-spec =
     returns-3
     same-length-4
     returns-4
+    same-length-5
     returns-5
     returns-6
     returns-7
@@ -133,4 +144,5 @@ points-at-spec =
     returns-9
     returns-10
     returns-11
-    returns-12)
+    returns-12
+    returns-13)

@@ -1,19 +1,25 @@
--- `slice::read_points` meets its contract: only U has code points; then what was judged, and the room. Assumes nothing.
+-- `slice::read_points` meets its contract: 27; only U has code points; then what was judged, and the room. Assumes nothing.
 use mathlib.Core.Path.{sym, _∙_}
 use borrow.Author.Tests.{not-true, not-false}
 use Rattle.counts.proofs.OneOutcome.{told}
 use Rattle.points.specs.Answer.{judgedAnswer}
 use Rattle.strings.proofs.Places.{owes-refused, owes-same}
-use Rattle.strings.proofs.Ways.{read-points-none, read-points-bad, read-points-short, read-points-inside, read-points-whole}
+use Rattle.strings.proofs.Ways.{read-points-none, read-points-other, read-points-bad, read-points-short, read-points-inside, read-points-whole}
 use borrow.Author.Needs.{needs}
 use Rattle.slice.proofs.read_points.Statement.{statement}
 use Rattle.slice.proofs.read_points.Tie as tie
 
+is-type-requires : tie.Need-is-type-requires
+is-type-requires c κs = search needs
+
+returns : tie.Need-returns
+returns c = owes-same _ _ _ _ _ (read-points-none (c .before .before .before .before .args .t) (c .before .before .before .before .args .run .now) (c .before .before .before .before .args .out .now) (sym (c .before .is-type .ensures) ∙ not-true _ (c .if1 .taken))) (owes-refused 27 _)
+
 is-unicode-requires : tie.Need-is-unicode-requires
 is-unicode-requires c κs = search needs
 
-returns : tie.Need-returns
-returns c = owes-same _ _ _ _ _ (read-points-none (c .before .before .before .before .args .t) (c .before .before .before .before .args .run .now) (c .before .before .before .before .args .out .now) (sym (c .before .is-unicode .ensures) ∙ not-true _ (c .if1 .taken))) (owes-refused 26 _)
+returns-2 : tie.Need-returns-2
+returns-2 c = owes-same _ _ _ _ _ (read-points-other (c .before .before .before .before .before .before .args .t) (c .before .before .before .before .before .before .args .run .now) (c .before .before .before .before .before .before .args .out .now) (sym (c .before .before .before .is-type .ensures) ∙ not-false _ (c .before .before .if1 .left)) (sym (c .before .is-unicode .ensures) ∙ not-true _ (c .if2 .taken))) (owes-refused 26 _)
 
 judge-requires : tie.Need-judge-requires
 judge-requires c κs = search needs
@@ -24,32 +30,34 @@ enum-known-n c = search needs
 enum-told : tie.Need-enum-told
 enum-told c = search needs
 
-returns-2 : tie.Need-returns-2
-returns-2 c = owes-same _ _ _ _ _ (read-points-bad (c .before .before .before .before .before .before .before .args .t) (c .before .before .before .before .before .before .before .args .run .now) (c .before .before .before .before .before .before .before .args .out .now) (sym (c .before .before .before .before .is-unicode .ensures) ∙ not-false _ (c .before .before .before .if1 .left)) (told judgedAnswer (c .before .before .judge .ensures) (c .enum-told .given .1))) (owes-refused 29 _)
-
 returns-3 : tie.Need-returns-3
-returns-3 c = read-points-short (c .before .before .before .before .before .before .before .before .before .before .args .t) (c .before .before .before .before .before .before .before .before .before .before .args .run .now) (c .before .before .before .before .before .before .before .before .before .before .args .out .now) (sym (c .before .before .before .before .before .before .before .is-unicode .ensures) ∙ not-false _ (c .before .before .before .before .before .before .if1 .left)) _ (told judgedAnswer (c .before .before .before .before .before .judge .ensures) (c .before .before .before .n .given .1)) (c .if2 .taken)
+returns-3 c = owes-same _ _ _ _ _ (read-points-bad (c .before .before .before .before .before .before .before .before .before .args .t) (c .before .before .before .before .before .before .before .before .before .args .run .now) (c .before .before .before .before .before .before .before .before .before .args .out .now) (sym (c .before .before .before .before .before .before .is-type .ensures) ∙ not-false _ (c .before .before .before .before .before .if1 .left)) (sym (c .before .before .before .before .is-unicode .ensures) ∙ not-false _ (c .before .before .before .if2 .left)) (told judgedAnswer (c .before .before .judge .ensures) (c .enum-told .given .1))) (owes-refused 29 _)
+
+returns-4 : tie.Need-returns-4
+returns-4 c = read-points-short (c .before .before .before .before .before .before .before .before .before .before .before .before .args .t) (c .before .before .before .before .before .before .before .before .before .before .before .before .args .run .now) (c .before .before .before .before .before .before .before .before .before .before .before .before .args .out .now) (sym (c .before .before .before .before .before .before .before .before .before .is-type .ensures) ∙ not-false _ (c .before .before .before .before .before .before .before .before .if1 .left)) (sym (c .before .before .before .before .before .before .before .is-unicode .ensures) ∙ not-false _ (c .before .before .before .before .before .before .if2 .left)) _ (told judgedAnswer (c .before .before .before .before .before .judge .ensures) (c .before .before .before .n .given .1)) (c .if3 .taken)
 
 copy-points-requires : tie.Need-copy-points-requires
-copy-points-requires c κs = (read-points-inside (c .before .before .before .before .before .before .before .before .before .before .before .args .t) (c .before .before .before .before .before .before .before .before .before .before .before .args .run .now) (c .before .before .before .before .before .before .before .before .before .before .before .args .out .now) (sym (c .before .before .before .before .before .before .before .before .is-unicode .ensures) ∙ not-false _ (c .before .before .before .before .before .before .before .if1 .left)) _ (told judgedAnswer (c .before .before .before .before .before .before .judge .ensures) (c .before .before .before .before .n .given .1)), c .before .if2 .left)
+copy-points-requires c κs = (read-points-inside (c .before .before .before .before .before .before .before .before .before .before .before .before .before .args .t) (c .before .before .before .before .before .before .before .before .before .before .before .before .before .args .run .now) (c .before .before .before .before .before .before .before .before .before .before .before .before .before .args .out .now) (sym (c .before .before .before .before .before .before .before .before .before .before .is-type .ensures) ∙ not-false _ (c .before .before .before .before .before .before .before .before .before .if1 .left)) (sym (c .before .before .before .before .before .before .before .before .is-unicode .ensures) ∙ not-false _ (c .before .before .before .before .before .before .before .if2 .left)) _ (told judgedAnswer (c .before .before .before .before .before .before .judge .ensures) (c .before .before .before .before .n .given .1)), c .before .if3 .left)
 
 same-length : tie.Need-same-length
 same-length c = search needs
 
-returns-4 : tie.Need-returns-4
-returns-4 c = read-points-whole (c .before .before .before .before .before .before .before .before .before .before .before .before .before .before .args .t) (c .before .before .before .before .before .before .before .before .before .before .before .before .before .before .args .run .now) (c .before .before .before .before .before .before .before .before .before .before .before .before .before .before .args .out .now) (sym (c .before .before .before .before .before .before .before .before .before .before .before .is-unicode .ensures) ∙ not-false _ (c .before .before .before .before .before .before .before .before .before .before .if1 .left)) _ (told judgedAnswer (c .before .before .before .before .before .before .before .before .before .judge .ensures) (c .before .before .before .before .before .before .before .n .given .1)) _ _ (c .before .before .before .before .if2 .left) (c .before .before .copy-points .ensures .0) (c .before .before .copy-points .ensures .1)
+returns-5 : tie.Need-returns-5
+returns-5 c = read-points-whole (c .before .before .before .before .before .before .before .before .before .before .before .before .before .before .before .before .args .t) (c .before .before .before .before .before .before .before .before .before .before .before .before .before .before .before .before .args .run .now) (c .before .before .before .before .before .before .before .before .before .before .before .before .before .before .before .before .args .out .now) (sym (c .before .before .before .before .before .before .before .before .before .before .before .before .before .is-type .ensures) ∙ not-false _ (c .before .before .before .before .before .before .before .before .before .before .before .before .if1 .left)) (sym (c .before .before .before .before .before .before .before .before .before .before .before .is-unicode .ensures) ∙ not-false _ (c .before .before .before .before .before .before .before .before .before .before .if2 .left)) _ (told judgedAnswer (c .before .before .before .before .before .before .before .before .before .judge .ensures) (c .before .before .before .before .before .before .before .n .given .1)) _ _ (c .before .before .before .before .if3 .left) (c .before .before .copy-points .ensures .0) (c .before .before .copy-points .ensures .1)
 
 pub read-points-spec : {M : Type 1} → statement M
 read-points-spec =
     tie.close
     (tie.spec
-    is-unicode-requires
+    is-type-requires
     returns
+    is-unicode-requires
+    returns-2
     judge-requires
     enum-known-n
     enum-told
-    returns-2
     returns-3
+    returns-4
     copy-points-requires
     same-length
-    returns-4)
+    returns-5)

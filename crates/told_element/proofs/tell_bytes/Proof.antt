@@ -16,6 +16,9 @@ enum-told c = search needs
 enum-told-2 : tie.Need-enum-told-2
 enum-told-2 c = search needs
 
+enum-told-3 : tie.Need-enum-told-3
+enum-told-3 c = search needs
+
 returns : tie.Need-returns
 returns c = gives-told alone bytesAnswer (c .before .before .a .given .1) refl refl
 
@@ -25,6 +28,9 @@ returns-2 c = search needs
 returns-3 : tie.Need-returns-3
 returns-3 c = search needs
 
+returns-4 : tie.Need-returns-4
+returns-4 c = search needs
+
 pub tell-bytes-spec : {M : Type 1} → statement M
 tell-bytes-spec =
-    tie.close (tie.spec enum-known-a enum-told enum-told-2 returns returns-2 returns-3)
+    tie.close (tie.spec enum-known-a enum-told enum-told-2 enum-told-3 returns returns-2 returns-3 returns-4)

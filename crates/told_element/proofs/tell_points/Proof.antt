@@ -19,6 +19,9 @@ enum-told-2 c = search needs
 enum-told-3 : tie.Need-enum-told-3
 enum-told-3 c = search needs
 
+enum-told-4 : tie.Need-enum-told-4
+enum-told-4 c = search needs
+
 returns : tie.Need-returns
 returns c = gives-told alone pointsAnswer (c .before .before .a .given .1) refl refl
 
@@ -31,7 +34,10 @@ returns-3 c = search needs
 returns-4 : tie.Need-returns-4
 returns-4 c = search needs
 
+returns-5 : tie.Need-returns-5
+returns-5 c = search needs
+
 pub tell-points-spec : {M : Type 1} → statement M
 tell-points-spec =
     tie.close
-    (tie.spec enum-known-a enum-told enum-told-2 enum-told-3 returns returns-2 returns-3 returns-4)
+    (tie.spec enum-known-a enum-told enum-told-2 enum-told-3 enum-told-4 returns returns-2 returns-3 returns-4 returns-5)
