@@ -1,5 +1,5 @@
 -- The C interface (specs/Codes.antt): the numbers are those of Numbers.antt, and what a refusal leaves is what the functions below leave. Assumes nothing.
-use Prim.Native.Nat.{ℕ, _*_}
+use Prim.Native.Nat.{ℕ}
 use native.Mathlib.Omega.{arith}
 use mathlib.Core.Path.{_≡_, refl, sym, ap, _∙_}
 use mathlib.Core.List.{List, [], _∷_}
@@ -14,7 +14,7 @@ use Rattle.dtype.specs.Names.{nameBytes}
 use Rattle.dtype.specs.Record.{Record}
 use Rattle.dtype.specs.Shape.{strides}
 use Rattle.shape.specs.Count as shape
-use Rattle.record.specs.Version.{Version, versionOf}
+use Rattle.record.specs.Version.{versionOf}
 use Rattle.record.specs.Rooms.{Lent, holding}
 use Rattle.record.specs.Header as record-of-file
 use Rattle.judge.specs.Judged.{reading}

@@ -5,7 +5,6 @@ use mathlib.Core.Path.{_≡_, sym}
 use mathlib.Core.List.{List}
 use lib.ListN.{length}
 use Rattle.counts.specs.Outcome.{gives}
-use Rattle.dtype.specs.Record.{Record, table, names}
 use Rattle.record.specs.Rooms.{Lent, roomsOf}
 use Rattle.table.specs.Checked.{checkedRecord}
 use Rattle.places.specs.declared.Placed.{Placed}
@@ -13,7 +12,6 @@ use Rattle.places.proofs.Demand.{demand-3}
 use Rattle.places.proofs.Outcomes.{place-one}
 use Rattle.judge.specs.Judged.{reading}
 use Rattle.judge.proofs.Top.{reading-keeps}
-use Rattle.fill.specs.declared.Said.{Said}
 use Rattle.header.specs.declared.Header.{Header}
 use Rattle.rooms.specs.Rooms.{tableIn, namesIn, shapeIn}
 use Rattle.claims.specs.Places.{Data-owned}

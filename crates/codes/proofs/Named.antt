@@ -1,8 +1,8 @@
 -- Where what a caller's numbers name is known, the rest of the answer is told of it; where they name nothing, its number is. Assumes nothing.
 use Prim.Native.Nat.{ℕ}
-use mathlib.Core.Path.{_≡_, sym, ap, _∙_}
+use mathlib.Core.Path.{_≡_, ap, _∙_}
 use mathlib.Core.List.{List}
-use Rattle.counts.specs.Outcome.{Outcome, gives, refused, then, each}
+use Rattle.counts.specs.Outcome.{Outcome, gives, refused, then}
 use Rattle.codes.specs.Codes.{code, left, Tells}
 
 -- the same answer under another name

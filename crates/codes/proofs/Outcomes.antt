@@ -7,7 +7,6 @@ use Rattle.counts.specs.Outcome.{Outcome, gives, refused}
 use Rattle.counts.specs.OneOutcome.{OneOutcome}
 use Rattle.counts.proofs.OneOutcome.{by-answer}
 use Rattle.record.specs.Version as version
-use Rattle.prefix.specs.declared.Version.{Version}
 use Rattle.prefix.specs.Answer.{versionIs}
 use Rattle.prefix.proofs.Outcomes.{version-apart}
 use Rattle.entries.specs.Answer.{typeAnswer}

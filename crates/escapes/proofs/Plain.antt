@@ -20,7 +20,6 @@ use Rattle.classes.specs.Text.{byteAt, part, run, past}
 use Rattle.escapes.specs.Strings.{escapeAt, pieceBy, pieceAt, ends, spelled, scanned}
 use Rattle.classes.specs.Plain.{isPlain}
 use Rattle.classes.specs.declared.Parsed.the-variants.{Value, Fault}
-use Rattle.escapes.specs.declared.Piece.{Piece}
 use Rattle.escapes.specs.declared.Piece.the-variants.{Close, Byte, Bad}
 
 -- ---- what the length of a run tells of its first byte, and of the byte behind it

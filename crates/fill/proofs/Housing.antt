@@ -1,27 +1,23 @@
 -- An accepted record and its rooms: the totals are the record's own, 23 is what the code tests, and the rooms hold the record. Assumes nothing.
-use Prim.Native.Nat.{ℕ, _+_, _*_, _/_, _≤_}
+use Prim.Native.Nat.{ℕ, _*_, _/_, _≤_}
 use native.Mathlib.Omega.{arith}
-use mathlib.Core.Path.{_≡_, refl, sym, ap, subst, _∙_}
-use mathlib.Core.List.{List, []}
+use mathlib.Core.Path.{_≡_, refl, sym, ap, _∙_}
+use mathlib.Core.List.{List}
 use mathlib.Core.Bool.{Bool, true, false, _||_}
 use lib.Dec.{ltb}
 use lib.ListN.{length}
-use lib.Seq.{sets}
 use borrow.Author.Tests.{ltb-false}
-use Rattle.counts.specs.Outcome.{Outcome, gives, refused, unless, each}
+use Rattle.counts.specs.Outcome.{Outcome, gives, unless}
 use Rattle.counts.proofs.Alike.{or-none}
 use Rattle.refusal.specs.declared.Refusal.{Refusal}
 use Rattle.dtype.specs.declared.Order.{Order}
-use Rattle.dtype.specs.Dtype.{Dtype}
 use Rattle.dtype.specs.Entries.{entriesOf}
-use Rattle.dtype.specs.Names.{nameBytes, namesOf}
-use Rattle.dtype.specs.Flat.{entry-width, flat}
-use Rattle.dtype.specs.Record.{Record, table, names}
+use Rattle.dtype.specs.Names.{nameBytes}
+use Rattle.dtype.specs.Flat.{entry-width}
+use Rattle.dtype.specs.Record.{Record, names}
 use Rattle.dtype.specs.Limits.{overDimensions, overLevels, overEntries, overSize, overShape, limited}
 use Rattle.fronts.specs.Rooms as fronts
-use Rattle.record.specs.Rooms.{Rooms, needs, tooSmall, Lent, roomsOf, atFront, holding}
-use Rattle.tokens.specs.Node.{Node}
-use Rattle.classes.specs.Got.{Got}
+use Rattle.record.specs.Rooms.{needs, tooSmall, Lent, roomsOf, holding}
 use Rattle.classes.specs.Text.{skip}
 use Rattle.literal.specs.Literal.{value}
 use Rattle.dims.specs.Answer.{dimensionsAt}
@@ -39,7 +35,7 @@ use Rattle.judge.specs.declared.Plan.{Plan}
 use Rattle.judge.specs.Judged.{inside, PlanOf}
 use Rattle.fill.specs.declared.Said.{Said}
 use Rattle.fill.specs.declared.TextRead.{TextRead}
-use Rattle.fill.specs.Text.{lent, saidOf, roomed, Houses}
+use Rattle.fill.specs.Text.{lent, saidOf, Houses}
 
 -- ---- what was not refused
 unless-back : {A : Type 0} (b : Bool) (n : ℕ) (o : Outcome A) (a : A) → unless b n o ≡ gives a → (b ≡ false) × (o ≡ gives a)

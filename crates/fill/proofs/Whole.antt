@@ -10,7 +10,7 @@ use lib.Seq.{sets}
 use lib.Dec.{ltb}
 use borrow.Author.Tests.{ltb-false}
 use Rattle.dtype.specs.Dtype.{Dtype, Fields, plain, array, record-of, end-of-fields, field-then}
-use Rattle.dtype.specs.Entries.{entriesOf, levels, someEntry, someEntryIn}
+use Rattle.dtype.specs.Entries.{entriesOf, levels, someEntryIn}
 use Rattle.dtype.specs.Names.{nameBytes}
 use Rattle.dtype.specs.Flat.{entry-width}
 use Rattle.dtype.specs.Record.{table, names}

@@ -1,22 +1,21 @@
 -- The first bytes of a file tell its header where they reach that far: a whole prefix is held, and then the text or 23. Assumes nothing.
 use Prim.Native.Nat.{ℕ, zero, suc, _+_, _<_, _≤_}
 use native.Mathlib.Omega.{arith}
-use mathlib.Core.Path.{_≡_, refl, sym, ap, _∙_}
+use mathlib.Core.Path.{_≡_, refl, ap, _∙_}
 use mathlib.Core.List.{List, [], _∷_}
-use mathlib.Core.Bool.{Bool, true, false, _||_, not}
+use mathlib.Core.Bool.{Bool, true, false, not}
 use lib.Dec.{ltb}
 use lib.ListN.{length, getD, take, drop}
 use lib.Seq.{length-take-le}
 use borrow.Author.Tests.{le-ltb, ltb-false}
 use Rattle.counts.specs.Outcome.{Outcome, gives, refused, then, unless}
 use Rattle.counts.specs.Same.{same}
-use Rattle.dtype.specs.Record.{Record}
-use Rattle.record.specs.Version.{Version, versionOf, lengthWidth, textStart, one-zero, two-zero, three-zero}
-use Rattle.record.specs.Prefix.{Prefix, magic, most-text, dataStart, lengthRead, prefix}
+use Rattle.record.specs.Version.{Version, versionOf, lengthWidth, textStart}
+use Rattle.record.specs.Prefix.{Prefix, magic, dataStart, lengthRead, prefix}
 use Rattle.record.specs.Rooms.{Lent, roomsOf}
 use Rattle.record.specs.Header as header
 use Rattle.judge.specs.Judged.{reading}
-use Rattle.header.specs.Answer.{textHeld, behind, heldInto, heldOf}
+use Rattle.header.specs.Answer.{behind, heldInto, heldOf}
 use Rattle.header.proofs.Whole.{start-small}
 
 -- ---- a part of what is held

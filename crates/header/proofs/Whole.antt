@@ -4,7 +4,6 @@ use native.Mathlib.Omega.{arith}
 use mathlib.Core.Path.{_≡_, refl, sym, ap, subst, _∙_}
 use mathlib.Core.List.{List}
 use mathlib.Core.Bool.{Bool, true, false}
-use lib.Dec.{ltb}
 use lib.ListN.{length, take, drop}
 use borrow.Author.Tests.{lt-ltb, le-ltb}
 use Rattle.counts.specs.Outcome.{Outcome, gives, refused, then, each, unless}
@@ -17,7 +16,6 @@ use Rattle.record.specs.Rooms.{Rooms, needs, tooSmall, Lent, roomsOf}
 use Rattle.record.specs.Header as header
 use Rattle.prefix.specs.declared.Version as declared
 use Rattle.prefix.specs.declared.Prefix as before
-use Rattle.prefix.specs.declared.PrefixRead.{PrefixRead}
 use Rattle.prefix.specs.Answer as prefixes
 use Rattle.prefix.specs.Answer.{versionIs, prefixIs}
 use Rattle.judge.specs.Judged.{reading}

@@ -1,7 +1,7 @@
 -- No second outcome satisfies the statement of `judge`: the text fixes the record, the record what the parts come to, and a value that counts its own
 -- place. Assumes nothing.
 use Prim.Native.Nat.{ℕ}
-use mathlib.Core.Path.{_≡_, refl, sym, ap, subst, _∙_}
+use mathlib.Core.Path.{_≡_, sym, ap, _∙_}
 use mathlib.Core.List.{List}
 use Rattle.counts.specs.Outcome.{Outcome, gives, refused}
 use Rattle.counts.specs.OneOutcome.{OneOutcome}
@@ -11,10 +11,8 @@ use Rattle.dtype.specs.Dtype.{Dtype}
 use Rattle.dtype.specs.Record.{Record}
 use Rattle.record.specs.Dict.{key-shape, key-descr}
 use Rattle.record.specs.Header.{recordIn}
-use Rattle.tokens.specs.Node.{Node, Span, spanOf}
-use Rattle.classes.specs.Got.{got}
+use Rattle.tokens.specs.Node.{Span, spanOf}
 use Rattle.classes.specs.Text.{skip}
-use Rattle.literal.specs.Literal.{value}
 use Rattle.literal.proofs.View.{value-span}
 use Rattle.products.specs.declared.Outline.{Outline}
 use Rattle.sums.specs.declared.Totals.{Totals}

@@ -3,10 +3,10 @@ use Prim.Native.Nat.{ℕ}
 use native.Mathlib.Omega.{arith}
 use mathlib.Core.Path.{_≡_, refl, sym, ap, subst, _∙_}
 use mathlib.Core.List.{List}
-use mathlib.Core.Bool.{Bool, true, false, not}
+use mathlib.Core.Bool.{Bool, true, false}
 use lib.Dec.{eqb}
 use lib.ListN.{length}
-use Rattle.counts.specs.Outcome.{Outcome, gives, refused, then, unless}
+use Rattle.counts.specs.Outcome.{Outcome, gives, refused, then}
 use Rattle.counts.proofs.Alike.{true-false}
 use Rattle.grammar.specs.Value as tree
 use Rattle.grammar.specs.Value.{Value}
@@ -18,7 +18,7 @@ use Rattle.dtype.specs.Dtype.{Dtype}
 use Rattle.dtype.specs.Record.{Record}
 use Rattle.dtype.specs.Limits.{limited}
 use Rattle.record.specs.Parts.{itemsOr}
-use Rattle.record.specs.Dict.{key-order, key-shape, key-descr, allStrings, needed}
+use Rattle.record.specs.Dict.{key-order, key-shape, key-descr, needed}
 use Rattle.record.specs.Dimensions.{shapeOf}
 use Rattle.record.specs.Descr.{descrOf}
 use Rattle.record.specs.FromValue.{orderOf, recordFrom, recordOf}

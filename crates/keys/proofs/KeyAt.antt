@@ -8,18 +8,16 @@ use lib.ListN.{length, getD, take, drop}
 use lib.Dec.{ltb}
 use borrow.Author.Tests.{le-ltb}
 use Rattle.counts.specs.Outcome.{gives}
-use Rattle.tokens.specs.Node.{Node}
-use Rattle.classes.specs.Got.{Got, pos}
+use Rattle.classes.specs.Got.{pos}
 use Rattle.classes.specs.Text.{byteAt, kindOf}
 use Rattle.escapes.specs.Strings.{spelled, scanned}
 use Rattle.classes.specs.declared.Parsed.{Parsed}
-use Rattle.classes.specs.declared.Parsed.the-variants.{Value as Ends, Fault, Deep}
+use Rattle.classes.specs.declared.Parsed.the-variants.{Value as Ends}
 use Rattle.escapes.specs.declared.Scan.{Scan}
 use Rattle.classes.specs.declared.Kind.{Kind}
 use Rattle.classes.specs.declared.Kind.the-variants.{Quote}
 use Rattle.classes.proofs.Positions.{getD-any, kind-in}
 use Rattle.gaps.specs.Gaps.{colonAt}
-use Rattle.literal.specs.Brackets.{keyBy}
 use Rattle.literal.specs.Literal.{value}
 use Rattle.classes.proofs.Ends.{Stops}
 use Rattle.literal.proofs.Steps.{key-stop, key-colon}

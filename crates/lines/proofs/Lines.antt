@@ -1,9 +1,9 @@
 -- One line after another: what is left of the table, and the names from the current one on. Assumes nothing.
-use Prim.Native.Nat.{ℕ, zero, suc, _+_, _-_, _/_, _<_, _≤_, min}
+use Prim.Native.Nat.{ℕ, zero, suc, _+_, _-_, _<_, _≤_, min}
 use native.Mathlib.Omega.{arith}
 use native.Mathlib.Numerals.{add-one}
 use mathlib.Core.Path.{_≡_, refl, sym, ap, subst, _∙_}
-use mathlib.Core.List.{List, [], _∷_}
+use mathlib.Core.List.{List}
 use lib.ListN.{length, take, drop, drop-of-length-le, length-drop}
 use lib.Seq.{sets, drop-drop, take-all}
 use Rattle.emit.specs.Emits.{Emits, capped}

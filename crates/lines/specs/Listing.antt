@@ -2,8 +2,8 @@
 -- prints `none`. Each table line gives number, parent, kind (`plain` and type string, `array` and length, `record` and field count), and a field's name
 -- quoted as the writer quotes it." Each text is written in front of whatever follows. Definitions only. Assumes nothing.
 use Prim.Native.Nat.{ℕ, zero, suc}
-use mathlib.Core.List.{List, [], _∷_, _++_}
-use mathlib.Core.Bool.{Bool, true, false, _&&_, not, cond}
+use mathlib.Core.List.{List, [], _∷_}
+use mathlib.Core.Bool.{Bool, true, false, _&&_, not}
 use lib.Dec.{eqb}
 use Rattle.counts.specs.Outcome.{Outcome, gives, refused}
 use Rattle.decimal.specs.Decimal.{printed}

@@ -1,13 +1,13 @@
 -- The six bytes, the two of the version and the length field, as the code tests them, and the order of 1 to 4. Assumes nothing.
-use Prim.Native.Nat.{ℕ, _+_, _-_, _*_, _<_, _≤_}
+use Prim.Native.Nat.{ℕ, _-_, _<_, _≤_}
 use native.Mathlib.Omega.{arith}
-use mathlib.Core.Path.{_≡_, refl, sym, ap, _∙_}
+use mathlib.Core.Path.{_≡_, refl, ap, _∙_}
 use mathlib.Core.List.{List, [], _∷_}
-use mathlib.Core.Bool.{Bool, true, false, _&&_, _||_, not, cond}
-use lib.Dec.{eqb, ltb}
+use mathlib.Core.Bool.{Bool, true, false, _&&_}
+use lib.Dec.{eqb}
 use lib.ListN.{length, getD, take, drop}
-use borrow.Author.Tests.{ltb-true, ltb-false, lt-ltb, le-ltb, eq-eqb, ne-eqb}
-use Rattle.counts.specs.Outcome.{Outcome, gives, refused, then, unless}
+use borrow.Author.Tests.{lt-ltb, le-ltb, ne-eqb}
+use Rattle.counts.specs.Outcome.{gives, refused, then}
 use Rattle.counts.specs.Same.{same}
 use Rattle.counts.specs.Number.{number}
 use Rattle.counts.specs.declared.Number.{Number}

@@ -6,7 +6,7 @@ use mathlib.Core.Bool.{not, _||_}
 use lib.Dec.{ltb}
 use lib.ListN.{length, getD, take, drop}
 use borrow.Author.Tests.{ltb-false}
-use Rattle.counts.specs.Outcome.{Outcome, gives, refused, then, unless}
+use Rattle.counts.specs.Outcome.{Outcome, gives, refused}
 use Rattle.counts.specs.OneOutcome.{OneOutcome}
 use Rattle.counts.specs.Same.{same}
 use Rattle.counts.proofs.OneOutcome.{by-equation, by-inverse}

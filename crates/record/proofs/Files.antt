@@ -3,7 +3,7 @@
 use Prim.Native.Nat.{ℕ, _+_, _^_, _<_, _≤_}
 use native.Mathlib.Omega.{arith}
 use mathlib.Core.Path.{_≡_, refl, sym, ap, _∙_}
-use mathlib.Core.List.{List, _∷_, _++_, append-assoc}
+use mathlib.Core.List.{List, _++_, append-assoc}
 use mathlib.Core.Bool.{true}
 use lib.ListN.{length, getD, take, drop, length-append}
 use lib.Seq.{drop-drop, take-append-seam, drop-append-seam}

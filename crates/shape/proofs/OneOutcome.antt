@@ -1,14 +1,12 @@
 -- No second outcome meets the contracts of this crate. Assumes nothing.
 use Prim.Native.Nat.{ℕ}
-use mathlib.Core.Path.{_≡_, refl, ap}
+use mathlib.Core.Path.{_≡_, refl}
 use mathlib.Core.List.{List}
-use native.Mathlib.Omega.{arith}
 use lib.ListN.{length}
 use mathlib.Core.Bool.{cond}
 use lib.Dec.{eqb}
 use Rattle.counts.specs.Outcome.{Outcome, gives, refused}
 use Rattle.counts.specs.OneOutcome.{OneOutcome}
-use Rattle.counts.specs.declared.Items.{Items}
 use Rattle.counts.specs.declared.ItemCount.{ItemCount}
 use Rattle.counts.proofs.OneOutcome.{by-equation, by-inverse, beside}
 use Rattle.dtype.specs.declared.Order.{Order}

@@ -3,7 +3,7 @@
 use Prim.Native.Nat.{ℕ}
 use mathlib.Core.Bool.{Bool, true, false, _||_, not}
 use mathlib.Core.List.{List}
-use Rattle.counts.specs.Outcome.{Outcome, gives, refused, then, unless}
+use Rattle.counts.specs.Outcome.{Outcome, gives, then, unless}
 use Rattle.type_str.specs.Text.{isType}
 use Rattle.utf8.specs.Decode.{utf8}
 use Rattle.dtype.specs.Dtype.{Dtype, plain, array, record-of}

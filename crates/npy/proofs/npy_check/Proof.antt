@@ -1,5 +1,5 @@
 -- The order, and then the answer told of it. Assumes nothing.
-use Rattle.counts.specs.Outcome.{then, each}
+use Rattle.counts.specs.Outcome.{each}
 use Rattle.counts.proofs.OneOutcome.{told}
 use Rattle.table.specs.Answer.{summary}
 use Rattle.table.specs.Checked.{checkedRecord}

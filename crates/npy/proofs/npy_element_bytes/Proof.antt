@@ -1,5 +1,4 @@
 -- What is given, and then what goes to the room. Assumes nothing.
-use Rattle.counts.specs.Outcome.{then}
 use Rattle.counts.proofs.OneOutcome.{told}
 use Rattle.element.specs.Element.{elementBytes}
 use Rattle.codes.specs.Given.{orderAnswer}

@@ -1,5 +1,4 @@
 -- The answer told. Assumes nothing.
-use Rattle.counts.proofs.OneOutcome.{told}
 use Rattle.codes.proofs.Named.{retold}
 use borrow.Author.Needs.{needs}
 use Rattle.npy.proofs.npy_type_read.Statement.{statement}

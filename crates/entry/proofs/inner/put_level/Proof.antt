@@ -2,7 +2,6 @@
 use Prim.Native.Nat.{ℕ, _+_, _-_}
 use native.Mathlib.Omega.{arith}
 use mathlib.Core.Path.{sym, ap, _∙_}
-use Rattle.dtype.specs.declared.Entry.{Entry}
 use Rattle.entry.specs.Written.{put, bare, upOf}
 use Rattle.entry.proofs.Levels.{put-none, up-fits}
 use borrow.Author.Needs.{needs}

@@ -1,5 +1,5 @@
 -- Behind k levels the others stand, and one more is written above them. Assumes nothing.
-use Prim.Native.Nat.{ℕ, suc, _-_}
+use Prim.Native.Nat.{suc, _-_}
 use native.Mathlib.Omega.{arith}
 use mathlib.Core.Path.{_≡_, refl}
 use Rattle.entry.proofs.Levels.{Above, above-start, above-more, above-all}
