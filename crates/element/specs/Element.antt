@@ -1,5 +1,6 @@
 -- Document 01, "The refusal numbers": "A string element is read after its place: 29, 23." The element's bytes are those of its place; what they stand for, 26 for
--- another type, 29 and 23 are Rooms.antt of the crate strings, and all refusals before them Place.antt of the crate places. Definitions only. Assumes nothing.
+-- another type, 29 and 23 are Rooms.antt of the crate strings, and all refusals before them Place.antt of the crate places. The 27 of Rooms.antt is none of an element:
+-- a place has a type that readings give (proofs/Typed.antt). Definitions only. Assumes nothing.
 use Prim.Native.Nat.{ℕ}
 use mathlib.Core.List.{List}
 use lib.ListN.{length}
