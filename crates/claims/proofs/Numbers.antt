@@ -13,9 +13,11 @@ use Rattle.emit.specs.Placed.{written}
 use Rattle.scalar.specs.Scalar.{isScalar}
 use Rattle.utf8.specs.Decode.{unlessIll, firstIll, utf8}
 use Rattle.decimal.specs.Decimal.{digitsOf, afterDigits, decimal}
-use Rattle.spelling.specs.Spelling.{firstOf, orders, orderByte, orderOf, letters, letterByte, letterOf}
-use Rattle.spelling.specs.declared.Endianness.{Endianness}
-use Rattle.spelling.specs.declared.TypeChar.{TypeChar}
+use Rattle.byte_orders.specs.Spelling.{orders, orderByte, orderOf}
+use Rattle.letters.specs.Spelling.{letters, letterByte, letterOf}
+use Rattle.spelling.specs.Spelling.{firstOf}
+use Rattle.byte_orders.specs.declared.Endianness.{Endianness}
+use Rattle.letters.specs.declared.TypeChar.{TypeChar}
 use Rattle.units.specs.Units.{units, unitText, unitsOf}
 use Rattle.rules.specs.Rules.{allows}
 use Rattle.type_str.specs.declared.TypeStr.{TypeStr}

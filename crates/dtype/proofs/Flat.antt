@@ -5,10 +5,10 @@ use mathlib.Core.List.{List}
 use native.Mathlib.Omega.{arith}
 use lib.ListN.{length, drop, length-append}
 use lib.Seq.{drop-cons, drop-drop, drop-append-add}
-use Rattle.spelling.specs.declared.Endianness.{Endianness}
-use Rattle.spelling.specs.declared.Endianness.the-variants.{Little, Big, Irrelevant}
-use Rattle.spelling.specs.declared.TypeChar.{TypeChar}
-use Rattle.spelling.specs.declared.TypeChar.the-variants.{Bool, Int, Uint, Float, Complex, TimeDelta, DateTime, ByteStr, UnicodeStr, Object, RawData}
+use Rattle.byte_orders.specs.declared.Endianness.{Endianness}
+use Rattle.byte_orders.specs.declared.Endianness.the-variants.{Little, Big, Irrelevant}
+use Rattle.letters.specs.declared.TypeChar.{TypeChar}
+use Rattle.letters.specs.declared.TypeChar.the-variants.{Bool, Int, Uint, Float, Complex, TimeDelta, DateTime, ByteStr, UnicodeStr, Object, RawData}
 use Rattle.units.specs.declared.TimeUnits.{TimeUnits}
 use Rattle.units.specs.declared.TimeUnits.the-variants.{Absent, Year, Month, Week, Day, Hour, Minute, Second, Millisecond, Microsecond, Nanosecond, Picosecond, Femtosecond, Attosecond}
 use Rattle.dtype.specs.TypeNumbers.{orderByte, letterByte, unitsNumber, orderFrom, letterFrom, unitsFrom}

@@ -6,8 +6,8 @@ use mathlib.Core.Path.{_≡_}
 use mathlib.Core.List.{List, [], _∷_}
 use lib.ListN.{replicate}
 use Rattle.counts.specs.Outcome.{gives, refused}
-use Rattle.spelling.specs.declared.Endianness.the-variants.{Little, Irrelevant}
-use Rattle.spelling.specs.declared.TypeChar.the-variants.{Int, UnicodeStr, Object}
+use Rattle.byte_orders.specs.declared.Endianness.the-variants.{Little, Irrelevant}
+use Rattle.letters.specs.declared.TypeChar.the-variants.{Int, UnicodeStr, Object}
 use Rattle.units.specs.declared.TimeUnits.the-variants.{Absent}
 use Rattle.dtype.specs.declared.Order.{Order}
 use Rattle.dtype.specs.declared.Order.the-variants.{C, Fortran}

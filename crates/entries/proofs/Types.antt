@@ -7,15 +7,18 @@ use native.Mathlib.Omega.{arith}
 use borrow.Author.Tests.{eqb-true, ne-eqb}
 use lib.Dec.{eqb}
 use Rattle.counts.specs.Outcome.{Outcome, gives, refused, then, unless}
-use Rattle.spelling.specs.Spelling.{firstOf, orders, letters, orderByte, letterByte, orderOf, letterOf}
+use Rattle.byte_orders.specs.Spelling.{orders, orderByte, orderOf}
+use Rattle.letters.specs.Spelling.{letters, letterByte, letterOf}
+use Rattle.spelling.specs.Spelling.{firstOf}
 use Rattle.units.specs.Units.{units}
 use Rattle.type_str.specs.Text.{isType}
-use Rattle.spelling.specs.declared.Endianness.{Endianness}
-use Rattle.spelling.specs.declared.TypeChar.{TypeChar}
+use Rattle.byte_orders.specs.declared.Endianness.{Endianness}
+use Rattle.letters.specs.declared.TypeChar.{TypeChar}
 use Rattle.units.specs.declared.TimeUnits.{TimeUnits}
 use Rattle.units.specs.declared.TimeUnits.the-variants.{Absent, Year, Month, Week, Day, Hour, Minute, Second, Millisecond, Microsecond, Nanosecond, Picosecond, Femtosecond, Attosecond}
 use Rattle.type_str.specs.declared.TypeStr.{TypeStr}
-use Rattle.spelling.proofs.Tables.{order-spelled, letter-spelled}
+use Rattle.byte_orders.proofs.Tables.{order-spelled}
+use Rattle.letters.proofs.Tables.{letter-spelled}
 use Rattle.dtype.specs.TypeNumbers.{unitsNumber}
 use Rattle.dtype.specs.declared.Entry.{Entry}
 use Rattle.entries.specs.EntryType.{unitsFor, in-record, typed, typeOf}

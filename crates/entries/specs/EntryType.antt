@@ -4,7 +4,9 @@ use Prim.Native.Nat.{ℕ}
 use mathlib.Core.Bool.{not}
 use lib.Dec.{eqb}
 use Rattle.counts.specs.Outcome.{Outcome, gives, refused, then, unless}
-use Rattle.spelling.specs.Spelling.{firstOf, orderOf, letterOf}
+use Rattle.byte_orders.specs.Spelling.{orderOf}
+use Rattle.letters.specs.Spelling.{letterOf}
+use Rattle.spelling.specs.Spelling.{firstOf}
 use Rattle.units.specs.Units.{units}
 use Rattle.type_str.specs.Text.{isType}
 use Rattle.units.specs.declared.TimeUnits.{TimeUnits}

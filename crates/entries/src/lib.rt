@@ -1,18 +1,20 @@
 // One entry of a caller's flat table: its nine numbers, and the type that those of a plain entry spell. No public function here has a `requires`. What
 // each answer stands for is in specs/Answer.antt.
+use byte_orders::Endianness;
+use byte_orders::OrderRead;
 use dtype::Entry;
-use spelling::Endianness;
-use spelling::LetterRead;
-use spelling::OrderRead;
-use spelling::TypeChar;
+use letters::LetterRead;
+use letters::TypeChar;
 use type_str::TypeStr;
 use units::TimeUnits;
 use units::UnitsRead;
 ghost use mathlib.Core.Path.{_≡_};
 ghost use Prim.Native.Nat.{_*_, _<_};
 ghost use lib.ListN.{getD, drop};
-ghost use Rattle.spelling.specs.Spelling.{orderOf, letterOf};
-ghost use Rattle.spelling.specs.Answer.{orderAnswer, letterAnswer};
+ghost use Rattle.byte_orders.specs.Spelling.{orderOf};
+ghost use Rattle.letters.specs.Spelling.{letterOf};
+ghost use Rattle.byte_orders.specs.Answer.{orderAnswer};
+ghost use Rattle.letters.specs.Answer.{letterAnswer};
 ghost use Rattle.units.specs.Answer.{unitsAnswer};
 ghost use Rattle.dtype.specs.Flat.{entry-width};
 ghost use Rattle.dtype.specs.Agrees.{entryAt};

@@ -7,8 +7,8 @@ use mathlib.Core.Bool.{cond}
 use lib.Dec.{ltb}
 use lib.ListN.{length}
 use lib.Seq.{sets}
-use Rattle.spelling.specs.declared.Endianness.the-variants.{Irrelevant}
-use Rattle.spelling.specs.declared.TypeChar.the-variants.{Object}
+use Rattle.byte_orders.specs.declared.Endianness.the-variants.{Irrelevant}
+use Rattle.letters.specs.declared.TypeChar.the-variants.{Object}
 use Rattle.units.specs.declared.TimeUnits.the-variants.{Absent}
 use Rattle.type_str.specs.declared.TypeStr.{TypeStr}
 use Rattle.type_str.specs.declared.TypeRead.{TypeRead}

@@ -1,16 +1,16 @@
 // Entries of the table written to lent room, for this project's own crates. An entry that the room does not hold is not written. The array levels of a
 // sub-shape are written behind their type, the innermost first, as their sizes are known then. No function here has a `requires`.
+use byte_orders::Endianness;
 use dtype::ARRAY;
 use dtype::ENTRY;
 use dtype::Entry;
 use dtype::RECORD;
 use held::held_product;
 use held::held_sum;
+use letters::TypeChar;
 use lifts::from_to;
 use lifts::lift;
 use plain::plain_entry;
-use spelling::Endianness;
-use spelling::TypeChar;
 use type_str::TypeRead;
 use type_str::TypeStr;
 use units::TimeUnits;

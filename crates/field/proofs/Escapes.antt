@@ -21,12 +21,14 @@ use Rattle.classes.specs.declared.Parsed.the-variants.{Value, Fault}
 use Rattle.escapes.specs.declared.Scan.{Scan}
 use Rattle.escapes.specs.declared.Piece.{Piece}
 use Rattle.escapes.specs.declared.Piece.the-variants.{Close, Byte, Bad}
-use Rattle.spelling.specs.declared.Endianness.{Endianness}
-use Rattle.spelling.specs.declared.TypeChar.{TypeChar}
+use Rattle.byte_orders.specs.declared.Endianness.{Endianness}
+use Rattle.letters.specs.declared.TypeChar.{TypeChar}
 use Rattle.type_str.specs.declared.TypeStr.{TypeStr}
 use Rattle.units.specs.declared.TimeUnits.{TimeUnits}
 use Rattle.units.specs.declared.TimeUnits.the-variants.{Absent, Year, Month, Week, Day, Hour, Minute, Second, Millisecond, Microsecond, Nanosecond, Picosecond, Femtosecond, Attosecond}
-use Rattle.spelling.specs.Spelling.{firstOf, orders, orderOf, orderByte, letters, letterOf, letterByte}
+use Rattle.byte_orders.specs.Spelling.{orders, orderOf, orderByte}
+use Rattle.letters.specs.Spelling.{letters, letterOf, letterByte}
+use Rattle.spelling.specs.Spelling.{firstOf}
 use Rattle.units.specs.Units.{units, unitText, unitsOf}
 use Rattle.type_str.specs.TypeString.{sizeStands, sized, syntax, typeString}
 

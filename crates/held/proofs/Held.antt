@@ -8,7 +8,7 @@ use Rattle.counts.specs.declared.Number.{Number}
 use Rattle.counts.proofs.Fits.{number-is-back, number-over-back}
 use Rattle.counts.specs.Counts.{bytes}
 use Rattle.counts.specs.declared.Bytes.{Bytes}
-use Rattle.spelling.specs.Classes.{isObject}
+use Rattle.letters.specs.Classes.{isObject}
 use Rattle.type_str.specs.Bytes.{typeBytes, countedBytes, numBytes}
 use Rattle.type_str.specs.declared.TypeBytes.the-variants.{Sized, Unsized, TooLarge}
 use Rattle.type_str.specs.declared.TypeStr.{TypeStr}

@@ -8,7 +8,7 @@ use lib.Seq.{sets}
 use Rattle.emit.specs.Emits.{Emits, capped}
 use Rattle.emit.proofs.Pieces.{emits-then, emits-same, emits-length}
 use Rattle.grammar.specs.Print.{spaces}
-use Rattle.spelling.specs.declared.Endianness.the-variants.{Little}
+use Rattle.byte_orders.specs.declared.Endianness.the-variants.{Little}
 use Rattle.numbers.specs.Numbers.{bytesOf, outOrder}
 use Rattle.record.specs.Version.{Version, one-zero, two-zero, three-zero, major, lengthWidth}
 use Rattle.record.specs.Prefix.{magic}

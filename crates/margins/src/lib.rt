@@ -1,7 +1,7 @@
 // What stands around the text of a header (document 01, "Header bytes out"): the prefix before it, and behind it its padding, spaces and one LF. Each is written to
 // lent room behind what was written so far, as crate emit writes. No function here has a `requires`.
+use byte_orders::Endianness;
 use prefix::Version;
-use spelling::Endianness;
 ghost use mathlib.Core.List.{_∷_};
 ghost use Rattle.emit.specs.Emits.{Emits};
 ghost use Rattle.grammar.specs.Print.{spaces};

@@ -10,8 +10,8 @@ use Rattle.counts.specs.AllBytes.{AllBytes}
 use Rattle.counts.proofs.AllBytes.{bytes-append}
 use Rattle.numbers.specs.Numbers.{little, bytesOf, leastFirst, inOrder, outOrder}
 use Rattle.numbers.proofs.Runs.{length-least, least-least}
-use Rattle.spelling.specs.declared.Endianness.{Endianness}
-use Rattle.spelling.specs.declared.Endianness.the-variants.{Little, Big, Irrelevant}
+use Rattle.byte_orders.specs.declared.Endianness.{Endianness}
+use Rattle.byte_orders.specs.declared.Endianness.the-variants.{Little, Big, Irrelevant}
 
 pub little-below : (bs : List ℕ) → AllBytes bs → little bs < 256 ^ length bs
 little-below [] a = omega arith

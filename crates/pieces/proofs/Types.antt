@@ -8,16 +8,17 @@ use borrow.Author.Tests.{ne-eqb}
 use Rattle.counts.specs.Outcome.{Outcome, gives, refused}
 use Rattle.decimal.specs.Decimal.{printed}
 use Rattle.decimal.proofs.Prints.{by-tens, printed-low, printed-high}
-use Rattle.spelling.specs.declared.Endianness.{Endianness}
-use Rattle.spelling.specs.declared.Endianness.the-variants.{Little, Big, Irrelevant}
-use Rattle.spelling.specs.declared.TypeChar.{TypeChar}
-use Rattle.spelling.specs.declared.TypeChar.the-variants.{Bool as Boolean, Int, Uint, Float as Floating, Complex, TimeDelta, DateTime, ByteStr, UnicodeStr, Object, RawData}
+use Rattle.byte_orders.specs.declared.Endianness.{Endianness}
+use Rattle.byte_orders.specs.declared.Endianness.the-variants.{Little, Big, Irrelevant}
+use Rattle.letters.specs.declared.TypeChar.{TypeChar}
+use Rattle.letters.specs.declared.TypeChar.the-variants.{Bool as Boolean, Int, Uint, Float as Floating, Complex, TimeDelta, DateTime, ByteStr, UnicodeStr, Object, RawData}
 use Rattle.units.specs.declared.TimeUnits.{TimeUnits}
 use Rattle.units.specs.declared.TimeUnits.the-variants.{Absent, Year, Month, Week, Day, Hour, Minute, Second, Millisecond, Microsecond, Nanosecond, Picosecond, Femtosecond, Attosecond}
 use Rattle.type_str.specs.declared.TypeStr.{TypeStr}
-use Rattle.spelling.specs.Spelling.{orderByte, letterByte}
+use Rattle.byte_orders.specs.Spelling.{orderByte}
+use Rattle.letters.specs.Spelling.{letterByte}
 use Rattle.units.specs.Units.{unitText}
-use Rattle.spelling.specs.Classes.{isObject}
+use Rattle.letters.specs.Classes.{isObject}
 use Rattle.type_str.specs.Text.{typeText}
 use Rattle.grammar.specs.Print.{escapeOf, spelled, escapes, quote, print}
 use Rattle.emit.specs.Emits.{Emits}

@@ -29,7 +29,8 @@ use Rattle.dtype.proofs.Steps.{array-leads, record-leads, plain-leads-nowhere, 
 use Rattle.whole.specs.Reading.{untyped}
 use Rattle.entries.specs.EntryType.{typeOf}
 use Rattle.entries.proofs.Types.{type-of-written}
-use Rattle.spelling.specs.Spelling.{orderByte, letterByte, orderOf}
+use Rattle.byte_orders.specs.Spelling.{orderByte, orderOf}
+use Rattle.letters.specs.Spelling.{letterByte}
 use Rattle.dtype.specs.TypeNumbers.{unitsNumber}
 use Rattle.dtype.specs.PlainBytes.{plainBytes}
 use Rattle.dtype.proofs.Digits.{lt-or-ge}

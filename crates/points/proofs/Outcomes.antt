@@ -7,7 +7,7 @@ use lib.ListN.{length, drop}
 use Rattle.counts.specs.Outcome.{Outcome, gives, refused, each}
 use Rattle.counts.specs.OneOutcome.{OneOutcome}
 use Rattle.counts.proofs.OneOutcome.{by-equation, by-inverse}
-use Rattle.spelling.specs.declared.Endianness.{Endianness}
+use Rattle.byte_orders.specs.declared.Endianness.{Endianness}
 use Rattle.strings.specs.Elements.{trimmed, point, points}
 use Rattle.strings.specs.Runs.{allScalars}
 use Rattle.points.specs.Answer.{pointAnswer, judgedAnswer}

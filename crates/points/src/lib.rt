@@ -1,8 +1,8 @@
 // Code points (document 01, "String elements"): those in a run of U, and those that a caller gives, judged. These serve our own crate slice, which
 // reads and writes elements. What each answer stands for is in specs/Answer.antt. No public function has a `requires`.
+use byte_orders::Endianness;
 use counts::Number;
 use counts::Points;
-use spelling::Endianness;
 ghost use mathlib.Core.Path.{_≡_};
 ghost use lib.ListN.{length, drop};
 ghost use Rattle.counts.specs.Outcome.{each};

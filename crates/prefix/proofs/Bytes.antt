@@ -13,7 +13,7 @@ use Rattle.counts.specs.Number.{number}
 use Rattle.counts.specs.declared.Number.{Number}
 use Rattle.counts.specs.declared.Number.the-variants.{Is, Over}
 use Rattle.counts.proofs.Fits.{number-is-back, number-over-back}
-use Rattle.spelling.specs.declared.Endianness.the-variants.{Little}
+use Rattle.byte_orders.specs.declared.Endianness.the-variants.{Little}
 use Rattle.numbers.specs.Numbers.{little, inOrder}
 use Rattle.record.specs.Version.{Version, versionOf, lengthWidth, textStart, one-zero, two-zero, three-zero}
 use Rattle.record.specs.Prefix.{magic, most-text, lengthRead, prefix}

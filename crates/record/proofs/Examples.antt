@@ -13,10 +13,11 @@ use Rattle.grammar.proofs.Reading.{skip, afterDigits, natural, word, quoted, pa
 use Rattle.grammar.proofs.Kept.{placed, kept-at}
 use Rattle.scalar.specs.Scalar.{isScalar}
 use Rattle.utf8.specs.Decode.{extend, shortest, front, scan}
-use Rattle.spelling.specs.declared.Endianness.the-variants.{Little, Irrelevant}
-use Rattle.spelling.specs.declared.TypeChar.the-variants.{Bool as Boolean, Int, UnicodeStr}
+use Rattle.byte_orders.specs.declared.Endianness.the-variants.{Little, Irrelevant}
+use Rattle.letters.specs.declared.TypeChar.the-variants.{Bool as Boolean, Int, UnicodeStr}
 use Rattle.units.specs.declared.TimeUnits.the-variants.{Absent}
-use Rattle.spelling.specs.Spelling.{orderOf, letterOf}
+use Rattle.byte_orders.specs.Spelling.{orderOf}
+use Rattle.letters.specs.Spelling.{letterOf}
 use Rattle.units.specs.Units.{unitsOf}
 use Rattle.type_str.specs.TypeString.{sized, syntax, validated, checked, typeString}
 use Rattle.type_str.specs.Text.{typeText}

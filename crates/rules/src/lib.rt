@@ -1,6 +1,6 @@
 // What byte order, sizes and units a letter asks for (document 01, "The record"), one test each. No public function has a `requires`.
-use spelling::Endianness;
-use spelling::TypeChar;
+use byte_orders::Endianness;
+use letters::TypeChar;
 ghost use mathlib.Core.Path.{_≡_};
 ghost use mathlib.Core.Bool.{_||_};
 ghost use lib.Dec.{eqb};

@@ -2,10 +2,10 @@
 // case is the room lent for the table, in entries, for the names and for the shape, four bytes each with the least first, a byte that is 0 for a whole file and another for the
 // first bytes of one that is longer, and the file. The rooms hold 5s before, which is
 // looked at afterwards: a line ends in ` changed` where a refusal changed a room, or an answer the room beyond what was needed.
+use byte_orders::Endianness;
 use counts::Number;
 use frames::Frame;
 use libc::STDOUT_FILENO;
-use spelling::Endianness;
 ghost use Prim.Native.Nat.{_≤_, _<_, _+_};
 ghost use lib.ListN.{length};
 

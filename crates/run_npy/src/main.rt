@@ -1,9 +1,9 @@
 // Replays framed cases through every function of the C interface, one answer a line: what was returned, the values, and what each lent room then holds. The parts of a
 // case and of a line are in docs/FRAMES.md. Every lent number and byte is 5 before a call.
+use byte_orders::Endianness;
 use counts::Number;
 use frames::Frame;
 use libc::STDOUT_FILENO;
-use spelling::Endianness;
 ghost use Prim.Native.Nat.{_≤_, _<_};
 ghost use lib.ListN.{length};
 

@@ -1,12 +1,12 @@
 // String elements (document 01): the run of one element and its type in, what it stands for out to lent room, and back. The run is all the bytes of the
 // element, as its place in a file gives them. What each answer stands for is in specs/Answer.antt. No public function has a `requires`.
+use byte_orders::Endianness;
 use counts::ByteCount;
 use counts::Bytes;
 use counts::Points;
+use letters::TypeChar;
 use points::Judged;
 use points::PointRead;
-use spelling::Endianness;
-use spelling::TypeChar;
 use strings::Kind;
 use type_str::TypeStr;
 ghost use mathlib.Core.Path.{_≡_};

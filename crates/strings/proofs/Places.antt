@@ -10,7 +10,7 @@ use borrow.Author.Tests.{lt-ltb, le-ltb}
 use Rattle.counts.specs.Outcome.{Outcome, gives, refused}
 use Rattle.emit.specs.Emits.{Emits}
 use Rattle.numbers.proofs.Runs.{length-out}
-use Rattle.spelling.specs.declared.Endianness.{Endianness}
+use Rattle.byte_orders.specs.declared.Endianness.{Endianness}
 use Rattle.strings.specs.Elements.{trimmed, point, points, found}
 use Rattle.strings.specs.Runs.{filled, pointBytes}
 use Rattle.strings.specs.Rooms.{roomed, Owes}

@@ -18,7 +18,7 @@ use Rattle.numbers.proofs.Widths.{in-out}
 use Rattle.scalar.specs.Scalar.{isScalar}
 use Rattle.scalar.proofs.Scalars.{scalar-low, scalar-below}
 use Rattle.type_str.specs.Text.{isType}
-use Rattle.spelling.specs.declared.Endianness.{Endianness}
+use Rattle.byte_orders.specs.declared.Endianness.{Endianness}
 use Rattle.type_str.specs.declared.TypeStr.{TypeStr}
 use Rattle.strings.specs.Elements.{kindOf, trimmed, scalar, point, points, pointsIn}
 use Rattle.strings.specs.Runs.{filled, bytesOut, allScalars, pointBytes, pointsOut}

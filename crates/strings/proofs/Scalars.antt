@@ -12,7 +12,7 @@ use Rattle.counts.specs.Outcome.{Outcome, gives, refused, then, each}
 use Rattle.numbers.specs.Numbers.{inOrder}
 use Rattle.scalar.specs.Scalar.{isScalar}
 use Rattle.scalar.proofs.Scalars.{scalar-over}
-use Rattle.spelling.specs.declared.Endianness.{Endianness}
+use Rattle.byte_orders.specs.declared.Endianness.{Endianness}
 use Rattle.strings.specs.Elements.{trimmed, scalar, point, points, found}
 use Rattle.strings.specs.Runs.{allScalars}
 use Rattle.strings.proofs.Trims.{trim-zero, trim-last}

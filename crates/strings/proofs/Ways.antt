@@ -14,11 +14,11 @@ use Rattle.counts.specs.declared.Bytes.{Bytes}
 use Rattle.counts.specs.declared.ByteCount.{ByteCount}
 use Rattle.counts.proofs.Fits.{number-is-back, number-over-back}
 use Rattle.counts.proofs.Alike.{true-false}
-use Rattle.spelling.specs.Classes.{isUnicode}
+use Rattle.letters.specs.Classes.{isUnicode}
 use Rattle.type_str.specs.Text.{isType}
-use Rattle.spelling.specs.declared.Endianness.{Endianness}
-use Rattle.spelling.specs.declared.TypeChar.{TypeChar}
-use Rattle.spelling.specs.declared.TypeChar.the-variants.{Bool as Boolean, Int, Uint, Float as Floating, Complex, TimeDelta, DateTime, ByteStr, UnicodeStr, Object, RawData}
+use Rattle.byte_orders.specs.declared.Endianness.{Endianness}
+use Rattle.letters.specs.declared.TypeChar.{TypeChar}
+use Rattle.letters.specs.declared.TypeChar.the-variants.{Bool as Boolean, Int, Uint, Float as Floating, Complex, TimeDelta, DateTime, ByteStr, UnicodeStr, Object, RawData}
 use Rattle.type_str.specs.declared.TypeStr.{TypeStr}
 use Rattle.strings.specs.Elements.{kindOf, trimmed, bytesIn, points, pointsIn, found}
 use Rattle.strings.specs.Runs.{filled, bytesOut, allScalars, pointBytes, pointsOut}

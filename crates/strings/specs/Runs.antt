@@ -8,7 +8,7 @@ use lib.ListN.{length, replicate}
 use Rattle.counts.specs.Outcome.{Outcome, gives, refused, unless}
 use Rattle.numbers.specs.Numbers.{outOrder}
 use Rattle.scalar.specs.Scalar.{isScalar}
-use Rattle.spelling.specs.declared.Endianness.{Endianness}
+use Rattle.byte_orders.specs.declared.Endianness.{Endianness}
 use Rattle.strings.specs.declared.Kind.{Kind}
 
 -- "fills up with zeros"

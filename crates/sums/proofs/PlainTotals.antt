@@ -9,16 +9,16 @@ use Rattle.counts.specs.declared.Number.{Number}
 use Rattle.counts.proofs.Fits.{number-is, number-over}
 use Rattle.counts.specs.Counts.{bytes}
 use Rattle.type_str.specs.declared.TypeStr.{TypeStr}
-use Rattle.spelling.specs.declared.TypeChar.{TypeChar}
-use Rattle.spelling.specs.declared.TypeChar.the-variants.{Bool as Boolean, Int, Uint, Float as Floating, Complex, TimeDelta, DateTime, ByteStr, UnicodeStr, Object, RawData}
+use Rattle.letters.specs.declared.TypeChar.{TypeChar}
+use Rattle.letters.specs.declared.TypeChar.the-variants.{Bool as Boolean, Int, Uint, Float as Floating, Complex, TimeDelta, DateTime, ByteStr, UnicodeStr, Object, RawData}
 use Rattle.type_str.specs.declared.TypeBytes.{TypeBytes}
 use Rattle.type_str.specs.declared.TypeBytes.the-variants.{Sized, Unsized, TooLarge}
 use Rattle.type_str.specs.Bytes.{typeBytes, countedBytes, numBytes}
-use Rattle.spelling.specs.Spelling.{letterByte}
+use Rattle.letters.specs.Spelling.{letterByte}
 use Rattle.dtype.specs.PlainBytes as byte
 use Rattle.dtype.specs.PlainBytes.{plainBytes}
 use Rattle.dtype.proofs.Types.{plain-bytes-type}
-use Rattle.spelling.specs.Classes.{isObject}
+use Rattle.letters.specs.Classes.{isObject}
 use Rattle.dtype.specs.Dtype.{plain}
 use Rattle.dtype.specs.Limits.{over}
 use Rattle.sums.specs.declared.Totals.{Totals}

@@ -10,16 +10,18 @@ use Rattle.counts.specs.Outcome.{Outcome, gives, refused}
 use Rattle.counts.proofs.Alike.{true-false}
 use Rattle.counts.proofs.Holds.{Holds, then-holds, each-holds, unless-holds, holds-of}
 use Rattle.decimal.specs.Decimal.{isDigit, digitsOf, afterDigits, decimal, decimalFrom}
-use Rattle.spelling.specs.Spelling.{orderByte, orderOf, letterByte, letterOf}
+use Rattle.byte_orders.specs.Spelling.{orderByte, orderOf}
+use Rattle.letters.specs.Spelling.{letterByte, letterOf}
 use Rattle.units.specs.Units.{unitText, unitsOf}
-use Rattle.spelling.specs.Classes.{isObject}
+use Rattle.letters.specs.Classes.{isObject}
 use Rattle.type_str.specs.TypeString.{sizeStands, sized as sizedOf, sizedBy, syntax}
 use Rattle.type_read.specs.Spells.{Digits, Spells, object, sized}
-use Rattle.spelling.proofs.Tables.{order-spelled, letter-spelled, order-read, letter-read}
+use Rattle.byte_orders.proofs.Tables.{order-spelled, order-read}
+use Rattle.letters.proofs.Tables.{letter-spelled, letter-read}
 use Rattle.units_read.proofs.Tables.{units-spelled, units-read}
 use Rattle.type_read.proofs.RoundTrip.{units-stop, sized-as}
-use Rattle.spelling.specs.declared.Endianness.{Endianness}
-use Rattle.spelling.specs.declared.TypeChar.{TypeChar}
+use Rattle.byte_orders.specs.declared.Endianness.{Endianness}
+use Rattle.letters.specs.declared.TypeChar.{TypeChar}
 use Rattle.units.specs.declared.TimeUnits.{TimeUnits}
 use Rattle.type_str.specs.declared.TypeStr.{TypeStr}
 

@@ -14,16 +14,18 @@ use Rattle.counts.proofs.Alike.{true-false, and-left, and-right}
 use Rattle.counts.proofs.Holds.{Holds, unless-holds, holds-of}
 use Rattle.decimal.specs.Decimal.{isDigit, digitsOf, afterDigits, decimal, decimalFrom, printed}
 use Rattle.decimal.proofs.Prints.{digits-printed, decimal-printed, drop-printed, printed-some}
-use Rattle.spelling.specs.Spelling.{orderOf, letterOf}
+use Rattle.byte_orders.specs.Spelling.{orderOf}
+use Rattle.letters.specs.Spelling.{letterOf}
 use Rattle.units.specs.Units.{unitText, unitsOf}
-use Rattle.spelling.specs.Classes.{isObject}
+use Rattle.letters.specs.Classes.{isObject}
 use Rattle.rules.specs.Rules.{allows}
 use Rattle.type_str.specs.TypeString.{none, sizeStands, sized, sizedBy, syntax, lacksOrder, misplacesUnits, validated, checked, typeString}
 use Rattle.type_str.specs.Text.{sizeText, typeText, passes, isType}
-use Rattle.spelling.proofs.Tables.{order-spelled, letter-spelled}
+use Rattle.byte_orders.proofs.Tables.{order-spelled}
+use Rattle.letters.proofs.Tables.{letter-spelled}
 use Rattle.units_read.proofs.Tables.{units-spelled}
-use Rattle.spelling.specs.declared.Endianness.{Endianness}
-use Rattle.spelling.specs.declared.TypeChar.{TypeChar}
+use Rattle.byte_orders.specs.declared.Endianness.{Endianness}
+use Rattle.letters.specs.declared.TypeChar.{TypeChar}
 use Rattle.units.specs.declared.TimeUnits.{TimeUnits}
 use Rattle.units.specs.declared.TimeUnits.the-variants.{Absent, Year, Month, Week, Day, Hour, Minute, Second, Millisecond, Microsecond, Nanosecond, Picosecond, Femtosecond, Attosecond}
 use Rattle.type_str.specs.declared.TypeStr.{TypeStr}

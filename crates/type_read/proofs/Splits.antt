@@ -14,13 +14,14 @@ use Rattle.counts.specs.declared.Number.{Number}
 use Rattle.decimal.specs.Decimal.{digitsOf, afterDigits, decimal}
 use Rattle.decimal.specs.Read.{digitsRead}
 use Rattle.decimal.specs.declared.Digits.{Digits}
-use Rattle.spelling.specs.Spelling.{orderOf, letterOf}
+use Rattle.byte_orders.specs.Spelling.{orderOf}
+use Rattle.letters.specs.Spelling.{letterOf}
 use Rattle.units.specs.Units.{unitsOf}
-use Rattle.spelling.specs.Classes.{isObject}
+use Rattle.letters.specs.Classes.{isObject}
 use Rattle.type_str.specs.TypeString.{none, sizeStands, sized, sizedBy, syntax}
 use Rattle.type_read.specs.Parts.{partsOf}
-use Rattle.spelling.specs.declared.Endianness.{Endianness}
-use Rattle.spelling.specs.declared.TypeChar.{TypeChar}
+use Rattle.byte_orders.specs.declared.Endianness.{Endianness}
+use Rattle.letters.specs.declared.TypeChar.{TypeChar}
 use Rattle.units.specs.declared.TimeUnits.{TimeUnits}
 use Rattle.type_read.specs.declared.Parts.{Parts}
 

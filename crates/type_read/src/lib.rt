@@ -1,9 +1,9 @@
 // Type strings (document 01, "The record"): a part of the header text in; a type, or the first of 15 to 19 that applies, out. No public function has a `requires`.
+use byte_orders::Endianness;
+use byte_orders::OrderRead;
 use counts::Number;
-use spelling::Endianness;
-use spelling::LetterRead;
-use spelling::OrderRead;
-use spelling::TypeChar;
+use letters::LetterRead;
+use letters::TypeChar;
 use type_str::TypeRead;
 use type_str::TypeStr;
 use units::TimeUnits;
@@ -12,7 +12,7 @@ ghost use mathlib.Core.Path.{_≡_};
 ghost use mathlib.Core.Bool.{not, cond};
 ghost use lib.Dec.{eqb};
 ghost use Rattle.counts.specs.Outcome.{each};
-ghost use Rattle.spelling.specs.Classes.{isObject};
+ghost use Rattle.letters.specs.Classes.{isObject};
 ghost use Rattle.type_str.specs.TypeString.{syntax, sizedBy, typeString};
 ghost use Rattle.type_str.specs.Answer.{answer};
 ghost use Rattle.type_read.specs.Parts.{partsOf, splitAnswer, checkedParts};

@@ -3,13 +3,13 @@ use Prim.Native.Nat.{ℕ, _*_, _^_, _<_, _≤_}
 use mathlib.Core.Path.{_≡_}
 use mathlib.Core.Bool.{true, false, cond, and-false, and-true}
 use lib.Dec.{eqb}
-use Rattle.spelling.specs.declared.TypeChar.{TypeChar}
+use Rattle.letters.specs.declared.TypeChar.{TypeChar}
 use borrow.Author.Tests.{lt-leb, le-leb, ne-eqb}
 use Rattle.counts.specs.Outcome.{gives, refused}
 use Rattle.counts.specs.Number.{number}
 use Rattle.counts.specs.Counts.{bytes}
 use Rattle.counts.proofs.Fits.{number-is}
-use Rattle.spelling.specs.Classes.{isObject, isUnicode}
+use Rattle.letters.specs.Classes.{isObject, isUnicode}
 use Rattle.rules.specs.Rules.{allows}
 use Rattle.type_str.specs.TypeString.{lacksOrder, misplacesUnits, validated, checked}
 use Rattle.type_str.specs.Bytes.{typeBytes, countedBytes, numBytes}

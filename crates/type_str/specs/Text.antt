@@ -7,11 +7,12 @@ use lib.Dec.{eqb}
 use Rattle.counts.specs.Outcome.{Outcome, gives, refused}
 use Rattle.decimal.specs.Decimal.{printed}
 use Rattle.emit.specs.Placed.{written, placed}
-use Rattle.spelling.specs.Spelling.{orderByte, letterByte}
+use Rattle.byte_orders.specs.Spelling.{orderByte}
+use Rattle.letters.specs.Spelling.{letterByte}
 use Rattle.units.specs.Units.{unitText}
-use Rattle.spelling.specs.Classes.{isObject}
+use Rattle.letters.specs.Classes.{isObject}
 use Rattle.type_str.specs.TypeString.{checked}
-use Rattle.spelling.specs.declared.TypeChar.{TypeChar}
+use Rattle.letters.specs.declared.TypeChar.{TypeChar}
 use Rattle.type_str.specs.declared.TypeStr.{TypeStr}
 
 -- a size without leading zeros, none for `O`, in front of the text r

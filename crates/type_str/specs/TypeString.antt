@@ -8,11 +8,12 @@ use mathlib.Core.Bool.{Bool, true, false, not, cond, _&&_}
 use lib.Dec.{leb}
 use Rattle.counts.specs.Outcome.{Outcome, gives, refused, then, each, unless}
 use Rattle.decimal.specs.Decimal.{digitsOf, afterDigits, decimal}
-use Rattle.spelling.specs.Spelling.{orderOf, letterOf}
-use Rattle.spelling.specs.Classes.{isObject}
+use Rattle.byte_orders.specs.Spelling.{orderOf}
+use Rattle.letters.specs.Spelling.{letterOf}
+use Rattle.letters.specs.Classes.{isObject}
 use Rattle.units.specs.Units.{unitsOf, isAbsent}
-use Rattle.spelling.specs.declared.Endianness.{Endianness}
-use Rattle.spelling.specs.declared.TypeChar.{TypeChar}
+use Rattle.byte_orders.specs.declared.Endianness.{Endianness}
+use Rattle.letters.specs.declared.TypeChar.{TypeChar}
 use Rattle.rules.specs.Rules.{isIrrelevant, needsOrder, allows, hasUnits}
 use Rattle.type_str.specs.declared.TypeStr.{TypeStr}
 

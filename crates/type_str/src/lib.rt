@@ -1,10 +1,10 @@
 // The types that type strings give (document 01, "The record"): byte order, size and units judged, 17 to 19, and a type's bytes.
 // What each answer stands for is in specs/Answer.antt. No public function has a `requires`.
+use byte_orders::Endianness;
 use counts::ByteCount;
 use counts::Bytes;
 use counts::Points;
-use spelling::Endianness;
-use spelling::TypeChar;
+use letters::TypeChar;
 use units::TimeUnits;
 ghost use mathlib.Core.Path.{_≡_};
 ghost use Rattle.type_str.specs.TypeString.{lacksOrder, misplacesUnits, validated};

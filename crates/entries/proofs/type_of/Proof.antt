@@ -1,7 +1,8 @@
 -- `entries::type_of` meets its contract: each part is read or is none's, and then the type is asked for. Assumes nothing.
 use mathlib.Core.Bool.{true, false}
 use Rattle.entries.proofs.Types.{no-order, no-letter, no-units, whole-type}
-use Rattle.spelling.specs.Answer.{orderAnswer, letterAnswer}
+use Rattle.byte_orders.specs.Answer.{orderAnswer}
+use Rattle.letters.specs.Answer.{letterAnswer}
 use Rattle.units.specs.Answer.{unitsAnswer}
 use Rattle.counts.proofs.OneOutcome.{told}
 use mathlib.Core.Path.{sym, _∙_}

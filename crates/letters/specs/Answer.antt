@@ -1,14 +1,8 @@
 -- What each answer of the crate stands for: document 01's number, or the value. No two answers of one kind stand for the same
 -- (proofs/Outcomes.antt), so an equation on an answer fixes it. Definitions only. Assumes nothing.
 use Rattle.counts.specs.Outcome.{Outcome, gives, refused}
-use Rattle.spelling.specs.declared.Endianness.{Endianness}
-use Rattle.spelling.specs.declared.TypeChar.{TypeChar}
-use Rattle.spelling.specs.declared.OrderRead.{OrderRead}
-use Rattle.spelling.specs.declared.LetterRead.{LetterRead}
-
-abbrev pub orderAnswer : OrderRead → Outcome Endianness
-orderAnswer (OrderRead.Order o) = gives o
-orderAnswer OrderRead.NoOrder = refused 15
+use Rattle.letters.specs.declared.TypeChar.{TypeChar}
+use Rattle.letters.specs.declared.LetterRead.{LetterRead}
 
 abbrev pub letterAnswer : LetterRead → Outcome TypeChar
 letterAnswer (LetterRead.Letter l) = gives l
