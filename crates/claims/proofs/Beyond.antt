@@ -22,7 +22,8 @@ use Rattle.dtype.specs.Shape as shape
 use Rattle.dtype.proofs.Strides.{strides-length}
 use Rattle.shape.specs.Count as strides
 use Rattle.record.specs.Version.{Version}
-use Rattle.record.specs.Rooms.{Lent, atFront, holding}
+use Rattle.counts.specs.Front.{atFront}
+use Rattle.record.specs.Rooms.{Lent, holding}
 use Rattle.record.specs.Header as header
 use Rattle.record.specs.File.{fileOf}
 use Rattle.record.specs.Writing.{writing, placed}

@@ -1,7 +1,15 @@
--- The table of the cases marked P (specs/Edges.antt): its two parts are computed where their definitions are. Assumes nothing.
+-- The table of the cases marked P (specs/Edges.antt): its two parts are computed where their definitions are, and that the last case's text is that record is
+-- computed here. Assumes nothing.
+use mathlib.Core.Path.{refl}
+use Rattle.decimal.specs.Decimal.{isDigit, digitsOf, decimalFrom}
+use Rattle.byte_orders.specs.Spelling.{orderOf}
+use Rattle.letters.specs.Spelling.{letterOf}
+use Rattle.units.specs.Units.{unitsOf}
+use Rattle.type_str.specs.TypeString.{sized, syntax, validated, checked, typeString}
 use Rattle.type_read.proofs.Edges as types
 use Rattle.dtype.proofs.Edges as dtypes
 use Rattle.claims.specs.Edges.{Edges}
 
 pub edges : Edges
-edges = record { type-strings = types.edges; records = dtypes.edges }
+unfolding isDigit digitsOf decimalFrom orderOf letterOf unitsOf sized syntax validated checked typeString
+edges = record { type-strings = types.edges; records = dtypes.edges; a-and-b-read = refl }

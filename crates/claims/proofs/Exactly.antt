@@ -7,6 +7,7 @@ use mathlib.Core.List.{List, [], _++_}
 use lib.ListN.{length}
 use borrow.Author.Tests.{le-ltb}
 use Rattle.counts.specs.Outcome.{Outcome, gives, each, unless}
+use Rattle.counts.proofs.AllBytes.{bytes-append}
 use Rattle.dtype.specs.declared.Order.{Order}
 use Rattle.dtype.specs.Limits.{limited}
 use Rattle.dtype.specs.Record.{Record, table, names}
@@ -16,7 +17,7 @@ use Rattle.record.specs.Header as header
 use Rattle.record.specs.File.{fileOf, headerLength}
 use Rattle.record.specs.Writing.{writing}
 use Rattle.record.specs.Sound.{Small, Sound}
-use Rattle.record.proofs.RoundTrips.{headerFor, file-whole, written-read}
+use Rattle.record.proofs.RoundTrips.{headerFor, file-whole, file-all-bytes, written-read}
 use Rattle.table.specs.Checked.{checkedRecord}
 use Rattle.table.specs.Valid.{made}
 use Rattle.table.proofs.Accepts.{accepts-valid}
@@ -45,7 +46,7 @@ all-read t ns s o f =
     (x .header-is .says, accepted-moved (p .table-is) (p .names-are) (p .shape-is) (p .order-is) e)
 
 -- ---- what is accepted is read from its own header's bytes
-valid-limits : (t ns s : List ℕ) (o : Order) (r : Record) → checkedRecord t ns s o ≡ gives r → limited r ≡ gives r
+pub valid-limits : (t ns s : List ℕ) (o : Order) (r : Record) → checkedRecord t ns s o ≡ gives r → limited r ≡ gives r
 unfolding limited
 valid-limits t ns s o r e =
     let (d, is, v) = accepts-valid t ns s o r e in
@@ -84,6 +85,7 @@ own-file r sound limits p =
     written-read reading reading-keeps r sound (fileOf r) (headerLength r) (writing-own r limits p) [] (roomsOf l) ∙ ap (λ b. unless b 23 (gives (headerFor r))) fits in
     record {
       file = fileOf r ++ [];
+      bytes = bytes-append (fileOf r) [] (file-all-bytes r sound) tt;
       before = l;
       after = holding r l;
       header = answered r;

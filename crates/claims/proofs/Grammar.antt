@@ -13,13 +13,13 @@ use Rattle.judge.specs.Judged.{reading}
 use Rattle.judge.proofs.Top.{reading-keeps}
 use Rattle.header.specs.Answer as header
 use Rattle.header.proofs.Outcomes.{any-reading}
-use Rattle.claims.specs.Grammar.{heldBy, textBy, By-the-grammar}
+use Rattle.claims.specs.Grammar.{By-the-grammar}
 
 module _ (other : Reading) (keeps : Keeps other) where
-  text-same : (text : List ℕ) (l : Lent) → header.textInto text l ≡ textBy other text l
+  text-same : (text : List ℕ) (l : Lent) → header.textInto text l ≡ header.textBy other text l
   text-same text l = ap (λ r. then r (header.roomed (roomsOf l))) (record-in-same reading other reading-keeps keeps text)
 
-  held-same : (longer : Bool) (file : List ℕ) (l : Lent) → header.heldInto longer file l ≡ heldBy other longer file l
+  held-same : (longer : Bool) (file : List ℕ) (l : Lent) → header.heldInto longer file l ≡ header.heldBy other longer file l
   held-same longer file l =
       then-alike (prefix file) (λ p. header.behind longer file p l) _
       (λ p. then-alike (header.textHeld longer p file) (λ text. then (recordIn reading text) (housed (roomsOf l) p)) _

@@ -9,3 +9,4 @@ pub mod Edges
 mod Numbers
 pub mod Codes
 pub mod Grammar
+pub mod Exact

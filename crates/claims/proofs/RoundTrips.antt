@@ -146,9 +146,9 @@ module _ (t ns s : List ℕ) (o : Order) (room : List ℕ) (w : Written) (room�
       (write-header-one t ns s o room (w, room′) (u, headerPlaced t ns s o room) v (record { answered = sym e; room-after = refl }))
 
   one-of : (a b : Bool) (k : ℕ) → headerWritten t ns s o room ≡ unless a 4 (unless b 28 (gives k))
-      → (w ≡ Written.Long) ⊎ ((w ≡ Written.Room) ⊎ ((n : ℕ) × (w ≡ Written.Count n)))
+      → (w ≡ Written.Long) ⊎ ((w ≡ Written.OutputRoom) ⊎ ((n : ℕ) × (w ≡ Written.Count n)))
   one-of true b k e = inl (told-as Written.Long e)
-  one-of false true k e = inr (inl (told-as Written.Room e))
+  one-of false true k e = inr (inl (told-as Written.OutputRoom e))
   one-of false false k e = inr (inr (k, told-as (Written.Count k) e))
 
   written-as : (r : Record) → checkedRecord t ns s o ≡ gives r → headerWritten t ns s o room ≡ writing r room

@@ -2,15 +2,14 @@
 -- that some file is read as. 13 and 20 to 22 the check asks itself; 7 and 4 are `Printable`; the numbers of a caller's table and shape are u64 (`Small`). Definitions only. Assumes nothing.
 use Prim.Native.Nat.{ℕ, _≤_}
 use mathlib.Core.Path.{_≡_}
-use mathlib.Core.Bool.{true}
+use mathlib.Core.Bool.{false}
 use mathlib.Core.List.{List}
 use Rattle.counts.specs.Outcome.{gives}
-use Rattle.grammar.specs.Print.{valueOf}
+use Rattle.counts.specs.AllBytes.{AllBytes}
 use Rattle.dtype.specs.declared.Order.{Order}
 use Rattle.dtype.specs.Record.{Record}
-use Rattle.record.specs.Layout.{headerLayout}
-use Rattle.record.specs.Within.{within}
 use Rattle.record.specs.File.{textLength}
+use Rattle.record.specs.Writing.{tooDeep}
 use Rattle.record.specs.Prefix.{most-text}
 use Rattle.record.specs.Rooms.{Lent}
 use Rattle.record.specs.Sound.{Small}
@@ -20,9 +19,10 @@ use Rattle.header.specs.declared.HeaderRead.{HeaderRead}
 use Rattle.header.specs.Answer.{Reads}
 use Rattle.rooms.specs.Rooms.{Stands}
 
--- some file is read as this record
+-- some file, which is bytes, is read as this record
 pub record Some-file (t ns s : List ℕ) (o : Order) : Type 0 where
   pub file : List ℕ
+  pub bytes : AllBytes file
   pub before : Lent
   pub after : Lent
   pub header : Header
@@ -31,7 +31,7 @@ pub record Some-file (t ns s : List ℕ) (o : Order) : Type 0 where
 
 -- its text has at most 32 brackets open at once, and at most 131,072 bytes
 pub record Printable (r : Record) : Type 0 where
-  pub near : within (valueOf (headerLayout r)) 32 ≡ true
+  pub near : tooDeep r ≡ false
   pub short : textLength r ≤ most-text
 
 pub record Accepts (t ns s : List ℕ) (o : Order) : Type 0 where

@@ -5,21 +5,12 @@ use mathlib.Core.Path.{_≡_}
 use mathlib.Core.Bool.{Bool}
 use mathlib.Core.List.{List}
 use Prim.Native.Nat.{ℕ}
-use Rattle.counts.specs.Outcome.{Outcome, then, each}
-use Rattle.dtype.specs.Record.{Record}
-use Rattle.record.specs.Prefix.{prefix}
-use Rattle.record.specs.Rooms.{Lent, roomsOf}
+use Rattle.counts.specs.Outcome.{each}
+use Rattle.record.specs.Rooms.{Lent}
 use Rattle.record.specs.Header as header
 use Rattle.fill.specs.declared.TextRead.{TextRead}
 use Rattle.header.specs.declared.HeaderRead.{HeaderRead}
-use Rattle.header.specs.Answer.{saidOf, textAnswer, roomed, filled, told, answer, textHeld, Reads, ReadsHeld, ReadsText}
-
--- the header of a file that is held in part, and the record of a text, by any reading
-abbrev pub heldBy : header.Reading → (longer : Bool) (file : List ℕ) → Lent → Outcome header.Header
-heldBy reading longer file l = then (prefix file) (λ p. then (textHeld longer p file) (λ text. then (header.recordIn reading text) (header.housed (roomsOf l) p)))
-
-abbrev pub textBy : header.Reading → (text : List ℕ) → Lent → Outcome Record
-textBy reading text l = then (header.recordIn reading text) (roomed (roomsOf l))
+use Rattle.header.specs.Answer.{saidOf, textAnswer, filled, told, answer, heldBy, textBy, Reads, ReadsHeld, ReadsText}
 
 pub record Read-by (reading : header.Reading) : Type 0 where
   -- `header::read`, `read_held`, `read_text`: the answer, and the three lent rooms

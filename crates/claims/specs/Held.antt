@@ -14,7 +14,7 @@ use Rattle.header.specs.declared.HeaderRead.{HeaderRead}
 use Rattle.header.specs.Answer.{Reads, ReadsHeld}
 
 pub record As-whole (k : ℕ) (file : List ℕ) (l : Lent) (x : HeaderRead) (l′ : Lent) : Type 0 where
-  -- 1, 2, 3 and 4 are of the prefix alone
+  -- 1, 2 and 4 are of the prefix alone
   pub within : ((p : Prefix) → prefix file ≡ gives p → dataStart p ≤ k) → Reads file l x l′
   pub past : (p : Prefix) → prefix file ≡ gives p → k < dataStart p → (x ≡ HeaderRead.Refused Refusal.Room) × (l′ ≡ l)
 

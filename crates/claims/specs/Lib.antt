@@ -1,4 +1,5 @@
 pub mod Roomy
+pub mod Exact
 pub mod RoundTrips
 pub mod Places
 pub mod Refusals

@@ -1,7 +1,8 @@
--- Demand 2, of `write_header` and `read` themselves: whatever satisfies their contracts. "What was written is read back": the bytes that `write_header` wrote, and
--- whatever follows them, are read as the caller's table, names, shape and order, the data starting behind them; or 23, where a room is too small. "What was read
--- can be written": of what a reading left in the rooms, `write_header` is refused by 4 or 28 alone, and what it wrote is read back. The numbers of a table and
--- of a shape are below 2^64, as every u64 is: `Small`. Definitions only. Assumes nothing.
+-- Demand 2, of `write_header` and `read` themselves: whatever satisfies their contracts. What was written is read back: the bytes that `write_header` wrote, and
+-- whatever follows them, are read as the caller's table, names, shape and order, the data starting behind them; or 23, where a room is too small. What was read
+-- can be written: of what a reading left in the rooms, `write_header` is refused by 4 or 28 alone, and what it wrote is read back. The numbers of a table and
+-- of a shape are below 2^64, as every u64 is: `Small`. That headers are accepted and written at all is the definitions' to say, and computed for document 01's 80 bytes:
+-- `table-holds` and `eighty-bytes` in record/proofs/Examples.antt. Definitions only. Assumes nothing.
 use Prim.Native.Nat.{ℕ}
 use mathlib.Core.Path.{_≡_}
 use mathlib.Core.List.{List, _++_}
@@ -39,7 +40,7 @@ Written-read =
 
 -- what was read can be written, 4 and 28 aside, and comes back
 pub record Goes-again (t ns s : List ℕ) (o : Order) (w : Written) (room′ : List ℕ) : Type 0 where
-  pub only : (w ≡ Written.Long) ⊎ ((w ≡ Written.Room) ⊎ ((n : ℕ) × (w ≡ Written.Count n)))
+  pub only : (w ≡ Written.Long) ⊎ ((w ≡ Written.OutputRoom) ⊎ ((n : ℕ) × (w ≡ Written.Count n)))
   pub again : (n : ℕ) → w ≡ Written.Count n → (rest : List ℕ) (l l′ : Lent) (x : HeaderRead) → Reads (take n room′ ++ rest) l x l′ → Comes-back t ns s o n l x l′
 
 abbrev pub Read-written : Type 0
