@@ -72,13 +72,16 @@ def goals(found, names):
 
 
 def machine():
-    model = platform.machine()
+    """The processor's model where it is known, how many there are, their kind, and the system."""
+    kind, model = platform.machine(), None
     with open('/proc/cpuinfo') as f:
         for line in f:
             if line.startswith('model name'):
                 model = line.split(':', 1)[1].strip()
                 break
-    return f'{model}, {os.cpu_count()} processors, {platform.machine()}, {platform.system()} {platform.release()}'
+    processors = f'{os.cpu_count()} processors'
+    known = (model, processors, kind) if model else (kind, processors)
+    return ', '.join((*known, f'{platform.system()} {platform.release()}'))
 
 
 def flags():

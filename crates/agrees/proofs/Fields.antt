@@ -5,7 +5,7 @@ use mathlib.Core.Path.{_≡_, sym, _∙_}
 use mathlib.Core.List.{List}
 use native.Mathlib.Omega.{arith}
 use Rattle.dtype.specs.declared.Entry.{Entry}
-use Rattle.dtype.specs.Flat.{saturated}
+use Rattle.counts.specs.Number.{capped}
 use Rattle.dtype.specs.Agrees.{entryAt, Bare, Array-agrees, Fields-agree, Record-agrees}
 use Rattle.agrees.specs.Decides.{Decides}
 use Rattle.agrees.proofs.Tests.{by-eqb}
@@ -17,7 +17,7 @@ pub record Array-view (e : ℕ) (outer inner : Entry) : Type 0 where
   pub parent : inner .parent ≡ e
   pub no-name : inner .name ≡ 0
   pub extent : outer .extent ≡ suc (inner .extent)
-  pub bytes : outer .bytes ≡ saturated (outer .number * inner .bytes)
+  pub bytes : outer .bytes ≡ capped (outer .number * inner .bytes)
 
 module _ (t : List ℕ) (n e : ℕ) (outer inner : Entry) (o : outer ≡ entryAt t e) (i : inner ≡ entryAt t (e + 1)) where
   inner-is : inner ≡ entryAt t (suc e)
@@ -27,7 +27,7 @@ module _ (t : List ℕ) (n e : ℕ) (outer inner : Entry) (o : outer ≡ entryAt
   array-view a = rw (o, inner-is) (record { bare = a .bare; parent = a .parent; no-name = a .no-name; extent = a .extent; bytes = a .bytes })
 
   pub array-decided : (y : ℕ) → e + 1 < n → Bare outer → inner .parent ≡ e → inner .name ≡ 0 → outer .extent ≡ suc (inner .extent)
-      → y ≡ saturated (outer .number * inner .bytes) → Decides (eqb (outer .bytes) y) (Array-agrees t n e)
+      → y ≡ capped (outer .number * inner .bytes) → Decides (eqb (outer .bytes) y) (Array-agrees t n e)
   array-decided y l b p m x s =
       by-eqb (outer .bytes) y
       (λ z.
@@ -74,7 +74,7 @@ module _ (t : List ℕ) (n e end total left c bytes : ℕ) (k : Linking t n e en
   pub field-view : 0 < left → (x : Entry) → x ≡ entryAt t c → Record-agrees t n e → (c < end) × (x .parent ≡ e) × (c + x .extent ≤ end)
   field-view l x s a = let f = next-field l a in rw s (f .0, f .1, f .2)
 
-  pub linking-next : 0 < left → (x : Entry) (b : ℕ) → x ≡ entryAt t c → c < end → x .parent ≡ e → c + x .extent ≤ end → b ≡ saturated (bytes + x .bytes)
+  pub linking-next : 0 < left → (x : Entry) (b : ℕ) → x ≡ entryAt t c → c < end → x .parent ≡ e → c + x .extent ≤ end → b ≡ capped (bytes + x .bytes)
       → Linking t n e end total (left - 1) (c + x .extent) b
   linking-next l x b s u p w q =
       let z : left ≡ suc (left - 1) = omega (arith, l) in

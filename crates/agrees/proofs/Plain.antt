@@ -7,7 +7,7 @@ use Rattle.counts.proofs.Alike.{true-false}
 use Rattle.type_str.specs.Text.{isType}
 use Rattle.type_str.specs.declared.TypeStr.{TypeStr}
 use Rattle.dtype.specs.PlainBytes.{plainBytes}
-use Rattle.dtype.specs.Flat.{saturated}
+use Rattle.counts.specs.Number.{capped}
 use Rattle.dtype.specs.declared.Entry.{Entry}
 use Rattle.entries.specs.EntryType.{typeOf}
 use Rattle.agrees.specs.Decides.{refuses, Decides, Typed-agrees}
@@ -17,7 +17,7 @@ use Rattle.entries.proofs.Types.{given-made, type-of-back, type-of-written}
 pub plain-untyped : (e : Entry) → refused 27 ≡ typeOf e → Typed-agrees e → ⊥
 plain-untyped e h a = true-false (ap (λ (o : Outcome TypeStr). refuses o) h ∙ a .typed)
 
-pub plain-decided : (e : Entry) (t : TypeStr) (y : ℕ) → gives t ≡ typeOf e → e .extent ≡ 1 → y ≡ saturated (plainBytes t)
+pub plain-decided : (e : Entry) (t : TypeStr) (y : ℕ) → gives t ≡ typeOf e → e .extent ≡ 1 → y ≡ capped (plainBytes t)
     → Decides (eqb (e .bytes) y) (Typed-agrees e)
 plain-decided e t y h x s =
     let w = type-of-back e t (sym h) in
@@ -40,4 +40,4 @@ plain-decided e t y h x s =
     let p = a .agrees in
     let v = type-of-written e (p .type) (record { order = p .order; letter = p .letter; number = p .number; units = p .units }) in
     let same : p .type ≡ t = given-made t (p .type) (isType (p .type)) (sym v ∙ sym h) in
-    p .bytes ∙ ap (λ (u : TypeStr). saturated (plainBytes u)) same ∙ sym s)
+    p .bytes ∙ ap (λ (u : TypeStr). capped (plainBytes u)) same ∙ sym s)

@@ -1,5 +1,5 @@
 // The data area of a file (document 01, "The record"): whether a file holds it, the first byte of what an item has at an offset, and the bytes of a place. These
-// serve our own crates, which answer places and read elements. No public function here has a `requires`.
+// serve our own crates, which answer places and read elements. No function here has a `requires`.
 use counts::ByteCount;
 use counts::Bytes;
 use counts::Items;

@@ -1,5 +1,6 @@
 // The numbers of an order, a version and a type: those that a caller in C gives, and what they name or why they are refused; and a type told in its four. What
-// telling an answer in C is, here and in crates told_read, told_place, told_element and told_write, is in specs/Codes.antt. No function here has a `requires`.
+// telling an answer in C is, here and in crates told_read, told_held, told_place, told_element, told_write and told_list, is in specs/Codes.antt. No function here has a
+// `requires`.
 use dtype::Entry;
 use dtype::Order;
 use dtype::PLAIN;
@@ -74,9 +75,9 @@ pub fn tell_type(a: TypeRead, said: &mut [u64; 4]) -> u8
             0
         }
         TypeRead::Syntax => 15,
-        TypeRead::TooLarge => 16,
+        TypeRead::LargeNumber => 16,
         TypeRead::ByteOrder => 17,
-        TypeRead::Size => 18,
+        TypeRead::TypeSize => 18,
         TypeRead::Units => 19,
     }
 }

@@ -2,21 +2,18 @@
 -- order or UTF-8 name), 13, 20, 21, 22, 7, 4, 28." The record's own refusals are crate table's, and 7 is asked as `writing` of crate record asks it; 4 and 28 are of the
 -- whole header, crate write's. By proofs/Outcomes.antt no two answers stand for the same. Definitions only. Assumes nothing.
 use Prim.Native.Nat.{ℕ}
-use mathlib.Core.Bool.{not}
 use mathlib.Core.List.{List}
 use Rattle.counts.specs.Outcome.{Outcome, gives, refused, then, unless}
-use Rattle.grammar.specs.Print.{valueOf}
 use Rattle.dtype.specs.declared.Order.{Order}
 use Rattle.dtype.specs.Record.{Record}
-use Rattle.record.specs.Layout.{headerLayout}
-use Rattle.record.specs.Within.{within}
+use Rattle.record.specs.Writing.{tooDeep}
 use Rattle.table.specs.declared.Summary.{Summary}
 use Rattle.table.specs.Checked.{checkedRecord}
 use Rattle.depth.specs.declared.Printable.{Printable}
 
 -- a record, or 7 where its text would open a 33rd bracket
 abbrev pub shallow : Record → Outcome Record
-shallow r = unless (not (within (valueOf (headerLayout r)) 32)) 7 (gives r)
+shallow r = unless (tooDeep r) 7 (gives r)
 
 -- a caller's record whose text can be printed, or the first refusal that applies
 unfoldable pub printable : (table names shape : List ℕ) → Order → Outcome Record

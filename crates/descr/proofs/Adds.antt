@@ -24,38 +24,38 @@ use Rattle.record.specs.Descr.{Field, arrays, descrOf, fieldsOf, fieldOf, twoOr
 use Rattle.products.specs.Outline.{hasZero, behindZero, outlineOf, isOver, largestIn}
 use Rattle.products.proofs.Levels.{largest-is, arrays-outline, arrays-over, arrays-entries, arrays-wide, arrays-object, arrays-name-bytes}
 use Rattle.sums.specs.declared.Totals.{Totals}
-use Rattle.sums.specs.Totals.{capped, largest, saturated, nothing, oneEntry, nameTotals, totalsOf, totalsIn, fieldTotals, together, arrayed}
+use Rattle.sums.specs.Totals.{atMost, largest, heldNumber, nothing, oneEntry, nameTotals, totalsOf, totalsIn, fieldTotals, together, arrayed}
 use Rattle.sums.specs.Verdict.{both}
-use Rattle.sums.proofs.Sums.{totals-eq, or-true, or-false, over-never, over-not, over-more, over-number, saturated-number, cap-front}
+use Rattle.sums.proofs.Sums.{totals-eq, or-true, or-false, over-never, over-not, over-more, over-number, held-number, cap-front}
 use Rattle.sums.proofs.Limits.{own-over}
 
 false-true : {A : Type 0} → false ≡ true → A
 false-true h = absurd (let z : _≡_ {A = ℕ} 0 1 = cc in omega arith)
 
-over-front : (n : ℕ) → over (0 + capped largest n) ≡ false
-over-front n = over-never (0 + capped largest n) (omega arith)
+over-front : (n : ℕ) → over (0 + atMost largest n) ≡ false
+over-front n = over-never (0 + atMost largest n) (omega arith)
 
 -- ---- fields
-cap-two : (m a b : ℕ) → capped m (a + b) ≡ capped m (capped m (0 + capped m a) + capped m b)
+cap-two : (m a b : ℕ) → atMost m (a + b) ≡ atMost m (atMost m (0 + atMost m a) + atMost m b)
 cap-two m a b = omega arith
 
-cap-three : (m a b c : ℕ) → capped m (a + (b + c)) ≡ capped m (capped m (capped m a + capped m b) + capped m c)
+cap-three : (m a b c : ℕ) → atMost m (a + (b + c)) ≡ atMost m (atMost m (atMost m a + atMost m b) + atMost m c)
 cap-three m a b c = omega arith
 
 over-fields : (own inner : Bool) (a b : ℕ) → (over a ≡ true → own ≡ true)
-    → ((own || inner) || over (a + b)) ≡ (((own || over (0 + capped largest a)) || (inner || over b)) || over (capped largest (0 + capped largest a) + capped largest b))
+    → ((own || inner) || over (a + b)) ≡ (((own || over (0 + atMost largest a)) || (inner || over b)) || over (atMost largest (0 + atMost largest a) + atMost largest b))
 over-fields true inner a b h = refl
 over-fields false inner a b h = rw (over-front a) (rest inner (over a) refl)
   where
-    last : over a ≡ false → (t : Bool) → over b ≡ t → over (a + b) ≡ (t || over (capped largest (0 + capped largest a) + capped largest b))
+    last : over a ≡ false → (t : Bool) → over b ≡ t → over (a + b) ≡ (t || over (atMost largest (0 + atMost largest a) + atMost largest b))
     last ha true hb = over-more b (a + b) (omega arith) hb
     last ha false hb =
         let la = over-not a ha in
         let lb = over-not b hb in
-        let e : a + b ≡ capped largest (0 + capped largest a) + capped largest b = omega arith in
+        let e : a + b ≡ atMost largest (0 + atMost largest a) + atMost largest b = omega arith in
         ap over e
 
-    rest : (i t : Bool) → over a ≡ t → (i || over (a + b)) ≡ ((i || over b) || over (capped largest (0 + capped largest a) + capped largest b))
+    rest : (i t : Bool) → over a ≡ t → (i || over (a + b)) ≡ ((i || over b) || over (atMost largest (0 + atMost largest a) + atMost largest b))
     rest true t ha = refl
     rest false true ha = false-true (h ha)
     rest false false ha = last ha (over b) refl
@@ -104,7 +104,7 @@ over-record inner x n h = rw h (go inner (over n))
     go false true = refl
     go false false = refl
 
-cap-one : (m n : ℕ) → capped m (suc n) ≡ capped m (1 + capped m n)
+cap-one : (m n : ℕ) → atMost m (suc n) ≡ atMost m (1 + atMost m n)
 cap-one m n = omega arith
 
 record-both : (o : Outcome Fields) → each totalsOf (each record-of o) ≡ both (gives oneEntry) (each totalsIn o)
@@ -140,52 +140,52 @@ flat (tuple vs) = tt
 flat (dict es) = tt
 
 -- a size that is capped, so many times
-cap-times : (b s : ℕ) → capped largest (b * capped largest s) ≡ capped largest (b * s)
+cap-times : (b s : ℕ) → atMost largest (b * atMost largest s) ≡ atMost largest (b * s)
 cap-times b s = go (over s) refl
   where
-    many : (b : ℕ) → largest ≤ s → capped largest (b * largest) ≡ capped largest (b * s)
+    many : (b : ℕ) → largest ≤ s → atMost largest (b * largest) ≡ atMost largest (b * s)
     many zero le = omega arith
     many (suc b) le = omega (arith, mul-suc s b)
 
-    go : (t : Bool) → over s ≡ t → capped largest (b * capped largest s) ≡ capped largest (b * s)
+    go : (t : Bool) → over s ≡ t → atMost largest (b * atMost largest s) ≡ atMost largest (b * s)
     go true h =
         let le = leb-true (2 ^ 64) s h in
-        let e : capped largest s ≡ largest = omega arith in
+        let e : atMost largest s ≡ largest = omega arith in
         rw e (many b (omega arith))
     go false h =
         let lt = over-not s h in
-        let e : capped largest s ≡ s = omega arith in
+        let e : atMost largest s ≡ s = omega arith in
         rw e
 
-over-levels : (ns : List ℕ) (s : ℕ) (own : Bool) → (over s ≡ true → own ≡ true) → (over (behindZero ns * s) || own) ≡ (isOver (largestIn (outlineOf ns) (capped largest s)) || own)
-over-levels ns s true h = or-true (over (behindZero ns * s)) ∙ sym (or-true (isOver (largestIn (outlineOf ns) (capped largest s))))
+over-levels : (ns : List ℕ) (s : ℕ) (own : Bool) → (over s ≡ true → own ≡ true) → (over (behindZero ns * s) || own) ≡ (isOver (largestIn (outlineOf ns) (atMost largest s)) || own)
+over-levels ns s true h = or-true (over (behindZero ns * s)) ∙ sym (or-true (isOver (largestIn (outlineOf ns) (atMost largest s))))
 over-levels ns s false h = ap (λ (t : Bool). t || false) (go (over s) refl)
   where
-    go : (t : Bool) → over s ≡ t → over (behindZero ns * s) ≡ isOver (largestIn (outlineOf ns) (capped largest s))
+    go : (t : Bool) → over s ≡ t → over (behindZero ns * s) ≡ isOver (largestIn (outlineOf ns) (atMost largest s))
     go true k = false-true (h k)
     go false k =
         let lt = over-not s k in
-        let e : capped largest s ≡ s = omega arith in
+        let e : atMost largest s ≡ s = omega arith in
         sym (ap (λ (x : ℕ). isOver (largestIn (outlineOf ns) x)) e ∙ (ap (λ (x : Number). isOver x) (largest-is ns s) ∙ over-number (behindZero ns * s)))
 
-cap-right : (m a b : ℕ) → capped m (a + b) ≡ capped m (a + capped m b)
+cap-right : (m a b : ℕ) → atMost m (a + b) ≡ atMost m (a + atMost m b)
 cap-right m a b = omega arith
 
-held-levels : (ns : List ℕ) (s : ℕ) → capped largest (cond (hasZero ns) 0 (behindZero ns * s)) ≡ cond (hasZero ns) 0 (saturated (largestIn (outlineOf ns) (capped largest s)))
+held-levels : (ns : List ℕ) (s : ℕ) → atMost largest (cond (hasZero ns) 0 (behindZero ns * s)) ≡ cond (hasZero ns) 0 (heldNumber (largestIn (outlineOf ns) (atMost largest s)))
 held-levels ns s = go (hasZero ns)
   where
-    go : (t : Bool) → capped largest (cond t 0 (behindZero ns * s)) ≡ cond t 0 (saturated (largestIn (outlineOf ns) (capped largest s)))
+    go : (t : Bool) → atMost largest (cond t 0 (behindZero ns * s)) ≡ cond t 0 (heldNumber (largestIn (outlineOf ns) (atMost largest s)))
     go true = refl
-    go false = sym (ap (λ (x : Number). saturated x) (largest-is ns (capped largest s)) ∙ (saturated-number (behindZero ns * capped largest s) ∙ cap-times (behindZero ns) s))
+    go false = sym (ap (λ (x : Number). heldNumber x) (largest-is ns (atMost largest s)) ∙ (held-number (behindZero ns * atMost largest s) ∙ cap-times (behindZero ns) s))
 
 arrays-totals : (ns : List ℕ) (d : Dtype) → levels d ≡ 0 → totalsOf (arrays ns d) ≡ arrayed (outlineOf ns) (totalsOf d)
 unfolding arrayed outlineOf
 arrays-totals ns d h =
     let e : length ns + levels d ≡ length ns = omega arith in
-    totals-eq (ap (λ (x : ℕ). capped 513 x) (arrays-entries ns d) ∙ cap-right 513 (length ns) _) (ap (λ (x : ℕ). capped 65537 x) (arrays-name-bytes ns d)) (arrays-object ns d)
+    totals-eq (ap (λ (x : ℕ). atMost 513 x) (arrays-entries ns d) ∙ cap-right 513 (length ns) _) (ap (λ (x : ℕ). atMost 65537 x) (arrays-name-bytes ns d)) (arrays-object ns d)
     (arrays-wide ns d ∙ ap (λ (x : ℕ). ltb 32 x || overLevels d) e)
     (arrays-over ns d ∙ over-levels ns (sizeOf d) (someOver d) (own-over d))
-    (ap (λ (x : ℕ). capped largest x) (arrays-outline ns d) ∙ held-levels ns (sizeOf d))
+    (ap (λ (x : ℕ). atMost largest x) (arrays-outline ns d) ∙ held-levels ns (sizeOf d))
 
 -- ---- a field's items: its name, its inner descr, perhaps its sub-shape
 -- a value as a name

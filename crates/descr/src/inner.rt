@@ -32,7 +32,7 @@ ghost use Rattle.sums.specs.Verdict.{verdict};
 ghost use Rattle.descr.specs.Judges.{Judges, JudgesFrom, typedAt};
 
 // A value that is a descr: a type string, or a list of fields.
-pub fn judge(text: &[u8], at: usize, room: usize) -> Judged
+pub(crate) fn judge(text: &[u8], at: usize, room: usize) -> Judged
     ensures { λ r. ⌜ Judges room (now (text .entry)) at (λ v. each totalsOf (descrOf v)) r ⌝ }
 {
     if string_at(text, at) {

@@ -5,7 +5,7 @@ mod inner;
 
 use classes::Parsed;
 use parts::Judged;
-use sums::Rule;
+use refusal::Refusal;
 use sums::Verdict;
 ghost use Rattle.literal.specs.Literal.{value as valueOf};
 ghost use Rattle.descr.specs.Judges.{JudgesAt};
@@ -19,7 +19,7 @@ pub fn judge(text: &[u8], at: usize, room: usize) -> Judged
     let Parsed::Value(_) = ended else {
         return Judged {
             ended: ended,
-            verdict: Verdict::Bad(Rule::Form),
+            verdict: Verdict::Bad(Refusal::Form),
         };
     };
     r

@@ -24,7 +24,7 @@ use Rattle.classes.proofs.Positions.{kind-in}
 use Rattle.literal.proofs.View.{view}
 use Rattle.products.specs.declared.Outline.{Outline}
 use Rattle.products.specs.declared.Verdict.{Verdict}
-use Rattle.products.specs.declared.Verdict.the-variants.{Good, Form, Large}
+use Rattle.products.specs.declared.Verdict.the-variants.{Good, NotShape, LargeDimension}
 use Rattle.products.specs.declared.Member as member
 use Rattle.products.specs.declared.Member.{Member}
 use Rattle.products.specs.Outline.{outlineOf, extendedTo, extendedBy, extends}
@@ -68,19 +68,19 @@ goes-one v n (deep p) = refl
 pub goes-none : (v : Verdict) (e : ℕ) → outlined v ≡ goesOn (outlined v) (got [] e)
 unfolding forgetAll
 goes-none (Good o) e = refl
-goes-none Form e = refl
-goes-none Large e = refl
+goes-none NotShape e = refl
+goes-none LargeDimension e = refl
 
 -- a verdict counts one more at most
 pub rank-more : (v v′ : Verdict) (m : Member) → outlined v′ ≡ then (outlined v) (λ o. each (extendedBy o) (sized m)) → rankOf v′ ≤ rankOf v + 1
 unfolding extendedTo
-rank-more v Form m h = omega arith
-rank-more v Large m h = omega arith
-rank-more Form (Good o) m h = absurd (let z : _≡_ {A = ℕ} 0 1 = cc in omega arith)
-rank-more Large (Good o) m h = absurd (let z : _≡_ {A = ℕ} 0 1 = cc in omega arith)
+rank-more v NotShape m h = omega arith
+rank-more v LargeDimension m h = omega arith
+rank-more NotShape (Good o) m h = absurd (let z : _≡_ {A = ℕ} 0 1 = cc in omega arith)
+rank-more LargeDimension (Good o) m h = absurd (let z : _≡_ {A = ℕ} 0 1 = cc in omega arith)
 rank-more (Good u) (Good o) (member.Member.Is n) h = let z : o ≡ extendedBy u n = cc in omega (arith, ap (λ (x : Outline). x .rank) z)
-rank-more (Good u) (Good o) member.Member.Form h = absurd (let z : _≡_ {A = ℕ} 0 1 = cc in omega arith)
-rank-more (Good u) (Good o) member.Member.Large h = absurd (let z : _≡_ {A = ℕ} 0 1 = cc in omega arith)
+rank-more (Good u) (Good o) member.Member.NotShape h = absurd (let z : _≡_ {A = ℕ} 0 1 = cc in omega arith)
+rank-more (Good u) (Good o) member.Member.LargeDimension h = absurd (let z : _≡_ {A = ℕ} 0 1 = cc in omega arith)
 
 -- ---- a list or a tuple, and what it holds
 pub record Bracket (k : ℕ) (s : List ℕ) (at : ℕ) (n : Node) (e close : ℕ) : Type 0 where

@@ -36,7 +36,7 @@ use Rattle.classes.proofs.Ends.{Stops, stops}
 use Rattle.literal.proofs.Steps.{thing, gapLeft, gap-enough, gap-falls, read-ahead, tuple-stop, tuple-comma, value-deep}
 use Rattle.products.specs.declared.Outline.{Outline}
 use Rattle.products.specs.declared.Verdict.{Verdict}
-use Rattle.products.specs.declared.Verdict.the-variants.{Form}
+use Rattle.products.specs.declared.Verdict.the-variants.{NotShape}
 use Rattle.products.specs.declared.Member.{Member}
 use Rattle.products.specs.Outline.{outlineOf, extendedBy, heldBy}
 use Rattle.products.specs.Answer.{sized, outlined, rankOf}
@@ -54,7 +54,7 @@ refused-goes v (got ns e) st = absurd st
 refused-goes v (fault p) st = refl
 refused-goes v (deep p) st = refl
 
-walks-stop : (v : Outcome Outline) (g : Got (List Node)) (x : Parsed) → x ≡ pos g → Stops x → Walks v g (record { ended = x; verdict = Form })
+walks-stop : (v : Outcome Outline) (g : Got (List Node)) (x : Parsed) → x ≡ pos g → Stops x → Walks v g (record { ended = x; verdict = NotShape })
 walks-stop v g x h st = record { ends = h; says = refused-goes v g (subst (λ (y : Parsed). Stops y) h st) }
 
 -- ---- the loop
@@ -106,7 +106,7 @@ module _ (k : ℕ) (s : List ℕ) (close from : ℕ) (met : Verdict) where
   stop-by (suc m) p (deep e) lt hr st = rw (items, hr)
 
   pub walking-stop : (g : Gap) (v : Verdict) (p : ℕ) (r : Parsed) → Walking g v → g ≡ Item p → r ≡ pos (value k s p) → OneOf (1 ∷ 2 ∷ []) (tagOf the-type r)
-      → Walks (outlined met) whole (record { ended = r; verdict = Form })
+      → Walks (outlined met) whole (record { ended = r; verdict = NotShape })
   walking-stop g v p r w hp hr o =
       let w′ = subst (λ (x : Gap). Walking x v) hp w in
       let st = subst (λ (x : Parsed). Stops x) hr (stops r o) in
@@ -153,11 +153,11 @@ module _ (k : ℕ) (s : List ℕ) (at : ℕ) where
       subst (λ (x : Judged). Walks (gives o) (tupleBy (value k s) s at) x) (sym (hr ∙ ap (shutAt g) hv)) (shut-by g (Verdict.Good o) (sym hg) t)
 
   module _ (v : Outcome Outline) (p : ℕ) (x : Parsed) (hg : gapAt s at 41 ≡ Item p) (hx : x ≡ pos (value k s p)) where
-    pub round-stop : OneOf (1 ∷ 2 ∷ []) (tagOf the-type x) → Walks v (tupleBy (value k s) s at) (record { ended = x; verdict = Form })
+    pub round-stop : OneOf (1 ∷ 2 ∷ []) (tagOf the-type x) → Walks v (tupleBy (value k s) s at) (record { ended = x; verdict = NotShape })
     round-stop o = walks-stop v (tupleBy (value k s) s at) x (tuple-stop (value k s) s at p x hg hx (stops x o)) (stops x o)
 
     module _ (q : ℕ) (hq : x ≡ Value q) (c : Parsed) (hc : c ≡ needAt s q 44) where
-      pub round-comma : OneOf (1 ∷ 2 ∷ []) (tagOf the-type c) → Walks v (tupleBy (value k s) s at) (record { ended = c; verdict = Form })
+      pub round-comma : OneOf (1 ∷ 2 ∷ []) (tagOf the-type c) → Walks v (tupleBy (value k s) s at) (record { ended = c; verdict = NotShape })
       round-comma o = walks-stop v (tupleBy (value k s) s at) c (tuple-comma (value k s) s at p q c hg (sym hq ∙ hx) hc (stops c o)) (stops c o)
 
       first-by : (n : Node) (e : ℕ) → value k s p ≡ got n q → needAt s q 44 ≡ Value e → tupleBy (value k s) s at ≡ with (λ e. _∷_ n) (listBy (value k s) s e 41)
@@ -282,10 +282,10 @@ module _ (k : ℕ) (s : List ℕ) (at : ℕ) (x : Parsed) (hx : x ≡ pos (value
   other-by (fault p) h z = refl
   other-by (deep p) h z = refl
 
-  pub judged-other : (byteAt s at ≡ 91 → ⊥) → (byteAt s at ≡ 40 → ⊥) → Judges (value k s at) (record { ended = x; verdict = Form })
+  pub judged-other : (byteAt s at ≡ 91 → ⊥) → (byteAt s at ≡ 40 → ⊥) → Judges (value k s at) (record { ended = x; verdict = NotShape })
   judged-other ns nr = record { ends = hx; says = other-by (value k s at) refl (no-closing (byteAt s at) ns nr) }
 
-pub judged-deep : (k : ℕ) (s : List ℕ) (at : ℕ) → k ≡ 0 → isOpen (byteAt s at) ≡ true → Judges (value k s at) (record { ended = Deep at; verdict = Form })
+pub judged-deep : (k : ℕ) (s : List ℕ) (at : ℕ) → k ≡ 0 → isOpen (byteAt s at) ≡ true → Judges (value k s at) (record { ended = Deep at; verdict = NotShape })
 judged-deep k s at z o =
     let e = value-deep s at k z o in
     record { ends = ap pos e; says = ap (λ (g : Got Node). each outlineOf (dimensionsAt g)) e }

@@ -12,7 +12,7 @@ use Rattle.gaps.specs.declared.Gap.{Gap}
 use Rattle.gaps.specs.declared.Gap.the-variants.{Shut, Item, Stray}
 use Rattle.products.specs.declared.Outline.{Outline}
 use Rattle.products.specs.declared.Verdict.{Verdict}
-use Rattle.products.specs.declared.Verdict.the-variants.{Form}
+use Rattle.products.specs.declared.Verdict.the-variants.{NotShape}
 use Rattle.products.specs.Outline.{extends}
 use Rattle.products.specs.Answer.{outlined}
 use Rattle.dims.specs.declared.Judged.{Judged}
@@ -35,5 +35,5 @@ pub record Walks (v : Outcome Outline) (g : Got (List Node)) (r : Judged) : Type
 -- how a bracket ends at a gap where no member stands, where v is the verdict on its members
 abbrev pub shutAt : Gap → Verdict → Judged
 shutAt (Shut e) v = record { ended = Value e; verdict = v }
-shutAt (Item p) v = record { ended = Fault p; verdict = Form }
-shutAt (Stray p) v = record { ended = Fault p; verdict = Form }
+shutAt (Item p) v = record { ended = Fault p; verdict = NotShape }
+shutAt (Stray p) v = record { ended = Fault p; verdict = NotShape }

@@ -37,13 +37,13 @@ pub fn judge(text: &[u8], at: usize, room: usize) -> Judged
     if !((b == 91) | (b == 40)) {
         return Judged {
             ended: value(text, at, room),
-            verdict: Verdict::Form,
+            verdict: Verdict::NotShape,
         };
     }
     if room == 0 {
         return Judged {
             ended: Parsed::Deep(at),
-            verdict: Verdict::Form,
+            verdict: Verdict::NotShape,
         };
     }
     if b == 91 {
@@ -66,14 +66,14 @@ fn tuple(text: &[u8], from: usize, room: usize) -> Judged
     let Parsed::Value(q) = first else {
         return Judged {
             ended: first,
-            verdict: Verdict::Form,
+            verdict: Verdict::NotShape,
         };
     };
     let c = need(text, q, 44);
     let Parsed::Value(e) = c else {
         return Judged {
             ended: c,
-            verdict: Verdict::Form,
+            verdict: Verdict::NotShape,
         };
     };
     members(text, e, 41, room, joined(nothing(), size))
@@ -96,7 +96,7 @@ fn members(text: &[u8], from: usize, close: u8, room: usize, met: Verdict) -> Ju
         let Parsed::Value(q) = ended else {
             return Judged {
                 ended: ended,
-                verdict: Verdict::Form,
+                verdict: Verdict::NotShape,
             };
         };
         verdict = joined(verdict, size);
@@ -127,11 +127,11 @@ fn shut(g: Gap, verdict: Verdict) -> Judged
         },
         Gap::Item(p) => Judged {
             ended: Parsed::Fault(p),
-            verdict: Verdict::Form,
+            verdict: Verdict::NotShape,
         },
         Gap::Stray(p) => Judged {
             ended: Parsed::Fault(p),
-            verdict: Verdict::Form,
+            verdict: Verdict::NotShape,
         },
     }
 }

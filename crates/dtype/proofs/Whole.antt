@@ -14,7 +14,8 @@ use Rattle.dtype.specs.declared.Entry.{Entry}
 use Rattle.dtype.specs.Dtype.{Dtype, Fields, plain, array, record-of, end-of-fields, field-then, sizeOf, sizesOf}
 use Rattle.dtype.specs.Entries.{fieldCount, entriesOf, entriesIn}
 use Rattle.dtype.specs.Names.{namesOf, namesIn}
-use Rattle.dtype.specs.Flat.{saturated, entryOf, entry-width, numbers, flat, flats}
+use Rattle.counts.specs.Number.{capped}
+use Rattle.dtype.specs.Flat.{entryOf, entry-width, numbers, flat, flats}
 use Rattle.dtype.specs.Record.{table, names, tableOf}
 use Rattle.dtype.specs.Agrees.{entryAt, nameStart, Plain-agrees, Bare, Array-agrees, Record-agrees, Fields-agree, Agrees-as, Agrees, Whole}
 use Rattle.dtype.proofs.Digits.{lt-or-ge}
@@ -23,16 +24,16 @@ use Rattle.dtype.proofs.Stands.{stands-entry, stands-below, stands-afte
 use Rattle.dtype.proofs.Record.{tableOf-these, tableOf-none}
 
 -- saturating early or late
-saturated-times : (n c : ℕ) → saturated (n * saturated c) ≡ saturated (n * c)
-saturated-times zero c = omega arith
-saturated-times (suc n) c =
+capped-times : (n c : ℕ) → capped (n * capped c) ≡ capped (n * c)
+capped-times zero c = omega arith
+capped-times (suc n) c =
     ⊎-elim
-    (λ (l : c < 2 ^ 64). let e : saturated c ≡ c = omega arith in ap (λ (x : ℕ). saturated (suc n * x)) e)
-    (λ (l : 2 ^ 64 ≤ c). let e : saturated c ≡ 2 ^ 64 - 1 = omega arith in rw e (omega arith))
+    (λ (l : c < 2 ^ 64). let e : capped c ≡ c = omega arith in ap (λ (x : ℕ). capped (suc n * x)) e)
+    (λ (l : 2 ^ 64 ≤ c). let e : capped c ≡ 2 ^ 64 - 1 = omega arith in rw e (omega arith))
     (lt-or-ge c (2 ^ 64))
 
-saturated-sum : (b x y : ℕ) → saturated (saturated (b + saturated x) + y) ≡ saturated (b + (x + y))
-saturated-sum b x y = omega arith
+capped-sum : (b x y : ℕ) → capped (capped (b + capped x) + y) ≡ capped (b + (x + y))
+capped-sum b x y = omega arith
 
 -- the names before a later entry are no fewer
 pub name-start-grows : (t : List ℕ) (e k : ℕ) → nameStart t e ≤ nameStart t (e + k)
@@ -51,7 +52,7 @@ record Good (t ns : List ℕ) (e : ℕ) : Type 0 where
   d : Dtype
   is : drop (entry-width * e) t ≡ flat d e (entryAt t e .parent) (entryAt t e .name) (drop (entry-width * (e + entryAt t e .extent)) t)
   extent : entryAt t e .extent ≡ entriesOf d
-  bytes : entryAt t e .bytes ≡ saturated (sizeOf d)
+  bytes : entryAt t e .bytes ≡ capped (sizeOf d)
   named : drop (nameStart t (suc e)) ns ≡ namesOf d (drop (nameStart t (e + entryAt t e .extent)) ns)
 
 -- the same of k fields from entry c on, with b bytes before them
@@ -60,12 +61,12 @@ record Goods (t ns : List ℕ) (up end total k c b : ℕ) : Type 0 where
   is : drop (entry-width * c) t ≡ flats fs c up (drop (entry-width * end) t)
   count : k ≡ fieldCount fs
   extent : c + entriesIn fs ≡ end
-  bytes : saturated (b + sizesOf fs) ≡ total
+  bytes : capped (b + sizesOf fs) ≡ total
   named : drop (nameStart t c) ns ≡ namesIn fs (drop (nameStart t end) ns)
 
 -- a field in front of others
 prepend : (t ns : List ℕ) (up end total k c b : ℕ) (g : Good t ns c) → entryAt t c .parent ≡ up → nameStart t (suc c) ≤ length ns
-    → Goods t ns up end total k (c + entryAt t c .extent) (saturated (b + entryAt t c .bytes)) → Goods t ns up end total (suc k) c b
+    → Goods t ns up end total k (c + entryAt t c .extent) (capped (b + entryAt t c .bytes)) → Goods t ns up end total (suc k) c b
 prepend t ns up end total k c b g u h r =
     let m = entryAt t c .name in
     let before : List ℕ = drop (nameStart t c) ns in
@@ -77,13 +78,13 @@ prepend t ns up end total k c b g u h r =
       is = rw (len, ← (g .extent), ← (r .is), ← u) (g .is);
       count = ap suc (r .count);
       extent = omega (arith, g .extent, r .extent);
-      bytes = sym (saturated-sum b (sizeOf (g .d)) (sizesOf (r .fs))) ∙ rw (← (g .bytes)) (r .bytes);
+      bytes = sym (capped-sum b (sizeOf (g .d)) (sizesOf (r .fs))) ∙ rw (← (g .bytes)) (r .bytes);
       named = split ∙ ap (λ (l : List ℕ). take m before ++ l) (g .named ∙ ap (λ (l : List ℕ). namesOf (g .d) l) (r .named));
     }
 
 -- fields in a row, from the dtypes of their entries
 chain : (t ns : List ℕ) (n up end total : ℕ) → end ≤ n → nameStart t n ≡ length ns → ((c : ℕ) → up < c → c < n → Good t ns c)
-    → (k c b : ℕ) → up < c → saturated b ≡ b → Fields-agree t up end total k c b → Goods t ns up end total k c b
+    → (k c b : ℕ) → up < c → capped b ≡ b → Fields-agree t up end total k c b → Goods t ns up end total k c b
 chain t ns n up end total w full good zero c b l s h =
     let z = h .0 in
     record {
@@ -98,7 +99,7 @@ chain t ns n up end total w full good (suc k) c b l s h =
     let fits : nameStart t (suc c) ≤ length ns =
     let z : suc c + (n - suc c) ≡ n = omega arith in omega (arith, rw z at (name-start-grows t (suc c) (n - suc c))) in
     prepend t ns up end total k c b (good c l (omega arith)) (h .1) fits
-    (chain t ns n up end total w full good k (c + entryAt t c .extent) (saturated (b + entryAt t c .bytes)) (omega arith) (omega arith) (h .3))
+    (chain t ns n up end total w full good k (c + entryAt t c .extent) (capped (b + entryAt t c .bytes)) (omega arith) (omega arith) (h .3))
 
 -- one entry of each kind, from those after it
 as-plain : (t ns : List ℕ) (e : ℕ) → entry-width * suc e ≤ length t → entryAt t e .kind ≡ 0 → Plain-agrees (entryAt t e) → Good t ns e
@@ -118,8 +119,8 @@ as-array t ns n e room k a g =
     let p = entry-there t e room in
     let z : e + entryAt t e .extent ≡ suc e + entryAt t (suc e) .extent = omega (arith, a .extent) in
     let y : entryAt t e .extent ≡ suc (entriesOf (g .d)) = a .extent ∙ ap suc (g .extent) in
-    let w : entryAt t e .bytes ≡ saturated (entryAt t e .number * sizeOf (g .d)) =
-    a .bytes ∙ rw (g .bytes) (saturated-times (entryAt t e .number) (sizeOf (g .d))) in
+    let w : entryAt t e .bytes ≡ capped (entryAt t e .number * sizeOf (g .d)) =
+    a .bytes ∙ rw (g .bytes) (capped-times (entryAt t e .number) (sizeOf (g .d))) in
     let v : nameStart t (suc (suc e)) ≡ nameStart t (suc e) = omega (arith, a .no-name) in
     record {
       d = array (entryAt t e .number) (g .d);
@@ -134,7 +135,7 @@ as-record : (t ns : List ℕ) (n e : ℕ) → entry-width * suc e ≤ length t �
 as-record t ns n e room k a r =
     let p = entry-there t e room in
     let y : entryAt t e .extent ≡ suc (entriesIn (r .fs)) = omega (arith, r .extent) in
-    let w : entryAt t e .bytes ≡ saturated (sizesOf (r .fs)) = omega (arith, r .bytes) in
+    let w : entryAt t e .bytes ≡ capped (sizesOf (r .fs)) = omega (arith, r .bytes) in
     record {
       d = record-of (r .fs);
       is = cc (p, r .is, r .count, a .bare .order, a .bare .letter, a .bare .units);
@@ -206,22 +207,22 @@ array-agrees k d t n e up m x r h =
       extent = ap (λ (a : Entry). a .extent) s ∙ ap suc (sym (ap (λ (a : Entry). a .extent) i));
       bytes =
           ap (λ (a : Entry). a .bytes) s
-          ∙ sym (rw (ap (λ (a : Entry). a .number) s, inner-bytes) (saturated-times k (sizeOf d)));
+          ∙ sym (rw (ap (λ (a : Entry). a .number) s, inner-bytes) (capped-times k (sizeOf d)));
     })
 
 fields-agree : (fs : Fields) (t : List ℕ) (up end total c b : ℕ) (x : List ℕ) → drop (entry-width * c) t ≡ flats fs c up x → c + entriesIn fs ≡ end
-    → saturated b ≡ b → saturated (b + sizesOf fs) ≡ total → Fields-agree t up end total (fieldCount fs) c b
+    → capped b ≡ b → capped (b + sizesOf fs) ≡ total → Fields-agree t up end total (fieldCount fs) c b
 fields-agree end-of-fields t up end total c b x h r s z = (omega arith, omega arith)
 fields-agree (field-then name d fs) t up end total c b x h r s z =
     let y = flats fs (c + entriesOf d) up x in
     let i = stands-entry d t c up (length name) y h in
     let extent : entryAt t c .extent ≡ entriesOf d = ap (λ (a : Entry). a .extent) i in
-    let bytes : entryAt t c .bytes ≡ saturated (sizeOf d) = ap (λ (a : Entry). a .bytes) i in
-    let rest = fields-agree fs t up end total (c + entriesOf d) (saturated (b + saturated (sizeOf d))) x
+    let bytes : entryAt t c .bytes ≡ capped (sizeOf d) = ap (λ (a : Entry). a .bytes) i in
+    let rest = fields-agree fs t up end total (c + entriesOf d) (capped (b + capped (sizeOf d))) x
     (stands-after d t c up (length name) y h)
     (omega arith)
     (omega arith)
-    (saturated-sum b (sizeOf d) (sizesOf fs) ∙ z) in
+    (capped-sum b (sizeOf d) (sizesOf fs) ∙ z) in
     (omega (arith, some-entry d), ap (λ (a : Entry). a .parent) i, omega arith, rw (extent, bytes) rest)
 
 record-agrees : (fs : Fields) (t : List ℕ) (n e up m : ℕ) (x : List ℕ) → e + entriesOf (record-of fs) ≤ n
@@ -229,9 +230,9 @@ record-agrees : (fs : Fields) (t : List ℕ) (n e up m : ℕ) (x : List ℕ) →
 record-agrees fs t n e up m x r h =
     let s = stands-entry (record-of fs) t e up m x h in
     let extent : entryAt t e .extent ≡ suc (entriesIn fs) = ap (λ (a : Entry). a .extent) s in
-    let bytes : entryAt t e .bytes ≡ saturated (sizesOf fs) = ap (λ (a : Entry). a .bytes) s in
+    let bytes : entryAt t e .bytes ≡ capped (sizesOf fs) = ap (λ (a : Entry). a .bytes) s in
     let number : entryAt t e .number ≡ fieldCount fs = ap (λ (a : Entry). a .number) s in
-    let inside = fields-agree fs t e (e + suc (entriesIn fs)) (saturated (sizesOf fs)) (suc e) 0 x
+    let inside = fields-agree fs t e (e + suc (entriesIn fs)) (capped (sizesOf fs)) (suc e) 0 x
     (stands-below (record-of fs) t e up m x h)
     (omega arith)
     (omega arith)

@@ -1,9 +1,10 @@
 -- Document 01, "The record": "The dtype table is listed depth first, left to right, parent first: one entry for each plain type, array level and
 -- record." An entry is the numbers of `Entry` (src/lib.rt). Tables are written in front of the numbers x that follow. Reading one back is
 -- Record.antt. Definitions only. Assumes nothing.
-use Prim.Native.Nat.{ℕ, suc, _+_, _-_, _^_, min}
+use Prim.Native.Nat.{ℕ, suc, _+_}
 use mathlib.Core.List.{List, _∷_}
 use lib.ListN.{length}
+use Rattle.counts.specs.Number.{capped}
 use Rattle.dtype.specs.declared.Entry.{Entry}
 use Rattle.dtype.specs.TypeNumbers.{orderByte, letterByte, unitsNumber}
 use Rattle.dtype.specs.Dtype.{Dtype, Fields, plain, array, record-of, end-of-fields, field-then, sizeOf}
@@ -35,11 +36,7 @@ unitsOf (plain t) = unitsNumber (t .units)
 unitsOf (array n d) = 0
 unitsOf (record-of fs) = 0
 
--- a size as an entry holds it, so that every dtype has a table
-abbrev pub saturated : ℕ → ℕ
-saturated n = min n (2 ^ 64 - 1)
-
--- the entry of d whose parent is the entry `up` and whose name has m bytes
+-- the entry of d whose parent is the entry `up` and whose name has m bytes; its size is capped, so that every dtype has a table
 abbrev pub entryOf : Dtype → (up m : ℕ) → Entry
 entryOf d up m =
     record {
@@ -50,7 +47,7 @@ entryOf d up m =
       number = numberOf d;
       units = unitsOf d;
       extent = entriesOf d;
-      bytes = saturated (sizeOf d);
+      bytes = capped (sizeOf d);
       name = m;
     }
 

@@ -1,6 +1,6 @@
 // String elements at their places (document 01, "String elements"): a file, where its data starts, its record, an index and a path in; what the element there stands
 // for out to lent room. The place is judged first, then the element. What goes to the room is specs/Element.antt, what each answer stands for Answer.antt of the crate
-// placed. No public function has a `requires`.
+// placed. No function here has a `requires`.
 use counts::Bytes;
 use dtype::Order;
 use placed::BytesElement;

@@ -14,7 +14,8 @@ use Rattle.dtype.proofs.Digits.{lt-or-ge}
 use Rattle.dtype.specs.declared.Entry.{Entry}
 use Rattle.dtype.specs.Dtype.{Dtype, array, sizeOf}
 use Rattle.dtype.specs.Entries.{entriesOf}
-use Rattle.dtype.specs.Flat.{entry-width, saturated, entryOf, numbers, flat}
+use Rattle.counts.specs.Number.{capped}
+use Rattle.dtype.specs.Flat.{entry-width, entryOf, numbers, flat}
 use Rattle.record.specs.Descr.{arrays}
 use Rattle.entry.specs.Written.{put, bare, upOf, nameOf, sizeOver, levelled}
 use Rattle.lifts.proofs.Stores.{sets-back}
@@ -46,16 +47,16 @@ pub name-later : (k m : ℕ) → (k ≡ 0 → ⊥) → 0 ≡ nameOf k m
 name-later zero m h = absurd (h refl)
 name-later (suc k) m h = refl
 
-pub up-later : (k entry up : ℕ) → (k ≡ 0 → ⊥) → saturated (entry + (k - 1)) ≡ saturated (upOf k entry up)
+pub up-later : (k entry up : ℕ) → (k ≡ 0 → ⊥) → capped (entry + (k - 1)) ≡ capped (upOf k entry up)
 up-later zero entry up h = absurd (h refl)
 up-later (suc k) entry up h = omega arith
 
-pub up-first : (k entry up : ℕ) → k ≡ 0 → up < 2 ^ 64 → up ≡ saturated (upOf k entry up)
+pub up-first : (k entry up : ℕ) → k ≡ 0 → up < 2 ^ 64 → up ≡ capped (upOf k entry up)
 up-first zero entry up h l = omega arith
 up-first (suc k) entry up h l = absurd (omega arith)
 
 -- the number of an entry of a table is below 2^64
-pub up-fits : (k entry up : ℕ) → up < 2 ^ 64 → entry + k < 2 ^ 64 → saturated (upOf k entry up) ≡ upOf k entry up
+pub up-fits : (k entry up : ℕ) → up < 2 ^ 64 → entry + k < 2 ^ 64 → capped (upOf k entry up) ≡ upOf k entry up
 up-fits zero entry up l h = omega arith
 up-fits (suc k) entry up l h = omega arith
 
@@ -67,25 +68,25 @@ up-above : (k at : ℕ) → at + k ≡ upOf k (suc at) at
 up-above zero at = omega arith
 up-above (suc k) at = omega arith
 
--- ---- a size times a number, saturated before or after
-pub saturated-times : (n c : ℕ) → saturated (n * saturated c) ≡ saturated (n * c)
+-- ---- a size times a number, capped before or after
+pub saturated-times : (n c : ℕ) → capped (n * capped c) ≡ capped (n * c)
 saturated-times zero c = omega arith
 saturated-times (suc n) c =
     ⊎-elim
-    (λ (l : c < 2 ^ 64). let e : saturated c ≡ c = omega arith in ap (λ (x : ℕ). saturated (suc n * x)) e)
-    (λ (l : 2 ^ 64 ≤ c). let e : saturated c ≡ 2 ^ 64 - 1 = omega arith in rw e (omega arith))
+    (λ (l : c < 2 ^ 64). let e : capped c ≡ c = omega arith in ap (λ (x : ℕ). capped (suc n * x)) e)
+    (λ (l : 2 ^ 64 ≤ c). let e : capped c ≡ 2 ^ 64 - 1 = omega arith in rw e (omega arith))
     (lt-or-ge c (2 ^ 64))
 
-pub size-over : (ns : List ℕ) (d : Dtype) (size : ℕ) → size ≡ saturated (sizeOf d) → sizeOver ns size ≡ saturated (sizeOf (arrays ns d))
+pub size-over : (ns : List ℕ) (d : Dtype) (size : ℕ) → size ≡ capped (sizeOf d) → sizeOver ns size ≡ capped (sizeOf (arrays ns d))
 size-over [] d size h = h
-size-over (n ∷ ns) d size h = ap (λ (x : ℕ). saturated (n * x)) (size-over ns d size h) ∙ saturated-times n (sizeOf (arrays ns d))
+size-over (n ∷ ns) d size h = ap (λ (x : ℕ). capped (n * x)) (size-over ns d size h) ∙ saturated-times n (sizeOf (arrays ns d))
 
 pub arrays-entries : (ns : List ℕ) (d : Dtype) → entriesOf (arrays ns d) ≡ length ns + entriesOf d
 arrays-entries [] d = omega arith
 arrays-entries (n ∷ ns) d = omega (arith, arrays-entries ns d)
 
 -- ---- the levels above a type are the table of the array
-pub levels-flat : (ns : List ℕ) (d : Dtype) (at up m last size : ℕ) (old : List ℕ) → size ≡ saturated (sizeOf d) → last ≡ at + entriesOf (arrays ns d) → entry-width * last ≤ length old
+pub levels-flat : (ns : List ℕ) (d : Dtype) (at up m last size : ℕ) (old : List ℕ) → size ≡ capped (sizeOf d) → last ≡ at + entriesOf (arrays ns d) → entry-width * last ≤ length old
     → levelled ns at up m last size (sets old (entry-width * (at + length ns)) (flat d (at + length ns) (upOf (length ns) at up) (nameOf (length ns) m) []))
     ≡ sets old (entry-width * at) (flat (arrays ns d) at up m [])
 levels-flat [] d at up m last size old hs hl hr =
@@ -131,12 +132,12 @@ module _ (ns : List ℕ) (entry up m last size : ℕ) (table0 : List ℕ) where
         holds = ap (λ (l : List ℕ). levelled l (entry + length ns) (upOf (length ns) entry up) (nameOf (length ns) m) last size table0) (sym none);
       }
 
-  pub above-more : (k j : ℕ) (table : List ℕ) (held : ℕ) → Above k table held → k ≡ suc j → (n held′ : ℕ) → n ≡ getD ns j 0 → held′ ≡ saturated (n * held)
+  pub above-more : (k j : ℕ) (table : List ℕ) (held : ℕ) → Above k table held → k ≡ suc j → (n held′ : ℕ) → n ≡ getD ns j 0 → held′ ≡ capped (n * held)
       → (table′ : List ℕ) → table′ ≡ put table (entry + j) (bare 1 (upOf j entry up) n (last - (entry + j)) held′ (nameOf j m)) → Above j table′ held′
   above-more k j table held w hk n held′ hn hs table′ ht =
       let cons : drop j ns ≡ n ∷ drop k ns = drop-cons ns j 0 (omega (arith, w .low)) ∙ ap (λ (x : ℕ). x ∷ drop (suc j) ns) (sym hn) ∙ ap (λ (x : ℕ). n ∷ drop x ns) (sym hk) in
       let at′ : entry + k ≡ suc (entry + j) = omega arith in
-      let more : held′ ≡ sizeOver (n ∷ drop k ns) size = hs ∙ ap (λ (x : ℕ). saturated (n * x)) (w .sized) in
+      let more : held′ ≡ sizeOver (n ∷ drop k ns) size = hs ∙ ap (λ (x : ℕ). capped (n * x)) (w .sized) in
       let stand : table ≡ levelled (drop k ns) (suc (entry + j)) (entry + j) 0 last size table0 =
       w .holds ∙ ap (λ (x : ℕ). levelled (drop k ns) x (upOf k entry up) (nameOf k m) last size table0) at′
       ∙ ap (λ (x : ℕ). levelled (drop k ns) (suc (entry + j)) (upOf x entry up) (nameOf x m) last size table0) hk in

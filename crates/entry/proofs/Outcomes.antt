@@ -7,7 +7,8 @@ use Rattle.counts.proofs.OneOutcome.{by-equation}
 use Rattle.type_str.specs.declared.TypeStr.{TypeStr}
 use Rattle.type_str.specs.declared.TypeRead.{TypeRead}
 use Rattle.dtype.specs.Dtype.{plain, sizeOf}
-use Rattle.dtype.specs.Flat.{saturated, entryOf}
+use Rattle.counts.specs.Number.{capped}
+use Rattle.dtype.specs.Flat.{entryOf}
 use Rattle.entry.specs.Written.{typeIn, put, bare, sizeOver, above}
 
 pub type-of-one : (r : TypeRead) → OneOutcome {A = TypeStr} (λ t. t ≡ typeIn r)
@@ -20,8 +21,8 @@ pair-eq hn ha = cc
 two-one : (n : ℕ) (l : List ℕ) → OneOutcome {A = ℕ × List ℕ} (λ r. (r .0 ≡ n) × (r .1 ≡ l))
 two-one n l x y p q = pair-eq {n = x .0} {m = y .0} {a = x .1} {b = y .1} (p .0 ∙ sym (q .0)) (p .1 ∙ sym (q .1))
 
-pub put-plain-one : (table : List ℕ) (at : ℕ) (t : TypeStr) (up m : ℕ) → OneOutcome {A = ℕ × List ℕ} (λ r. (r .0 ≡ saturated (sizeOf (plain t))) × (r .1 ≡ put table at (entryOf (plain t) up m)))
-put-plain-one table at t up m = two-one (saturated (sizeOf (plain t))) (put table at (entryOf (plain t) up m))
+pub put-plain-one : (table : List ℕ) (at : ℕ) (t : TypeStr) (up m : ℕ) → OneOutcome {A = ℕ × List ℕ} (λ r. (r .0 ≡ capped (sizeOf (plain t))) × (r .1 ≡ put table at (entryOf (plain t) up m)))
+put-plain-one table at t up m = two-one (capped (sizeOf (plain t))) (put table at (entryOf (plain t) up m))
 
 pub put-record-one : (table : List ℕ) (at up m count last size : ℕ) → OneOutcome {A = List ℕ} (λ l. l ≡ put table at (bare 2 up count (last - at) size m))
 put-record-one table at up m count last size = by-equation (put table at (bare 2 up count (last - at) size m))

@@ -13,7 +13,8 @@ use Rattle.units.specs.declared.TimeUnits.the-variants.{Absent}
 use Rattle.type_str.specs.declared.TypeStr.{TypeStr}
 use Rattle.type_str.specs.declared.TypeRead.{TypeRead}
 use Rattle.dtype.specs.declared.Entry.{Entry}
-use Rattle.dtype.specs.Flat.{entry-width, saturated, numbers}
+use Rattle.counts.specs.Number.{capped}
+use Rattle.dtype.specs.Flat.{entry-width, numbers}
 use Rattle.lifts.specs.Lifted.{lifted}
 
 -- the type that was read; where none was, what stands for it
@@ -23,9 +24,9 @@ noType = record { order = Irrelevant; letter = Object; size = 0; units = Absent 
 abbrev pub typeIn : TypeRead → TypeStr
 typeIn (TypeRead.Read t) = t
 typeIn TypeRead.Syntax = noType
-typeIn TypeRead.TooLarge = noType
+typeIn TypeRead.LargeNumber = noType
 typeIn TypeRead.ByteOrder = noType
-typeIn TypeRead.Size = noType
+typeIn TypeRead.TypeSize = noType
 typeIn TypeRead.Units = noType
 
 -- a table with e as its entry number `at`, where it has room for that
@@ -49,7 +50,7 @@ nameOf (suc k) m = 0
 -- the size of the levels ns above a type of this size, as an entry holds it
 abbrev pub sizeOver : List ℕ → ℕ → ℕ
 sizeOver [] size = size
-sizeOver (n ∷ ns) size = saturated (n * sizeOver ns size)
+sizeOver (n ∷ ns) size = capped (n * sizeOver ns size)
 
 -- a table with the levels ns as its entries from `at` on, above a type of this size whose own end before `last`
 abbrev pub levelled : (ns : List ℕ) (at up m last size : ℕ) (table : List ℕ) → List ℕ
@@ -61,4 +62,4 @@ levelled (n ∷ ns) at up m last size table =
 abbrev pub above : (ns : List ℕ) (entry up m last size : ℕ) (table : List ℕ) → List ℕ
 above [] entry up m last size table = table
 above (n ∷ ns) entry up m last size table =
-    levelled (n ∷ ns) entry up m (saturated (last + suc (length ns))) size (lifted table entry (last - entry) (suc (length ns)))
+    levelled (n ∷ ns) entry up m (capped (last + suc (length ns))) size (lifted table entry (last - entry) (suc (length ns)))

@@ -17,7 +17,8 @@ use units::TimeUnits;
 ghost use mathlib.Core.Path.{_≡_};
 ghost use Prim.Native.Nat.{_+_, _-_};
 ghost use Rattle.dtype.specs.Dtype.{plain, sizeOf};
-ghost use Rattle.dtype.specs.Flat.{saturated, entryOf};
+ghost use Rattle.counts.specs.Number.{capped};
+ghost use Rattle.dtype.specs.Flat.{entryOf};
 ghost use Rattle.entry.specs.Written.{noType, typeIn, put, bare, upOf, nameOf, sizeOver, levelled, above};
 
 // The type that was read.
@@ -27,9 +28,9 @@ pub fn type_of(r: TypeRead) -> TypeStr
     match r {
         TypeRead::Read(t) => t,
         TypeRead::Syntax => no_type(),
-        TypeRead::TooLarge => no_type(),
+        TypeRead::LargeNumber => no_type(),
         TypeRead::ByteOrder => no_type(),
-        TypeRead::Size => no_type(),
+        TypeRead::TypeSize => no_type(),
         TypeRead::Units => no_type(),
     }
 }
@@ -48,7 +49,7 @@ fn no_type() -> TypeStr
 
 // The parent of level k of a field: of the outermost its own, of another the level above it.
 fn parent(k: usize, entry: usize, up: u64) -> u64
-    ensures { λ r. ⌜ r ≡ saturated (upOf k entry up) ⌝ }
+    ensures { λ r. ⌜ r ≡ capped (upOf k entry up) ⌝ }
 {
     if k == 0 {
         return up;
@@ -65,7 +66,7 @@ fn name_of(k: usize, name: u64) -> u64
 
 // Writes the entry of a plain type, and answers its size as the entry holds it.
 pub fn put_plain(table: &mut [u64], at: usize, t: TypeStr, up: u64, name: u64) -> u64
-    ensures { λ r. ⌜ r ≡ saturated (sizeOf (plain t)) ⌝ }
+    ensures { λ r. ⌜ r ≡ capped (sizeOf (plain t)) ⌝ }
     ensures { λ _. ⌜ now (table .exit) ≡ put (now (table .entry)) at (entryOf (plain t) up name) ⌝ }
 {
     let e = plain_entry(t, up, name);

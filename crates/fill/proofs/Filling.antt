@@ -14,7 +14,8 @@ use Rattle.dtype.specs.declared.Entry.{Entry}
 use Rattle.dtype.specs.Dtype.{Dtype, Fields, plain, record-of, end-of-fields, field-then, sizeOf, sizesOf}
 use Rattle.dtype.specs.Entries.{entriesOf, entriesIn, fieldCount, levels}
 use Rattle.dtype.specs.Names.{nameBytes, nameBytesIn, namesOf, namesIn}
-use Rattle.dtype.specs.Flat.{entry-width, saturated, entryOf, numbers, flat, flats}
+use Rattle.counts.specs.Number.{capped}
+use Rattle.dtype.specs.Flat.{entry-width, entryOf, numbers, flat, flats}
 use Rattle.dtype.proofs.Flat.{some-entry, flat-length, names-length}
 use Rattle.type_str.specs.declared.TypeStr.{TypeStr}
 use Rattle.type_str.specs.Answer.{answer}
@@ -133,7 +134,7 @@ record-filled e entry up m byte fs d table names mid names′ table′ r x hd w 
       ends = w .ends;
       next = omega (arith, w .next, n);
       next-name = w .next-name ∙ ap (λ (y : Dtype). byte + nameBytes y) (sym hd);
-      sized = w .sized ∙ ap (λ (y : Dtype). saturated (sizeOf y)) (sym hd);
+      sized = w .sized ∙ ap (λ (y : Dtype). capped (sizeOf y)) (sym hd);
       table-after = ht ∙ ap (λ (y : List ℕ). sets y (entry-width * entry) (numbers x [])) (w .table-after ∙ ap (λ (y : ℕ). sets table (entry-width * (entry + 1)) (flats fs y entry [])) one)
           ∙ entry-before x entry (entry + 1) (flats fs (suc entry) entry []) table one
           ∙ ap (λ (y : Entry). sets table (entry-width * entry) (numbers y (flats fs (suc entry) entry []))) is
@@ -200,7 +201,7 @@ module _ (k : ℕ) (s : List ℕ) (from entry up byte : ℕ) (table0 names0 : Li
     pub adds : at + entriesIn gs ≡ entry + entriesIn fs
     pub adds-names : b + nameBytesIn gs ≡ byte + nameBytesIn fs
     pub counts : count + fieldCount gs ≡ fieldCount fs
-    pub sizes : saturated (size + sizesOf gs) ≡ saturated (sizesOf fs)
+    pub sizes : capped (size + sizesOf gs) ≡ capped (sizesOf fs)
     pub due : sets table (entry-width * at) (flats gs at up []) ≡ sets table0 (entry-width * entry) (flats fs entry up [])
     pub due-names : sets names b (namesIn gs []) ≡ sets names0 byte (namesIn fs [])
 
@@ -208,7 +209,7 @@ module _ (k : ℕ) (s : List ℕ) (from entry up byte : ℕ) (table0 names0 : Li
     pub long : length table ≡ length table0
     pub long-names : length names ≡ length names0
     pub low : count ≤ at
-    pub fits : saturated size ≡ size
+    pub fits : capped size ≡ size
     pub goes : (ns : List Node) (e : ℕ) (fs : Fields) → DueFields k s from entry table0 byte names0 ns e fs → Left g at b count size table names fs e
 
   pub filling-start : (g : Gap) → g ≡ gapAt s from 93 → Filling g entry byte 0 0 table0 names0
@@ -228,7 +229,7 @@ module _ (k : ℕ) (s : List ℕ) (from entry up byte : ℕ) (table0 names0 : Li
               adds = refl;
               adds-names = refl;
               counts = omega arith;
-              sizes = ap saturated (let z : 0 + sizesOf fs ≡ sizesOf fs = omega arith in z);
+              sizes = ap capped (let z : 0 + sizesOf fs ≡ sizesOf fs = omega arith in z);
               due = refl;
               due-names = refl;
             };
@@ -266,7 +267,7 @@ module _ (k : ℕ) (s : List ℕ) (from entry up byte : ℕ) (table0 names0 : Li
           let x = filling-field p hg ns₀ e₀ fs₀ h₀ in
           field-less k s p (x .1) (x .0) g g′ (r .end) hg (x .3 .one .stands) (hf (x .0) (x .1) (x .2) (x .3) .ends) hg′
 
-      pub filling-more : (size′ : ℕ) → size′ ≡ saturated (size + r .size) → Filling g′ (r .entry) (r .byte) (count + 1) size′ table′ names′
+      pub filling-more : (size′ : ℕ) → size′ ≡ capped (size + r .size) → Filling g′ (r .entry) (r .byte) (count + 1) size′ table′ names′
       filling-more size′ hs =
           let x₀ = filling-field p hg ns₀ e₀ fs₀ h₀ in
           let z₀ = hf (x₀ .0) (x₀ .1) (x₀ .2) (x₀ .3) in
@@ -334,7 +335,7 @@ module _ (k : ℕ) (s : List ℕ) (from entry up byte : ℕ) (table0 names0 : Li
         }
 
 -- ---- a type string's entry
-pub text-filled : (e entry up m byte : ℕ) (d : Dtype) (t u : TypeStr) (table names table′ : List ℕ) (size end : ℕ) → d ≡ plain t → u ≡ t → end ≡ e → size ≡ saturated (sizeOf (plain u))
+pub text-filled : (e entry up m byte : ℕ) (d : Dtype) (t u : TypeStr) (table names table′ : List ℕ) (size end : ℕ) → d ≡ plain t → u ≡ t → end ≡ e → size ≡ capped (sizeOf (plain u))
     → table′ ≡ sets table (entry-width * entry) (numbers (entryOf (plain u) up m) []) → Filled e entry up m byte d table names table′ names (record { end = end; entry = entry + 1; byte = byte; size = size })
 text-filled e entry up m byte d t u table names table′ size end hd hu he hs ht =
     let is : plain u ≡ d = ap plain hu ∙ sym hd in
@@ -342,7 +343,7 @@ text-filled e entry up m byte d t u table names table′ size end hd hu he hs ht
       ends = he;
       next = ap (λ (y : Dtype). entry + entriesOf y) (sym hd);
       next-name = (let z : byte ≡ byte + 0 = omega arith in z) ∙ ap (λ (y : Dtype). byte + nameBytes y) (sym hd);
-      sized = hs ∙ ap (λ (y : Dtype). saturated (sizeOf y)) is;
+      sized = hs ∙ ap (λ (y : Dtype). capped (sizeOf y)) is;
       table-after = ht ∙ ap (λ (y : Dtype). sets table (entry-width * entry) (flat y entry up m [])) is;
       names-after = ap (λ (y : Dtype). sets names byte (namesOf y [])) (sym hd);
     }
@@ -434,7 +435,7 @@ module _ (k : ℕ) (s : List ℕ) (at entry up byte : ℕ) (table names : List �
             ends = sh .ends;
             next = omega (arith, sh .next, fl .next, entries-are);
             next-name = omega (arith, sh .next-name, fl .next-name, bytes-are, length-is, hh .counted, hh .behind);
-            sized = sh .sized ∙ size-over (w .ns) (w .d) (r .size) (fl .sized) ∙ ap (λ (x : Dtype). saturated (sizeOf x)) (sym (w .typed));
+            sized = sh .sized ∙ size-over (w .ns) (w .d) (r .size) (fl .sized) ∙ ap (λ (x : Dtype). capped (sizeOf x)) (sym (w .typed));
             table-after = sh .table-after ∙ ap (above (w .ns) entry up (h .len) (r .entry) (r .size)) (fl .table-after)
                 ∙ above-flat (w .ns) (w .d) entry up (h .len) (r .entry) (r .size) table (fl .sized) (fl .next) (omega (arith, fl .next, due .room, entries-are)) big
                 ∙ ap (λ (x : ℕ). sets table (entry-width * entry) (flat (arrays (w .ns) (w .d)) entry up x [])) length-is
@@ -466,7 +467,7 @@ module _ (k : ℕ) (s : List ℕ) (at entry up m byte : ℕ) (table names : List
 
     -- the quote is read where the text has it
     pub text-whole : (r : Typed) → (r .ended ≡ spelled (getD s at 0) s (at + 1) .ended) × (answer (r .read) ≡ typeString (spelled (getD s at 0) s (at + 1) .bytes))
-        → (u : TypeStr) → u ≡ typeIn (r .read) → (end : ℕ) → end ≡ place (r .ended) → (size : ℕ) → size ≡ saturated (sizeOf (plain u))
+        → (u : TypeStr) → u ≡ typeIn (r .read) → (end : ℕ) → end ≡ place (r .ended) → (size : ℕ) → size ≡ capped (sizeOf (plain u))
         → (table′ : List ℕ) → table′ ≡ put table entry (entryOf (plain u) up m) → Filled e entry up m byte d table names table′ names (record { end = end; entry = entry + 1; byte = byte; size = size })
     text-whole r hr u hu end he size hs table′ ht =
         let t = text-due k s at e d n (h .stands) (h .is) hq in

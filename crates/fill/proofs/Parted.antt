@@ -54,9 +54,9 @@ refused-gives h = absurd (let z : _≡_ {A = ℕ} 0 1 = cc in omega arith)
 pub read-back : (r : TypeRead) (t : TypeStr) → answer r ≡ gives t → r ≡ TypeRead.Read t
 read-back (TypeRead.Read u) t h = let z : u ≡ t = cc in ap TypeRead.Read z
 read-back TypeRead.Syntax t h = refused-gives h
-read-back TypeRead.TooLarge t h = refused-gives h
+read-back TypeRead.LargeNumber t h = refused-gives h
 read-back TypeRead.ByteOrder t h = refused-gives h
-read-back TypeRead.Size t h = refused-gives h
+read-back TypeRead.TypeSize t h = refused-gives h
 read-back TypeRead.Units t h = refused-gives h
 
 -- ---- rows

@@ -16,7 +16,7 @@ use Rattle.dtype.specs.Flat.{entry-width}
 use Rattle.dtype.specs.Record.{table, names}
 use Rattle.dtype.specs.Limits.{overLevels}
 use Rattle.dtype.proofs.Seen.{table-length, all-names-length}
-use Rattle.record.specs.Rooms.{atFront}
+use Rattle.counts.specs.Front.{atFront}
 use Rattle.stored.proofs.Stored.{stored-over}
 use Rattle.fill.specs.Filled.{Narrow, NarrowIn}
 

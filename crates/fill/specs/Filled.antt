@@ -10,7 +10,8 @@ use Rattle.counts.specs.Outcome.{gives}
 use Rattle.dtype.specs.Dtype.{Dtype, Fields, plain, array, record-of, end-of-fields, field-then, sizeOf, sizesOf}
 use Rattle.dtype.specs.Entries.{entriesOf, entriesIn, fieldCount, levels}
 use Rattle.dtype.specs.Names.{nameBytes, nameBytesIn, namesOf, namesIn}
-use Rattle.dtype.specs.Flat.{entry-width, saturated, flat, flats}
+use Rattle.counts.specs.Number.{capped}
+use Rattle.dtype.specs.Flat.{entry-width, flat, flats}
 use Rattle.record.specs.Descr.{Field, perhaps, descrOf, fieldOf, fieldsOf}
 use Rattle.tokens.specs.Node.{Node, nodes}
 use Rattle.classes.specs.Got.{got}
@@ -107,7 +108,7 @@ pub record Filled (e entry up m byte : ℕ) (d : Dtype) (table names table′ na
   pub ends : r .end ≡ e
   pub next : r .entry ≡ entry + entriesOf d
   pub next-name : r .byte ≡ byte + nameBytes d
-  pub sized : r .size ≡ saturated (sizeOf d)
+  pub sized : r .size ≡ capped (sizeOf d)
   pub table-after : table′ ≡ sets table (entry-width * entry) (flat d entry up m [])
   pub names-after : names′ ≡ sets names byte (namesOf d [])
 
@@ -124,7 +125,7 @@ pub record FilledFields (e entry up byte : ℕ) (fs : Fields) (table names table
   pub ends : r .end ≡ e
   pub next : r .entry ≡ entry + entriesIn fs
   pub next-name : r .byte ≡ byte + nameBytesIn fs
-  pub sized : r .size ≡ saturated (sizesOf fs)
+  pub sized : r .size ≡ capped (sizesOf fs)
   pub counted : r .count ≡ fieldCount fs
   pub table-after : table′ ≡ sets table (entry-width * entry) (flats fs entry up [])
   pub names-after : names′ ≡ sets names byte (namesIn fs [])
@@ -140,7 +141,7 @@ pub record FilledField (e entry up byte : ℕ) (f : Field) (table names table′
   pub ends : r .end ≡ e
   pub next : r .entry ≡ entry + entriesOf (f .type)
   pub next-name : r .byte ≡ byte + (length (f .name) + nameBytes (f .type))
-  pub sized : r .size ≡ saturated (sizeOf (f .type))
+  pub sized : r .size ≡ capped (sizeOf (f .type))
   pub table-after : table′ ≡ sets table (entry-width * entry) (flat (f .type) entry up (length (f .name)) [])
   pub names-after : names′ ≡ sets names byte (f .name ++ namesOf (f .type) [])
 

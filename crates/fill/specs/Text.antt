@@ -32,9 +32,12 @@ textAnswer (TextRead.Refused r) = refused (numberOf r)
 abbrev pub roomed : Rooms → Record → Outcome Record
 roomed rooms r = unless (tooSmall rooms (needs r)) 23 (gives r)
 
--- the record of a text, read with three lent rooms
+-- the record of a text, read with three lent rooms, by any reading of texts and by the literal's own
+abbrev pub textBy : header.Reading → (text : List ℕ) → Lent → Outcome Record
+textBy rd text l = then (header.recordIn rd text) (roomed (roomsOf l))
+
 abbrev pub textInto : (text : List ℕ) → Lent → Outcome Record
-textInto text l = then (header.recordIn reading text) (roomed (roomsOf l))
+textInto = textBy reading
 
 -- the rooms then
 abbrev pub filled : Outcome Record → Lent → Lent

@@ -17,7 +17,7 @@ use Rattle.prefix.specs.Answer.{versionIs}
 use Rattle.judge.specs.Judged.{reading}
 use Rattle.fill.specs.declared.Said.{Said}
 pub use Rattle.fronts.specs.Held.{missing}
-pub use Rattle.fill.specs.Text.{lent, saidOf, textAnswer, roomed, textInto, filled, ReadsText}
+pub use Rattle.fill.specs.Text.{lent, saidOf, textAnswer, roomed, textBy, textInto, filled, ReadsText}
 use Rattle.header.specs.declared.Header.{Header}
 use Rattle.header.specs.declared.HeaderRead.{HeaderRead}
 
@@ -43,15 +43,22 @@ answer (HeaderRead.Refused r) = refused (numberOf r)
 abbrev pub textHeld : (longer : Bool) → Prefix → (file : List ℕ) → Outcome (List ℕ)
 textHeld longer p file = unless (ltb (length file) (dataStart p)) (missing longer) (gives (take (p .text-length) (drop (textStart (p .version)) file)))
 
--- what is behind the prefix
-abbrev pub behind : (longer : Bool) (file : List ℕ) → Prefix → Lent → Outcome header.Header
-behind longer file p l = then (textHeld longer p file) (λ text. then (header.recordIn reading text) (header.housed (roomsOf l) p))
+-- what is behind the prefix, by any reading of texts
+abbrev pub behindBy : header.Reading → (longer : Bool) (file : List ℕ) → Prefix → Lent → Outcome header.Header
+behindBy rd longer file p l = then (textHeld longer p file) (λ text. then (header.recordIn rd text) (header.housed (roomsOf l) p))
 
 -- the header of a file that is held in part
-abbrev pub heldInto : (longer : Bool) (file : List ℕ) → Lent → Outcome header.Header
-heldInto longer file l = then (prefix file) (λ p. behind longer file p l)
+abbrev pub heldBy : header.Reading → (longer : Bool) (file : List ℕ) → Lent → Outcome header.Header
+heldBy rd longer file l = then (prefix file) (λ p. behindBy rd longer file p l)
 
--- the header of a file that is longer than k, by its first k bytes, of the file itself: that the bytes held tell it is proofs/Held.antt (k < length file)
+-- both by the literal's own reading
+abbrev pub behind : (longer : Bool) (file : List ℕ) → Prefix → Lent → Outcome header.Header
+behind = behindBy reading
+
+abbrev pub heldInto : (longer : Bool) (file : List ℕ) → Lent → Outcome header.Header
+heldInto = heldBy reading
+
+-- what a file longer than k gets by its first k bytes, said of the whole file; that the bytes held tell it is proofs/Held.antt
 abbrev pub heldOf : (k : ℕ) (file : List ℕ) → Lent → Outcome header.Header
 heldOf k file l = then (prefix file) (λ p. unless (ltb k (dataStart p)) 23 (behind false file p l))
 

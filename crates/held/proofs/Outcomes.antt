@@ -5,13 +5,13 @@ use Rattle.counts.specs.OneOutcome.{OneOutcome}
 use Rattle.counts.proofs.OneOutcome.{by-equation}
 use Rattle.type_str.specs.declared.TypeStr.{TypeStr}
 use Rattle.dtype.specs.PlainBytes.{plainBytes}
-use Rattle.dtype.specs.Flat.{saturated}
+use Rattle.counts.specs.Number.{capped}
 
-pub held-bytes-one : (t : TypeStr) → OneOutcome {A = ℕ} (λ r. r ≡ saturated (plainBytes t))
-held-bytes-one t = by-equation (saturated (plainBytes t))
+pub held-bytes-one : (t : TypeStr) → OneOutcome {A = ℕ} (λ r. r ≡ capped (plainBytes t))
+held-bytes-one t = by-equation (capped (plainBytes t))
 
-pub held-sum-one : (a b : ℕ) → OneOutcome {A = ℕ} (λ r. r ≡ saturated (a + b))
-held-sum-one a b = by-equation (saturated (a + b))
+pub held-sum-one : (a b : ℕ) → OneOutcome {A = ℕ} (λ r. r ≡ capped (a + b))
+held-sum-one a b = by-equation (capped (a + b))
 
-pub held-product-one : (a b : ℕ) → OneOutcome {A = ℕ} (λ r. r ≡ saturated (a * b))
-held-product-one a b = by-equation (saturated (a * b))
+pub held-product-one : (a b : ℕ) → OneOutcome {A = ℕ} (λ r. r ≡ capped (a * b))
+held-product-one a b = by-equation (capped (a * b))

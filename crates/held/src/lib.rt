@@ -5,12 +5,12 @@ use type_str::TypeBytes;
 use type_str::TypeStr;
 ghost use mathlib.Core.Path.{_≡_};
 ghost use Prim.Native.Nat.{_+_, _*_};
-ghost use Rattle.dtype.specs.Flat.{saturated};
+ghost use Rattle.counts.specs.Number.{capped};
 ghost use Rattle.dtype.specs.PlainBytes.{plainBytes};
 
 // A plain type's bytes as an entry holds them.
 pub fn held_bytes(t: TypeStr) -> u64
-    ensures { λ r. ⌜ r ≡ saturated (plainBytes t) ⌝ }
+    ensures { λ r. ⌜ r ≡ capped (plainBytes t) ⌝ }
 {
     match t.num_bytes() {
         TypeBytes::Sized(n) => n.0,
@@ -21,7 +21,7 @@ pub fn held_bytes(t: TypeStr) -> u64
 
 // Sums and products as an entry holds them.
 pub fn held_sum(a: u64, b: u64) -> u64
-    ensures { λ r. ⌜ r ≡ saturated (a + b) ⌝ }
+    ensures { λ r. ⌜ r ≡ capped (a + b) ⌝ }
 {
     match counts::sum(a, b) {
         Number::Is(n) => n,
@@ -30,7 +30,7 @@ pub fn held_sum(a: u64, b: u64) -> u64
 }
 
 pub fn held_product(a: u64, b: u64) -> u64
-    ensures { λ r. ⌜ r ≡ saturated (a * b) ⌝ }
+    ensures { λ r. ⌜ r ≡ capped (a * b) ⌝ }
 {
     match counts::product(a, b) {
         Number::Is(n) => n,

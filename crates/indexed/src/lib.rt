@@ -1,5 +1,5 @@
 // The item that an index names in a file (document 01, "The record"), with refusals 24, 25 and 26, of a record's own size, count and shape. It serves our own
-// crates, which answer places. No public function here has a `requires`. What each answer stands for is in specs/Answer.antt.
+// crates, which answer places. No function here has a `requires`. What each answer stands for is in specs/Answer.antt.
 use counts::Bytes;
 use counts::Items;
 use dtype::Order;

@@ -20,7 +20,8 @@ use Rattle.dtype.proofs.Items.{item-below}
 use Rattle.dtype.proofs.Seen.{or-left}
 use Rattle.shape.specs.declared.StridesWritten.{StridesWritten}
 use Rattle.shape.specs.Answer.{wrote}
-use Rattle.shape.specs.Count.{itemCount, stridesCount, front, left, Writes}
+use Rattle.counts.specs.Front.{atFront}
+use Rattle.shape.specs.Count.{itemCount, stridesCount, left, Writes}
 use Rattle.shape.proofs.Turns.{counted-fits, counted-over}
 use Rattle.items.specs.Item.{itemOf}
 use Rattle.items.proofs.Sums.{items-back, items-over, range-of, sum-front}
@@ -39,7 +40,7 @@ module _ (o : Order) (s x out : List ℕ) (w : StridesWritten) (out′ : List �
   pub item-sum : (r : ItemCount) → r ≡ items (number (sumOfProducts x out′)) → length s ≤ 32 → overShape o s ≡ false → inRange s x ≡ true
       → r ≡ items (number (item o s x))
   item-sum r e l f g =
-      let a : out′ ≡ front (strides o s) out = h .out-after ∙ ap (λ y. left y (strides o s) out) (strides-fit l f) in
+      let a : out′ ≡ atFront (strides o s) out = h .out-after ∙ ap (λ y. left y (strides o s) out) (strides-fit l f) in
       let b : length x ≡ length (strides o s) = range-length s x (range-of s x g) ∙ sym (strides-length o s) in
       e ∙ ap (λ (n : ℕ). items (number n)) (ap (λ (y : List ℕ). sumOfProducts x y) a ∙ sum-front x (strides o s) (drop (length (strides o s)) out) b)
 

@@ -1,4 +1,4 @@
-// Item numbers (document 01, "The record"): the item that an index names in a shape, with refusals 13, 22 and 26. No public function here has a `requires`. What each
+// Item numbers (document 01, "The record"): the item that an index names in a shape, with refusals 13, 22 and 26. No function here has a `requires`. What each
 // answer stands for is in specs/Answer.antt.
 use counts::ItemCount;
 use counts::Items;

@@ -15,7 +15,8 @@ use Rattle.record.specs.FromValue.{orderOf}
 use Rattle.tokens.specs.Node.{Node}
 use Rattle.classes.specs.Got.{Got}
 use Rattle.literal.specs.Forget.{forget}
-use Rattle.literal.specs.Literal.{value, most-open}
+use Rattle.grammar.specs.Nesting.{most-open}
+use Rattle.literal.specs.Literal.{value}
 use Rattle.products.specs.Answer.{outlined}
 use Rattle.products.specs.Outline.{outlineOf}
 use Rattle.products.specs.declared.Outline.{Outline}
@@ -33,11 +34,11 @@ use Rattle.sums.specs.Totals.{totalsOf}
 use Rattle.sums.specs.Verdict as verdicts
 use Rattle.sums.specs.declared.Totals.{Totals}
 use Rattle.sums.specs.declared.Verdict as sums
-use Rattle.sums.specs.declared.Rule.{Rule}
 use Rattle.judge.specs.declared.OrderRead.{OrderRead}
 use Rattle.judge.specs.declared.ShapeRead.{ShapeRead}
 use Rattle.judge.specs.declared.DescrRead.{DescrRead}
-use Rattle.judge.specs.Judged.{inside, neededAt, orderAt, shapeAt, dtypeAt, orderAnswer, ShapeFor, DescrFor, Counts, ShapeIs, DescrIs, RankedOf}
+use Rattle.judge.specs.Steps.{neededAt, orderAt, shapeAt, dtypeAt, orderAnswer, ShapeFor, DescrFor, ShapeIs, DescrIs, RankedOf}
+use Rattle.judge.specs.Judged.{inside, Counts}
 
 -- ---- what `each` gives, and what it refuses
 pub each-back : {A B : Type 0} (f : A → B) (o : Outcome A) (b : B) → each f o ≡ gives b → (a : A) × (o ≡ gives a) × (f a ≡ b)
@@ -94,11 +95,11 @@ module _ (s : List ℕ) (at : ℕ) where
       let v = shape-found f p x h hf in
       subst (ShapeIs s at (ShapeRead.Refused u)) (sym (shape-by p (v .0) (refused n) (each-none outlineOf (subShape (forget (v .0 .node))) n (sym (v .1) ∙ e)))) hu
 
-  shape-none-by : (o : Outcome Node) → nodeFor key-shape (value most-open s at) ≡ o → ShapeFoundIs inside s shape.ShapeFound.Missing o → shapeAt s at ≡ refused 9
+  shape-none-by : (o : Outcome Node) → nodeFor key-shape (value most-open s at) ≡ o → ShapeFoundIs inside s shape.ShapeFound.NoKey o → shapeAt s at ≡ refused 9
   shape-none-by (gives n) e h = absurd h
   shape-none-by (refused m) e h = ap (λ (x : Outcome Value). then x shapeOf) (none-is s at key-shape m e h)
 
-  pub shape-none : (f : ShapeFound) → ShapeFor s at f → f ≡ shape.ShapeFound.Missing → ShapeIs s at (ShapeRead.Refused Refusal.NoKey) (shapeAt s at)
+  pub shape-none : (f : ShapeFound) → ShapeFor s at f → f ≡ shape.ShapeFound.NoKey → ShapeIs s at (ShapeRead.Refused Refusal.NoKey) (shapeAt s at)
   shape-none f h hf = subst (ShapeIs s at (ShapeRead.Refused Refusal.NoKey)) (sym (shape-none-by (nodeFor key-shape (value most-open s at)) refl (subst (ShapeFor s at) hf h))) refl
 
   -- ---- the dtype
@@ -121,15 +122,15 @@ module _ (s : List ℕ) (at : ℕ) where
       let b = each-back totalsOf (descrOf (forget (v .0 .node))) t (sym (v .1) ∙ ap verdicts.verdict e) in
       subst (DescrIs s at (DescrRead.Is (record { at = p; totals = t }))) (sym (descr-value p (v .0) (gives (b .0)) (b .1))) (record { counts = v .0; is = b .1; totalled = sym (b .2) })
 
-  pub descr-bad : (f : DescrFound) (p : ℕ) (x : sums.Verdict) (u : Rule) → DescrFor s at f → f ≡ descr.DescrFound.At p x → x ≡ sums.Verdict.Bad u → (w : Refusal) → numberOf w ≡ verdicts.numberOf u → DescrIs s at (DescrRead.Refused w) (dtypeAt s at)
-  descr-bad f p x u h hf e w hw =
+  pub descr-bad : (f : DescrFound) (p : ℕ) (x : sums.Verdict) (u : Refusal) → DescrFor s at f → f ≡ descr.DescrFound.At p x → x ≡ sums.Verdict.Bad u → DescrIs s at (DescrRead.Refused u) (dtypeAt s at)
+  descr-bad f p x u h hf e =
       let v = descr-found f p x h hf in
-      subst (DescrIs s at (DescrRead.Refused w))
-      (sym (descr-value p (v .0) (refused (verdicts.numberOf u)) (each-none totalsOf (descrOf (forget (v .0 .node))) (verdicts.numberOf u) (sym (v .1) ∙ ap verdicts.verdict e)))) hw
+      subst (DescrIs s at (DescrRead.Refused u))
+      (sym (descr-value p (v .0) (refused (numberOf u)) (each-none totalsOf (descrOf (forget (v .0 .node))) (numberOf u) (sym (v .1) ∙ ap verdicts.verdict e)))) refl
 
-  descr-none-by : (o : Outcome Node) → nodeFor key-descr (value most-open s at) ≡ o → DescrFoundIs inside s descr.DescrFound.Missing o → dtypeAt s at ≡ refused 9
+  descr-none-by : (o : Outcome Node) → nodeFor key-descr (value most-open s at) ≡ o → DescrFoundIs inside s descr.DescrFound.NoKey o → dtypeAt s at ≡ refused 9
   descr-none-by (gives n) e h = absurd h
   descr-none-by (refused m) e h = ap (λ (x : Outcome Value). then x descrOf) (none-is s at key-descr m e h)
 
-  pub descr-none : (f : DescrFound) → DescrFor s at f → f ≡ descr.DescrFound.Missing → DescrIs s at (DescrRead.Refused Refusal.NoKey) (dtypeAt s at)
+  pub descr-none : (f : DescrFound) → DescrFor s at f → f ≡ descr.DescrFound.NoKey → DescrIs s at (DescrRead.Refused Refusal.NoKey) (dtypeAt s at)
   descr-none f h hf = subst (DescrIs s at (DescrRead.Refused Refusal.NoKey)) (sym (descr-none-by (nodeFor key-descr (value most-open s at)) refl (subst (DescrFor s at) hf h))) refl

@@ -23,7 +23,8 @@ use Rattle.judge.specs.declared.Shape.{Shape}
 use Rattle.judge.specs.declared.Descr.{Descr}
 use Rattle.judge.specs.declared.Judged.{Judged}
 use Rattle.judge.specs.declared.ShapeRead.{ShapeRead}
-use Rattle.judge.specs.Judged.{Counts, ShapeOf, ShapeIs, DescrOf, JudgedIs}
+use Rattle.judge.specs.Steps.{ShapeIs}
+use Rattle.judge.specs.Judged.{Counts, ShapeOf, DescrOf, JudgedIs}
 
 -- ---- 13 of the shape
 few-by : (s : List ℕ) (b : Bool) → unless b 13 (gives s) ≡ gives s → b ≡ false

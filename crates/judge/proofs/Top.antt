@@ -27,7 +27,8 @@ use Rattle.tokens.specs.Node.{Node}
 use Rattle.classes.specs.Got.{Got, got, fault, deep, pos}
 use Rattle.literal.specs.Forget.{forget, forgot}
 use Rattle.classes.specs.Text.{skip}
-use Rattle.literal.specs.Literal.{value, alone, aloneAt, literalOf, most-open}
+use Rattle.grammar.specs.Nesting.{most-open}
+use Rattle.literal.specs.Literal.{value, alone, aloneAt, literalOf}
 use Rattle.classes.specs.declared.Parsed as parsed
 use Rattle.literal.proofs.Meaning.{literal-means}
 use Rattle.literal.proofs.Steps.{alone-at, literal-is}
@@ -41,7 +42,8 @@ use Rattle.judge.specs.declared.Judged.{Judged}
 use Rattle.judge.specs.declared.OrderRead.{OrderRead}
 use Rattle.judge.specs.declared.ShapeRead.{ShapeRead}
 use Rattle.judge.specs.declared.DescrRead.{DescrRead}
-use Rattle.judge.specs.Judged.{reading, neededAt, orderAt, shapeAt, dtypeAt, behindShape, behindOrder, orderAnswer, KeysIn, KeysSay, ShapeOf, ShapeIs, DescrOf, DescrIs, JudgedIs}
+use Rattle.judge.specs.Steps.{neededAt, orderAt, shapeAt, dtypeAt, behindShape, behindOrder, orderAnswer, KeysIn, KeysSay, ShapeIs, DescrIs}
+use Rattle.judge.specs.Judged.{reading, ShapeOf, DescrOf, JudgedIs}
 
 -- the reading that is meant keeps the promise
 pub reading-keeps : Keeps reading

@@ -12,16 +12,14 @@ use keys::Places;
 use keys::ShapeFound;
 use products::Outline;
 use refusal::Refusal;
-use sums::Rule;
 use sums::Totals;
 use utf8::Text;
 ghost use mathlib.Core.Path.{_≡_};
 ghost use Rattle.record.specs.Header.{recordIn};
 ghost use Rattle.classes.specs.Text.{skip};
 ghost use Rattle.key_names.specs.Answer.{ordered};
-ghost use Rattle.judge.specs.Judged.{reading, orderAnswer, KeysOf, OrderOf, BehindOf, ShapeIn, DescrIn, RankedOf, LimitsOf, JudgedIs};
-ghost use Rattle.refusal.specs.Numbers.{numberOf};
-ghost use Rattle.sums.specs.Verdict as rules;
+ghost use Rattle.judge.specs.Steps.{orderAnswer, ShapeIn, DescrIn, KeysOf, OrderOf, BehindOf, RankedOf, LimitsOf};
+ghost use Rattle.judge.specs.Judged.{reading, JudgedIs};
 
 // Where the value of `shape` stands, and what later refusals need of it.
 pub struct Shape {
@@ -135,8 +133,8 @@ fn order_in(found: Declared) -> OrderRead
 {
     match found {
         Declared::Is(order) => OrderRead::Is(order),
-        Declared::Form => OrderRead::Refused(Refusal::NotBoolean),
-        Declared::Missing => OrderRead::Refused(Refusal::NoKey),
+        Declared::NotBoolean => OrderRead::Refused(Refusal::NotBoolean),
+        Declared::NoKey => OrderRead::Refused(Refusal::NoKey),
     }
 }
 
@@ -149,8 +147,8 @@ fn shape_in(found: ShapeFound) -> ShapeRead
     };
     match verdict {
         products::Verdict::Good(outline) => ranked(p, outline),
-        products::Verdict::Form => ShapeRead::Refused(Refusal::NotShape),
-        products::Verdict::Large => ShapeRead::Refused(Refusal::LargeDimension),
+        products::Verdict::NotShape => ShapeRead::Refused(Refusal::NotShape),
+        products::Verdict::LargeDimension => ShapeRead::Refused(Refusal::LargeDimension),
     }
 }
 
@@ -179,21 +177,6 @@ fn descr_in(found: DescrFound) -> DescrRead
             at: p,
             totals: totals,
         }),
-        sums::Verdict::Bad(rule) => DescrRead::Refused(refusal_of(rule)),
-    }
-}
-
-fn refusal_of(rule: Rule) -> Refusal
-    ensures { λ r. ⌜ numberOf r ≡ rules.numberOf rule ⌝ }
-{
-    match rule {
-        Rule::Shape => Refusal::NotShape,
-        Rule::Dimension => Refusal::LargeDimension,
-        Rule::Form => Refusal::Form,
-        Rule::Syntax => Refusal::Syntax,
-        Rule::TooLarge => Refusal::LargeNumber,
-        Rule::ByteOrder => Refusal::ByteOrder,
-        Rule::Size => Refusal::TypeSize,
-        Rule::Units => Refusal::Units,
+        sums::Verdict::Bad(r) => DescrRead::Refused(r),
     }
 }

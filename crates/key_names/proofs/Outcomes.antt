@@ -3,10 +3,10 @@ use Prim.Native.Nat.{ℕ}
 use mathlib.Core.Path.{_≡_, refl, sym, _∙_}
 use mathlib.Core.List.{List}
 use mathlib.Core.Bool.{Bool, cond, _&&_}
-use Rattle.counts.specs.Outcome.{Outcome, gives}
+use Rattle.counts.specs.Outcome.{Outcome, gives, given}
 use Rattle.counts.specs.OneOutcome.{OneOutcome}
 use Rattle.counts.proofs.OneOutcome.{by-equation}
-use Rattle.record.specs.Dict.{key-order, key-shape, key-descr, isString, isThe}
+use Rattle.record.specs.Dict.{key-order, key-shape, key-descr, isThe}
 use Rattle.escapes.specs.Strings.{spelled}
 use Rattle.classes.specs.Text.{byteAt, kindOf}
 use Rattle.key_names.specs.declared.Name.{Name}
@@ -17,7 +17,7 @@ nameBy : (string descr order shape : Bool) → Name
 nameBy string descr order shape = cond string (cond descr Name.Descr (cond order Name.Order (cond shape Name.Shape Name.Extra))) Name.NoString
 
 abbrev nameFrom : Outcome (List ℕ) → Name
-nameFrom key = nameBy (isString key) (isThe key-descr key) (isThe key-order key) (isThe key-shape key)
+nameFrom key = nameBy (given key) (isThe key-descr key) (isThe key-order key) (isThe key-shape key)
 
 name-back : (r : Name) → nameFrom (keyOf r) ≡ r
 unfolding nameBy
@@ -39,8 +39,8 @@ known-one name = named-one (gives name)
 pub name-at-one : (text : List ℕ) (from quote : ℕ) → OneOutcome (λ r. Named r (gives (spelled quote text from .bytes)))
 name-at-one text from quote = named-one (gives (spelled quote text from .bytes))
 
-pub all-strings-one : (strings : Bool) (name : Name) → OneOutcome (λ r. r ≡ strings && isString (keyOf name))
-all-strings-one strings name = by-equation (strings && isString (keyOf name))
+pub all-strings-one : (strings : Bool) (name : Name) → OneOutcome (λ r. r ≡ strings && given (keyOf name))
+all-strings-one strings name = by-equation (strings && given (keyOf name))
 
 pub word-at-one : (text : List ℕ) (at : ℕ) → OneOutcome (λ r. WordAt text at r × (r ≡ wordOf (kindOf (byteAt text at))))
 word-at-one text at x y a b = a .1 ∙ sym (b .1)

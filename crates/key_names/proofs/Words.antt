@@ -24,7 +24,7 @@ use Rattle.key_names.specs.Answer.{wordOf}
 abbrev pub NoWord : Kind → Type 0
 NoWord c = OneOf (0 ∷ 1 ∷ 2 ∷ 3 ∷ 4 ∷ 5 ∷ 8 ∷ 9 ∷ []) (tagOf the-type c)
 
-pub no-word : (c : Kind) → NoWord c → declared.Declared.Form ≡ wordOf c
+pub no-word : (c : Kind) → NoWord c → declared.Declared.NotBoolean ≡ wordOf c
 no-word Square o = refl
 no-word Round o = refl
 no-word Curly o = refl

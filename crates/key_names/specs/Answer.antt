@@ -3,11 +3,11 @@
 use Prim.Native.Nat.{ℕ}
 use mathlib.Core.Path.{_≡_}
 use mathlib.Core.List.{List, []}
-use Rattle.counts.specs.Outcome.{Outcome, gives, refused, then}
+use Rattle.counts.specs.Outcome.{Outcome, gives, refused, then, given}
 use Rattle.dtype.specs.declared.Order.{Order}
 use Rattle.dtype.specs.declared.Order.the-variants.{C, Fortran}
 use Rattle.record.specs.FromValue.{orderOf}
-use Rattle.record.specs.Dict.{key-order, key-shape, key-descr, isString, isThe}
+use Rattle.record.specs.Dict.{key-order, key-shape, key-descr, isThe}
 use Rattle.tokens.specs.Node.{Node}
 use Rattle.classes.specs.Got.{got}
 use Rattle.classes.specs.declared.Kind.{Kind}
@@ -29,7 +29,7 @@ keyOf name.Name.NoString = refused 8
 
 -- the name tells of a key whether it is a string, and whether it is one of the three
 pub record Named (r : Name) (key : Outcome (List ℕ)) : Type 0 where
-  pub of-string : isString key ≡ isString (keyOf r)
+  pub of-string : given key ≡ given (keyOf r)
   pub of-descr : isThe key-descr key ≡ isThe key-descr (keyOf r)
   pub of-order : isThe key-order key ≡ isThe key-order (keyOf r)
   pub of-shape : isThe key-shape key ≡ isThe key-shape (keyOf r)
@@ -37,8 +37,8 @@ pub record Named (r : Name) (key : Outcome (List ℕ)) : Type 0 where
 -- the declared order, or 9, 10
 abbrev pub ordered : Declared → Outcome Order
 ordered (declared.Declared.Is o) = gives o
-ordered declared.Declared.Form = refused 10
-ordered declared.Declared.Missing = refused 9
+ordered declared.Declared.NotBoolean = refused 10
+ordered declared.Declared.NoKey = refused 9
 
 -- the order that the value of a key declares, or the key is missing
 abbrev pub OrderIs : Declared → Outcome Node → Type 0
@@ -52,11 +52,11 @@ WordAt s at r = (k : ℕ) (n : Node) (e : ℕ) → value k s at ≡ got n e → 
 abbrev pub wordOf : Kind → Declared
 wordOf TrueWord = declared.Declared.Is Fortran
 wordOf FalseWord = declared.Declared.Is C
-wordOf Square = declared.Declared.Form
-wordOf Round = declared.Declared.Form
-wordOf Curly = declared.Declared.Form
-wordOf Quote = declared.Declared.Form
-wordOf Minus = declared.Declared.Form
-wordOf Digit = declared.Declared.Form
-wordOf NoneWord = declared.Declared.Form
-wordOf Other = declared.Declared.Form
+wordOf Square = declared.Declared.NotBoolean
+wordOf Round = declared.Declared.NotBoolean
+wordOf Curly = declared.Declared.NotBoolean
+wordOf Quote = declared.Declared.NotBoolean
+wordOf Minus = declared.Declared.NotBoolean
+wordOf Digit = declared.Declared.NotBoolean
+wordOf NoneWord = declared.Declared.NotBoolean
+wordOf Other = declared.Declared.NotBoolean

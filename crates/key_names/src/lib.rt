@@ -7,9 +7,8 @@ use dtype::Order;
 use escapes::is_text;
 ghost use mathlib.Core.Path.{_≡_};
 ghost use mathlib.Core.Bool.{_&&_};
-ghost use Rattle.counts.specs.Outcome.{gives};
+ghost use Rattle.counts.specs.Outcome.{gives, given};
 ghost use Rattle.counts.specs.Same.{same};
-ghost use Rattle.record.specs.Dict.{isString};
 ghost use Rattle.escapes.specs.Strings.{spelled};
 ghost use Rattle.classes.specs.Text.{byteAt, kindOf};
 ghost use Rattle.key_names.specs.Answer.{keyOf, Named, WordAt, wordOf};
@@ -26,8 +25,8 @@ pub enum Name {
 // The declared order; or 9, 10.
 pub enum Declared {
     Is(Order),
-    Form,
-    Missing,
+    NotBoolean,
+    NoKey,
 }
 
 // What a key is that is a string of these bytes.
@@ -81,13 +80,13 @@ pub fn name_at(text: &[u8], from: usize, quote: u8) -> Name
 
 // Whether the keys up to one of this name are all strings, where those before it are if `strings`.
 pub fn all_strings(strings: bool, name: Name) -> bool
-    ensures { λ r. ⌜ r ≡ strings && isString (keyOf name) ⌝ }
+    ensures { λ r. ⌜ r ≡ strings && given (keyOf name) ⌝ }
 {
     strings & is_string(name)
 }
 
 fn is_string(name: Name) -> bool
-    ensures { λ r. ⌜ r ≡ isString (keyOf name) ⌝ }
+    ensures { λ r. ⌜ r ≡ given (keyOf name) ⌝ }
 {
     match name {
         Name::Descr => true,
@@ -114,6 +113,6 @@ pub fn word_at(text: &[u8], at: usize) -> Declared
         | Kind::Minus
         | Kind::Digit
         | Kind::NoneWord
-        | Kind::Other => Declared::Form,
+        | Kind::Other => Declared::NotBoolean,
     }
 }

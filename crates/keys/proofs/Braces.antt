@@ -7,10 +7,10 @@ use lib.Dec.{eqb}
 use borrow.Author.Tests.{eqb-true}
 use denote.Enum.Declared.{tagOf}
 use types.Run.{OneOf, miss}
-use Rattle.counts.specs.Outcome.{gives, refused}
+use Rattle.counts.specs.Outcome.{gives, refused, given}
 use Rattle.counts.proofs.Alike.{true-false}
 use Rattle.record.specs.Parts.{stringOr}
-use Rattle.record.specs.Dict.{key-order, key-shape, key-descr, isString, isThe}
+use Rattle.record.specs.Dict.{key-order, key-shape, key-descr, isThe}
 use Rattle.grammar.specs.Bytes.{isOpen, isQuote}
 use Rattle.decimal.specs.Decimal.{isDigit}
 use Rattle.tokens.specs.Node.{Node, span, dict, pairs}
@@ -125,4 +125,4 @@ module _ (k : ℕ) (s : List ℕ) (at e : ℕ) (n : Node) (h : value k s at ≡ 
   pub no-string : (c : Kind) → c ≡ kindOf (byteAt s at) → NoQuote c → Named name.Name.NoString (stringOr 8 (forget n))
   no-string c hk z =
       let e = no-string-by c z (view k s at h (sym hk)) in
-      record { of-string = ap isString e; of-descr = ap (isThe key-descr) e; of-order = ap (isThe key-order) e; of-shape = ap (isThe key-shape) e }
+      record { of-string = ap given e; of-descr = ap (isThe key-descr) e; of-order = ap (isThe key-order) e; of-shape = ap (isThe key-shape) e }

@@ -48,30 +48,30 @@ place-by k s n p q d e a b = ap (λ (z : Span). z .begin) (sym (value-span k s p
 
 shape-by : (k : ℕ) (s : List ℕ) (o : Outcome Node) (x y : ShapeFound) → ShapeFoundIs k s x o → ShapeFoundIs k s y o → x ≡ y
 shape-by k s (gives n) (shape.ShapeFound.At p u) (shape.ShapeFound.At q v) a b = at-eq shape.ShapeFound.At (place-by k s n p q (a .0) (b .0) (a .1) (b .1)) (joined-one (outlined v) u v (a .2 ∙ sym (b .2)) refl)
-shape-by k s (gives n) (shape.ShapeFound.At p u) shape.ShapeFound.Missing a b = absurd b
-shape-by k s (gives n) shape.ShapeFound.Missing y a b = absurd a
+shape-by k s (gives n) (shape.ShapeFound.At p u) shape.ShapeFound.NoKey a b = absurd b
+shape-by k s (gives n) shape.ShapeFound.NoKey y a b = absurd a
 shape-by k s (refused m) (shape.ShapeFound.At p u) y a b = absurd a
-shape-by k s (refused m) shape.ShapeFound.Missing (shape.ShapeFound.At q v) a b = absurd b
-shape-by k s (refused m) shape.ShapeFound.Missing shape.ShapeFound.Missing a b = refl
+shape-by k s (refused m) shape.ShapeFound.NoKey (shape.ShapeFound.At q v) a b = absurd b
+shape-by k s (refused m) shape.ShapeFound.NoKey shape.ShapeFound.NoKey a b = refl
 
 descr-by : (k : ℕ) (s : List ℕ) (o : Outcome Node) (x y : DescrFound) → DescrFoundIs k s x o → DescrFoundIs k s y o → x ≡ y
 descr-by k s (gives n) (descr.DescrFound.At p u) (descr.DescrFound.At q v) a b = at-eq descr.DescrFound.At (place-by k s n p q (a .0) (b .0) (a .1) (b .1)) (verdict-one (verdict v) u v (a .2 ∙ sym (b .2)) refl)
-descr-by k s (gives n) (descr.DescrFound.At p u) descr.DescrFound.Missing a b = absurd b
-descr-by k s (gives n) descr.DescrFound.Missing y a b = absurd a
+descr-by k s (gives n) (descr.DescrFound.At p u) descr.DescrFound.NoKey a b = absurd b
+descr-by k s (gives n) descr.DescrFound.NoKey y a b = absurd a
 descr-by k s (refused m) (descr.DescrFound.At p u) y a b = absurd a
-descr-by k s (refused m) descr.DescrFound.Missing (descr.DescrFound.At q v) a b = absurd b
-descr-by k s (refused m) descr.DescrFound.Missing descr.DescrFound.Missing a b = refl
+descr-by k s (refused m) descr.DescrFound.NoKey (descr.DescrFound.At q v) a b = absurd b
+descr-by k s (refused m) descr.DescrFound.NoKey descr.DescrFound.NoKey a b = refl
 
 -- an order, or the number for none
 declaredOf : Outcome Order → Declared
 declaredOf (gives o) = declared.Declared.Is o
-declaredOf (refused n) = cond (eqb n 9) declared.Declared.Missing declared.Declared.Form
+declaredOf (refused n) = cond (eqb n 9) declared.Declared.NoKey declared.Declared.NotBoolean
 
 declared-back : (d : Declared) → declaredOf (ordered d) ≡ d
 unfolding declaredOf
 declared-back (declared.Declared.Is o) = refl
-declared-back declared.Declared.Form = refl
-declared-back declared.Declared.Missing = refl
+declared-back declared.Declared.NotBoolean = refl
+declared-back declared.Declared.NoKey = refl
 
 order-by : (o : Outcome Node) (x y : Declared) → OrderIs x o → OrderIs y o → x ≡ y
 order-by o = by-inverse ordered declaredOf declared-back (then o (λ n. orderOf (forget n)))

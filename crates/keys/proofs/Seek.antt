@@ -6,10 +6,10 @@ use mathlib.Core.List.{List, [], _∷_}
 use mathlib.Core.Bool.{Bool, true, false, cond, _&&_, and-true, and-assoc}
 use denote.Enum.Declared.{tagOf}
 use types.Run.{OneOf, miss}
-use Rattle.counts.specs.Outcome.{Outcome, gives, refused, then, each}
+use Rattle.counts.specs.Outcome.{Outcome, gives, refused, then, each, given}
 use Rattle.record.specs.Parts.{stringOr}
 use Rattle.record.specs.Descr.{descrOf}
-use Rattle.record.specs.Dict.{key-order, key-shape, key-descr, isString, isThe, allStrings}
+use Rattle.record.specs.Dict.{key-order, key-shape, key-descr, isThe, allStrings}
 use Rattle.tokens.specs.Node.{Node, Pair, Pairs, span, dict, pairs}
 use Rattle.classes.specs.Got.{Got, got, fault, deep, pos, with}
 use Rattle.literal.specs.Forget.{forget, forgetPairs}
@@ -82,9 +82,9 @@ strings-end : (b : Bool) (ps : List Pair) → Strings b ps [] → stringsIn ps �
 unfolding forgetPairs
 strings-end b ps h = h ∙ and-true b
 
-strings-more : (b b′ : Bool) (name : Name) (u : Pair) (ps us : List Pair) → b′ ≡ b && isString (keyOf name) → isString (stringOr 8 (forget (u .key))) ≡ isString (keyOf name) → Strings b ps (u ∷ us) → Strings b′ ps us
+strings-more : (b b′ : Bool) (name : Name) (u : Pair) (ps us : List Pair) → b′ ≡ b && given (keyOf name) → given (stringOr 8 (forget (u .key))) ≡ given (keyOf name) → Strings b ps (u ∷ us) → Strings b′ ps us
 unfolding forgetPairs
-strings-more b b′ name u ps us hb hu h = h ∙ ap (λ (x : Bool). b && (x && stringsIn us)) hu ∙ sym (and-assoc b (isString (keyOf name)) (stringsIn us)) ∙ ap (λ (x : Bool). x && stringsIn us) (sym hb)
+strings-more b b′ name u ps us hb hu h = h ∙ ap (λ (x : Bool). b && (x && stringsIn us)) hu ∙ sym (and-assoc b (given (keyOf name)) (stringsIn us)) ∙ ap (λ (x : Bool). x && stringsIn us) (sym hb)
 
 -- ---- the value that counts, by what an answer says of it
 module _ {F : Type 0} (Is : F → Outcome Node → Type 0) (w : List ℕ) where
@@ -195,17 +195,17 @@ module _ (k : ℕ) (s : List ℕ) where
     pub order : Counts OrderIs key-order (x .order) ps us
     pub shape : Counts (ShapeFoundIs k s) key-shape (x .shape) ps us
 
-  pub seen-start : (ps : List Pair) → Seen true (record { descr = descr.DescrFound.Missing; order = declared.Declared.Missing; shape = shape.ShapeFound.Missing }) ps ps
+  pub seen-start : (ps : List Pair) → Seen true (record { descr = descr.DescrFound.NoKey; order = declared.Declared.NoKey; shape = shape.ShapeFound.NoKey }) ps ps
   seen-start ps =
       record {
         strings = refl;
-        descr = counts-start (DescrFoundIs k s) key-descr descr.DescrFound.Missing refl ps;
-        order = counts-start OrderIs key-order declared.Declared.Missing refl ps;
-        shape = counts-start (ShapeFoundIs k s) key-shape shape.ShapeFound.Missing refl ps;
+        descr = counts-start (DescrFoundIs k s) key-descr descr.DescrFound.NoKey refl ps;
+        order = counts-start OrderIs key-order declared.Declared.NoKey refl ps;
+        shape = counts-start (ShapeFoundIs k s) key-shape shape.ShapeFound.NoKey refl ps;
       }
 
   pub seen-more : (b b′ : Bool) (x y : Places) (end : Parsed) (name : Name) (p q at : ℕ) (u : Pair) (ps us : List Pair) → pairBy (value k s) s p ≡ got u q → Ends at ≡ pos (keyBy (value k s) s p)
-      → NameAt s p name → PairIs k s at name x end y → b′ ≡ b && isString (keyOf name) → Seen b x ps (u ∷ us) → Seen b′ y ps us
+      → NameAt s p name → PairIs k s at name x end y → b′ ≡ b && given (keyOf name) → Seen b x ps (u ∷ us) → Seen b′ y ps us
   seen-more b b′ x y end name p q at u ps us hu ha hn hx hb h =
       let m = key-of (value k s) s p u q hu in
       let n = hn k (u .key) (m .0) (m .1) in

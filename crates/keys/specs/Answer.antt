@@ -15,7 +15,8 @@ use Rattle.classes.specs.declared.Parsed.{Parsed}
 use Rattle.classes.specs.declared.Parsed.the-variants.{Value, Fault, Deep}
 use Rattle.literal.specs.Forget.{forget, forgetPairs}
 use Rattle.literal.specs.Brackets.{keyBy}
-use Rattle.literal.specs.Literal.{value, most-open}
+use Rattle.grammar.specs.Nesting.{most-open}
+use Rattle.literal.specs.Literal.{value}
 use Rattle.products.specs.Outline.{outlineOf}
 use Rattle.products.specs.Answer.{outlined}
 use Rattle.sums.specs.Totals.{totalsOf}
@@ -40,15 +41,15 @@ use Rattle.keys.specs.Pairs.{lastIn, nodeFor, keyedAt}
 abbrev pub ShapeFoundIs : ℕ → List ℕ → ShapeFound → Outcome Node → Type 0
 ShapeFoundIs k s (shape.ShapeFound.At p x) (gives n) = (e : ℕ) × (value k s p ≡ got n e) × (outlined x ≡ each outlineOf (subShape (forget n)))
 ShapeFoundIs k s (shape.ShapeFound.At p x) (refused m) = ⊥
-ShapeFoundIs k s shape.ShapeFound.Missing (gives n) = ⊥
-ShapeFoundIs k s shape.ShapeFound.Missing (refused m) = m ≡ 9
+ShapeFoundIs k s shape.ShapeFound.NoKey (gives n) = ⊥
+ShapeFoundIs k s shape.ShapeFound.NoKey (refused m) = m ≡ 9
 
 -- the same of a descr
 abbrev pub DescrFoundIs : ℕ → List ℕ → DescrFound → Outcome Node → Type 0
 DescrFoundIs k s (descr.DescrFound.At p x) (gives n) = (e : ℕ) × (value k s p ≡ got n e) × (verdict x ≡ each totalsOf (descrOf (forget n)))
 DescrFoundIs k s (descr.DescrFound.At p x) (refused m) = ⊥
-DescrFoundIs k s descr.DescrFound.Missing (gives n) = ⊥
-DescrFoundIs k s descr.DescrFound.Missing (refused m) = m ≡ 9
+DescrFoundIs k s descr.DescrFound.NoKey (gives n) = ⊥
+DescrFoundIs k s descr.DescrFound.NoKey (refused m) = m ≡ 9
 
 -- what was found for the three keys, by which value each key has
 pub record KeysAt (k : ℕ) (s : List ℕ) (x : Places) (node : List ℕ → Outcome Node) : Type 0 where

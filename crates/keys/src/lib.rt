@@ -26,13 +26,13 @@ ghost use Rattle.keys.specs.Answer.{KeyIs, OrderTaken, DescrReadIs, Shap
 // Where the value of `shape` stands, and what it is as a shape; or 9.
 pub enum ShapeFound {
     At(usize, products::Verdict),
-    Missing,
+    NoKey,
 }
 
 // Where the value of `descr` stands, and what it is as a descr; or 9.
 pub enum DescrFound {
     At(usize, sums::Verdict),
-    Missing,
+    NoKey,
 }
 
 // What was found for the three keys.
@@ -93,9 +93,9 @@ fn keys_from(text: &[u8], from: usize, room: usize) -> Walked
 {
     let mut g = gap_at(text, from, 125);
     let mut strings = true;
-    let mut descr = DescrFound::Missing;
-    let mut order = Declared::Missing;
-    let mut shape = ShapeFound::Missing;
+    let mut descr = DescrFound::NoKey;
+    let mut order = Declared::NoKey;
+    let mut shape = ShapeFound::NoKey;
     loop {
         let Gap::Item(p) = g else {
             return walk_end(ended(g), strings, descr, order, shape);

@@ -12,7 +12,8 @@ use lib.Seq.{sets, sets-eq, length-sets, length-take-le, take-at, drop-at, getD-
 use borrow.Author.Tests.{lt-ltb, le-ltb, eq-eqb, ne-eqb}
 use Rattle.dtype.specs.Dtype.{Dtype, Fields, plain, array, record-of, end-of-fields, field-then}
 use Rattle.dtype.specs.Entries.{entriesOf, entriesIn}
-use Rattle.dtype.specs.Flat.{entry-width, saturated, entryOf, numbers, flat, flats}
+use Rattle.counts.specs.Number.{capped}
+use Rattle.dtype.specs.Flat.{entry-width, entryOf, numbers, flat, flats}
 use Rattle.lifts.specs.Lifted.{movedNumber, movedFrom, movedOn, relinked, lifted}
 use Rattle.lifts.proofs.Stores.{set-sets, getD-sets, sets-over}
 
@@ -20,23 +21,23 @@ use Rattle.lifts.proofs.Stores.{set-sets, getD-sets, sets-over}
 module _ (i n by up : ℕ) where
   pub moved-first : i ≡ 0 → up ≡ movedNumber i n by up
   unfolding movedNumber
-  moved-first h = ap (λ (t : Bool). cond t up (cond (eqb i 8) 0 (cond (eqb (i % entry-width) 0) (saturated (n + by)) n))) (sym (eq-eqb i 0 h))
+  moved-first h = ap (λ (t : Bool). cond t up (cond (eqb i 8) 0 (cond (eqb (i % entry-width) 0) (capped (n + by)) n))) (sym (eq-eqb i 0 h))
 
-  later : (i ≡ 0 → ⊥) → cond (eqb i 8) 0 (cond (eqb (i % entry-width) 0) (saturated (n + by)) n) ≡ movedNumber i n by up
+  later : (i ≡ 0 → ⊥) → cond (eqb i 8) 0 (cond (eqb (i % entry-width) 0) (capped (n + by)) n) ≡ movedNumber i n by up
   unfolding movedNumber
-  later z = ap (λ (t : Bool). cond t up (cond (eqb i 8) 0 (cond (eqb (i % entry-width) 0) (saturated (n + by)) n))) (sym (ne-eqb i 0 z))
+  later z = ap (λ (t : Bool). cond t up (cond (eqb i 8) 0 (cond (eqb (i % entry-width) 0) (capped (n + by)) n))) (sym (ne-eqb i 0 z))
 
   pub moved-name : (i ≡ 0 → ⊥) → i ≡ 8 → 0 ≡ movedNumber i n by up
-  moved-name z h = ap (λ (t : Bool). cond t 0 (cond (eqb (i % entry-width) 0) (saturated (n + by)) n)) (sym (eq-eqb i 8 h)) ∙ later z
+  moved-name z h = ap (λ (t : Bool). cond t 0 (cond (eqb (i % entry-width) 0) (capped (n + by)) n)) (sym (eq-eqb i 8 h)) ∙ later z
 
-  behind : (i ≡ 0 → ⊥) → (i ≡ 8 → ⊥) → cond (eqb (i % entry-width) 0) (saturated (n + by)) n ≡ movedNumber i n by up
-  behind z y = ap (λ (t : Bool). cond t 0 (cond (eqb (i % entry-width) 0) (saturated (n + by)) n)) (sym (ne-eqb i 8 y)) ∙ later z
+  behind : (i ≡ 0 → ⊥) → (i ≡ 8 → ⊥) → cond (eqb (i % entry-width) 0) (capped (n + by)) n ≡ movedNumber i n by up
+  behind z y = ap (λ (t : Bool). cond t 0 (cond (eqb (i % entry-width) 0) (capped (n + by)) n)) (sym (ne-eqb i 8 y)) ∙ later z
 
-  pub moved-parent : (i ≡ 0 → ⊥) → (i ≡ 8 → ⊥) → i % entry-width ≡ 0 → saturated (n + by) ≡ movedNumber i n by up
-  moved-parent z y h = ap (λ (t : Bool). cond t (saturated (n + by)) n) (sym (eq-eqb (i % entry-width) 0 h)) ∙ behind z y
+  pub moved-parent : (i ≡ 0 → ⊥) → (i ≡ 8 → ⊥) → i % entry-width ≡ 0 → capped (n + by) ≡ movedNumber i n by up
+  moved-parent z y h = ap (λ (t : Bool). cond t (capped (n + by)) n) (sym (eq-eqb (i % entry-width) 0 h)) ∙ behind z y
 
   pub moved-other : (i ≡ 0 → ⊥) → (i ≡ 8 → ⊥) → (i % entry-width ≡ 0 → ⊥) → n ≡ movedNumber i n by up
-  moved-other z y h = ap (λ (t : Bool). cond t (saturated (n + by)) n) (sym (ne-eqb (i % entry-width) 0 h)) ∙ behind z y
+  moved-other z y h = ap (λ (t : Bool). cond t (capped (n + by)) n) (sym (ne-eqb (i % entry-width) 0 h)) ∙ behind z y
 
 -- ---- one entry
 nine-eq : {a b c d e f g h j a′ b′ c′ d′ e′ f′ g′ h′ j′ : ℕ} {x x′ : List ℕ} → a ≡ a′ → b ≡ b′ → c ≡ c′ → d ≡ d′ → e ≡ e′ → f ≡ f′ → g ≡ g′ → h ≡ h′ → j ≡ j′ → x ≡ x′
@@ -55,7 +56,7 @@ module _ (by up : ℕ) where
       let e = entryOf d p m in
       let at : (k k′ n : ℕ) → k′ ≡ i + k → 0 < k → k < 9 → movedNumber k′ n by up ≡ n = λ k k′ n h lo top. ap (λ (y : ℕ). movedNumber y n by up) h ∙ keeps i k n by up l z lo top in
       let rest : suc (suc (suc (suc (suc (suc (suc (suc (suc i)))))))) ≡ i′ = omega arith in
-      let first : saturated (p + by) ≡ p′ = omega arith in
+      let first : capped (p + by) ≡ p′ = omega arith in
       nine-eq
       (sym (moved-parent i p by up (λ (q : i ≡ 0). absurd (omega arith)) (λ (q : i ≡ 8). absurd (omega arith)) z) ∙ first)
       (at 1 (suc i) (e .kind) (omega arith) (omega arith) (omega arith))
@@ -236,7 +237,7 @@ module _ (table0 : List ℕ) (entry count by : ℕ) where
         telling-skip m j table (λ k lo hi. stay k lo (omega arith)) (storing-skip table0 told (entry-width * entry) (j + suc m) (j + m) (omega arith) table w same)
 
     -- an entry behind the first: its parent
-    pub telling-more : (k j : ℕ) → k ≡ suc j → 0 < j → (table : List ℕ) → Telling (entry-width * k) table → (at n : ℕ) → at ≡ entry-width * (entry + j) → n ≡ saturated (getD table at 0 + by)
+    pub telling-more : (k j : ℕ) → k ≡ suc j → 0 < j → (table : List ℕ) → Telling (entry-width * k) table → (at n : ℕ) → at ≡ entry-width * (entry + j) → n ≡ capped (getD table at 0 + by)
         → (table′ : List ℕ) → table′ ≡ set table at n → Telling (entry-width * j) table′
     telling-more k j hk pos table w at n hat hn table′ ht =
         let to = entry-width * entry in
@@ -248,7 +249,7 @@ module _ (table0 : List ℕ) (entry count by : ℕ) where
         telling-skip 8 (i + 1) table (λ k lo hi. (λ (e : k ≡ 8). absurd (omega arith), λ (e : k % 9 ≡ 0). absurd (omega arith))) (subst (λ (x : ℕ). Telling x table) whole w) in
         let read : getD table at 0 ≡ getD table0 (to + i) 0 = ap (λ (x : ℕ). getD table x 0) place ∙ as-it-was table0 told to (i + 1) i more table s (to + i) (omega arith) in
         let is : n ≡ getD told i 0 =
-        hn ∙ ap (λ (x : ℕ). saturated (x + by)) read
+        hn ∙ ap (λ (x : ℕ). capped (x + by)) read
         ∙ moved-parent i (getD table0 (to + i) 0) by (entry - 1) (λ (e : i ≡ 0). absurd (omega arith)) (λ (e : i ≡ 8). absurd (omega arith)) (omega arith)
         ∙ sym (told-get i (omega (arith, s .low, told-length))) in
         storing-more table0 told to (i + 1) i more table s n is table′ (ht ∙ ap (λ (x : ℕ). set table x n) place)

@@ -6,11 +6,12 @@ use mathlib.Core.Bool.{cond}
 use lib.Dec.{ltb, eqb}
 use lib.ListN.{length, take, drop}
 use lib.Seq.{sets}
-use Rattle.dtype.specs.Flat.{entry-width, saturated}
+use Rattle.counts.specs.Number.{capped}
+use Rattle.dtype.specs.Flat.{entry-width}
 
 -- number i of entries that move on by `by`: their parents move with them, but the parent of the first is `up`, and it has no name
 unfoldable pub movedNumber : (i n by up : ℕ) → ℕ
-movedNumber i n by up = cond (eqb i 0) up (cond (eqb i 8) 0 (cond (eqb (i % entry-width) 0) (saturated (n + by)) n))
+movedNumber i n by up = cond (eqb i 0) up (cond (eqb i 8) 0 (cond (eqb (i % entry-width) 0) (capped (n + by)) n))
 
 abbrev pub movedFrom : (i by up : ℕ) → List ℕ → List ℕ
 movedFrom i by up [] = []

@@ -7,7 +7,7 @@ use mathlib.Core.List.{List}
 use native.Mathlib.Omega.{arith}
 use borrow.Author.Tests.{le-leb, lt-leb}
 use Rattle.dtype.specs.declared.Entry.{Entry}
-use Rattle.dtype.specs.Flat.{saturated}
+use Rattle.counts.specs.Number.{capped}
 use Rattle.dtype.specs.Limits.{over}
 use Rattle.dtype.specs.Agrees.{entryAt, Fields-agree, Record-agrees}
 use Rattle.dtype.specs.Seen.{fieldBytes}
@@ -58,7 +58,7 @@ module _ (t : List ℕ) (n e left c bytes : ℕ) (k : Summing t n e left c bytes
       (record {
         end = k .end;
         total = k .total;
-        passed = saturated (k .passed + entryAt t c .bytes);
+        passed = capped (k .passed + entryAt t c .bytes);
         end-in = k .end-in;
         agree = opened .3;
         sum = omega (arith, split);

@@ -6,7 +6,8 @@ use mathlib.Core.Path.{_≡_, refl, sym, ap, subst, _∙_}
 use mathlib.Core.List.{List}
 use lib.ListN.{length, take, drop, drop-of-length-le, length-drop}
 use lib.Seq.{sets, drop-drop, take-all}
-use Rattle.emit.specs.Emits.{Emits, capped}
+use Rattle.counts.specs.Number.{capped}
+use Rattle.emit.specs.Emits.{Emits}
 use Rattle.emit.proofs.Pieces.{emits-length}
 use Rattle.dtype.specs.declared.Entry.{Entry}
 use Rattle.dtype.specs.Agrees.{entryAt, nameStart}

@@ -21,7 +21,8 @@ use Rattle.dtype.specs.Record.{table}
 use Rattle.dtype.specs.Limits.{overDimensions, overLevels}
 use Rattle.dtype.proofs.Strides.{strides-length}
 use Rattle.dtype.proofs.Seen.{table-length}
-use Rattle.shape.specs.Count.{stridesCount, left, front, Writes}
+use Rattle.counts.specs.Front.{atFront}
+use Rattle.shape.specs.Count.{stridesCount, left, Writes}
 use Rattle.shape.specs.declared.StridesWritten.{StridesWritten}
 use Rattle.record.specs.Version.{Version}
 use Rattle.limits.specs.Answer.{itemSize}
@@ -42,7 +43,7 @@ module _ (o : Order) (s zeros : List ℕ) (r : StridesWritten) (out : List ℕ) 
   unfolding stridesCount
   strides-there = rw (st .fits, le-ltb (length zeros) (length s) (omega (arith, long, st .few))) refl
 
-  held : out ≡ front (strides o s) zeros
+  held : out ≡ atFront (strides o s) zeros
   held = w .out-after ∙ ap (λ (x : Outcome ℕ). left x (strides o s) zeros) strides-there
 
   pub strides-held : take (length s) out ≡ strides o s

@@ -1,5 +1,5 @@
 // The lines of a listing (document 01, "What the collector buys"). The crate's matter is in specs/ (the text) and proofs/ (laws); all but an entry's parent is written by
-// the crate listing. No public function has a `requires`.
+// the crate listing. No function here has a `requires`.
 use emit::put;
 use emit::put_count;
 ghost use Rattle.emit.specs.Emits.{Emits};

@@ -23,7 +23,8 @@ use Rattle.classes.specs.Text.{byteAt, skip}
 use Rattle.tokens.specs.Tokens.{tokenAt}
 use Rattle.gaps.specs.Gaps.{gapAt, thenAt, needAt, endedAt, beginsBy, colonAt}
 use Rattle.literal.specs.Brackets.{items, listBy, tupleBy, keyBy, pairBy}
-use Rattle.literal.specs.Literal.{bracketBy, value, alone, aloneAt, literalOf, most-open}
+use Rattle.grammar.specs.Nesting.{most-open}
+use Rattle.literal.specs.Literal.{bracketBy, value, alone, aloneAt, literalOf}
 use Rattle.classes.specs.declared.Parsed.{Parsed}
 use Rattle.classes.specs.declared.Parsed.the-variants.{Value, Fault, Deep}
 use Rattle.gaps.specs.declared.Gap.{Gap}

@@ -5,7 +5,8 @@ use mathlib.Core.Path.{_≡_, refl, ap, _∙_}
 use mathlib.Core.List.{List, _∷_, _++_}
 use lib.ListN.{length}
 use lib.Seq.{sets}
-use Rattle.emit.specs.Emits.{Emits, capped}
+use Rattle.counts.specs.Number.{capped}
+use Rattle.emit.specs.Emits.{Emits}
 use Rattle.emit.proofs.Pieces.{emits-then, emits-same, emits-length}
 use Rattle.grammar.specs.Print.{spaces}
 use Rattle.byte_orders.specs.declared.Endianness.the-variants.{Little}

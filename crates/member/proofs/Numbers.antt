@@ -32,7 +32,7 @@ use Rattle.classes.proofs.Ends.{Stops, stops}
 use Rattle.literal.proofs.Steps.{value-token}
 use Rattle.literal.proofs.View.{view}
 use Rattle.products.specs.declared.Member.{Member}
-use Rattle.products.specs.declared.Member.the-variants.{Form}
+use Rattle.products.specs.declared.Member.the-variants.{NotShape}
 use Rattle.signs.specs.Answer.{positiveOf, negativeOf}
 use Rattle.member.specs.Members.{closingOf, memberAt}
 
@@ -124,7 +124,7 @@ module _ (s : List ℕ) (at : ℕ) where
 -- ---- the dimension that they are, by the first byte
 module _ (s : List ℕ) (at : ℕ) (d : Member) where
   abbrev behindSign : Member
-  behindSign = cond (eqb (byteAt s at) 45) (negativeOf (numeralAt s (at + 1) .number)) Form
+  behindSign = cond (eqb (byteAt s at) 45) (negativeOf (numeralAt s (at + 1) .number)) NotShape
 
   pub member-digit : (r : Numeral) → r ≡ numeralAt s at → (e : ℕ) → r .ended ≡ Value e → d ≡ positiveOf (r .number) → d ≡ memberAt s at
   member-digit r hr e he hd =
@@ -137,10 +137,10 @@ module _ (s : List ℕ) (at : ℕ) (d : Member) where
 
     pub member-minus : (r : Numeral) → r ≡ numeralAt s (at + 1) → byteAt s at ≡ 45 → d ≡ negativeOf (r .number) → d ≡ memberAt s at
     member-minus r hr hb hd =
-        hd ∙ (ap (λ (x : Numeral). negativeOf (x .number)) hr ∙ (sym (ap (λ (b : Bool). cond b (negativeOf (numeralAt s (at + 1) .number)) Form) (eq-eqb _ _ hb)) ∙ no-digit))
+        hd ∙ (ap (λ (x : Numeral). negativeOf (x .number)) hr ∙ (sym (ap (λ (b : Bool). cond b (negativeOf (numeralAt s (at + 1) .number)) NotShape) (eq-eqb _ _ hb)) ∙ no-digit))
 
-    pub member-none : (byteAt s at ≡ 45 → ⊥) → Form ≡ memberAt s at
-    member-none hb = sym (ap (λ (b : Bool). cond b (negativeOf (numeralAt s (at + 1) .number)) Form) (ne-eqb _ _ hb)) ∙ no-digit
+    pub member-none : (byteAt s at ≡ 45 → ⊥) → NotShape ≡ memberAt s at
+    member-none hb = sym (ap (λ (b : Bool). cond b (negativeOf (numeralAt s (at + 1) .number)) NotShape) (ne-eqb _ _ hb)) ∙ no-digit
 
 -- ---- the value at a byte that opens no bracket ends as the token there
 abbrev pub isBracket : Kind → Bool

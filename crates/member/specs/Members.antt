@@ -16,7 +16,7 @@ use Rattle.literal.specs.Literal.{value}
 use Rattle.classes.specs.declared.Kind.{Kind}
 use Rattle.classes.specs.declared.Kind.the-variants.{Square, Round, Curly, Quote, Minus, Digit, TrueWord, FalseWord, NoneWord, Other}
 use Rattle.products.specs.declared.Member.{Member}
-use Rattle.products.specs.declared.Member.the-variants.{Form}
+use Rattle.products.specs.declared.Member.the-variants.{NotShape}
 use Rattle.products.specs.Answer.{sized}
 use Rattle.signs.specs.Answer.{positiveOf, negativeOf}
 
@@ -39,4 +39,4 @@ SizeAt s at r = (k : ℕ) (n : Node) (e : ℕ) → value k s at ≡ got n e → 
 
 -- the dimension that the digits at a position are, or those behind a `-`; any other byte begins none
 abbrev pub memberAt : List ℕ → ℕ → Member
-memberAt s at = cond (isDigit (byteAt s at)) (positiveOf (numeralAt s at .number)) (cond (eqb (byteAt s at) 45) (negativeOf (numeralAt s (at + 1) .number)) Form)
+memberAt s at = cond (isDigit (byteAt s at)) (positiveOf (numeralAt s at .number)) (cond (eqb (byteAt s at) 45) (negativeOf (numeralAt s (at + 1) .number)) NotShape)

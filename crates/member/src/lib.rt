@@ -68,7 +68,7 @@ fn other_at(text: &[u8], at: usize, room: usize) -> Item
     if peek(text, at) != 45 {
         return Item {
             ended: value(text, at, room),
-            size: Member::Form,
+            size: Member::NotShape,
         };
     }
     let d = numeral_at(text, at + 1);

@@ -11,7 +11,7 @@ fn main() {
         Reported::Written(k) => {
             show(&out, k);
         }
-        Reported::Room => {
+        Reported::OutputRoom => {
             io::write_all(STDOUT_FILENO, b"refused 28\n");
         }
     }

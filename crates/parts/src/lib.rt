@@ -7,7 +7,7 @@ use gaps::Gap;
 use gaps::ended;
 use gaps::then_at;
 use literal::value;
-use sums::Rule;
+use refusal::Refusal;
 use sums::Verdict;
 use sums::join;
 use sums::named;
@@ -29,11 +29,11 @@ pub struct Judged {
 // A value of another form, or no value.
 pub fn misfit(end: Parsed) -> Judged
     ensures { λ r. ⌜ r .ended ≡ end ⌝ }
-    ensures { λ r. ⌜ r .verdict ≡ Verdict.Bad Rule.Form ⌝ }
+    ensures { λ r. ⌜ r .verdict ≡ Verdict.Bad Refusal.Form ⌝ }
 {
     Judged {
         ended: end,
-        verdict: Verdict::Bad(Rule::Form),
+        verdict: Verdict::Bad(Refusal::Form),
     }
 }
 

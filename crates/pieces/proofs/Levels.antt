@@ -8,7 +8,8 @@ use borrow.Author.Tests.{eq-eqb, ne-eqb}
 use lib.ListN.{length}
 use lib.Seq.{sets}
 use Rattle.decimal.specs.Decimal.{printed}
-use Rattle.emit.specs.Emits.{Emits, capped}
+use Rattle.counts.specs.Number.{capped}
+use Rattle.emit.specs.Emits.{Emits}
 use Rattle.emit.proofs.Pieces.{emits-then, emits-length}
 use Rattle.grammar.specs.Print.{printRow}
 use Rattle.dtype.specs.declared.Entry.{Entry}

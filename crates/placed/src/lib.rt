@@ -1,7 +1,7 @@
 // String elements in a place (document 01, "String elements"): a file and what the place function answered in; what the element there stands for out to lent room, how
 // many bytes or code points that is, or the first refusal: the place's own, then 27 for a type that no reading gives, 26 for another type, 29 of U, 23. The place function
 // gives no place of a type that no reading gives, so that 27 is for a caller who made the place. A refusal leaves the room as it was. These serve our own crates, element
-// and told_element. What each answer stands for is in specs/Answer.antt. No public function has a `requires`.
+// and told_element. What each answer stands for is in specs/Answer.antt. No function here has a `requires`.
 use counts::Bytes;
 use counts::Points;
 use places::Placed;

@@ -1,5 +1,5 @@
 // Code points (document 01, "String elements"): those in a run of U, and those that a caller gives, judged. These serve our own crate slice, which
-// reads and writes elements. What each answer stands for is in specs/Answer.antt. No public function has a `requires`.
+// reads and writes elements. What each answer stands for is in specs/Answer.antt. No function here has a `requires`.
 use byte_orders::Endianness;
 use counts::Number;
 use counts::Points;

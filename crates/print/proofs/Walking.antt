@@ -9,7 +9,8 @@ use borrow.Author.Tests.{not-false}
 use lib.ListN.{length, take, drop, length-drop, length-append}
 use lib.Seq.{sets, drop-drop, take-append-seam, drop-append-seam}
 use Rattle.counts.specs.Outcome.{Outcome, gives}
-use Rattle.emit.specs.Emits.{Emits, capped}
+use Rattle.counts.specs.Number.{capped}
+use Rattle.emit.specs.Emits.{Emits}
 use Rattle.emit.proofs.Pieces.{emits-then, emits-same, emits-length}
 use Rattle.grammar.specs.Print.{Layout, quote, print, printRow}
 use Rattle.type_str.specs.declared.TypeStr.{TypeStr}

@@ -10,19 +10,19 @@ use Rattle.counts.specs.declared.Number.{Number}
 use Rattle.dtype.specs.declared.Order.{Order}
 use Rattle.products.specs.declared.Outline.{Outline}
 use Rattle.products.specs.declared.Verdict.{Verdict}
-use Rattle.products.specs.declared.Verdict.the-variants.{Good, Form, Large}
+use Rattle.products.specs.declared.Verdict.the-variants.{Good, NotShape, LargeDimension}
 use Rattle.products.specs.Outline.{isOver, largestIn, overIn}
 use Rattle.products.specs.Answer.{outlined}
 
 verdictOf : Outcome Outline → Verdict
 verdictOf (gives o) = Good o
-verdictOf (refused n) = cond (eqb n 12) Large Form
+verdictOf (refused n) = cond (eqb n 12) LargeDimension NotShape
 
 verdict-back : (v : Verdict) → verdictOf (outlined v) ≡ v
 unfolding verdictOf
 verdict-back (Good o) = refl
-verdict-back Form = refl
-verdict-back Large = refl
+verdict-back NotShape = refl
+verdict-back LargeDimension = refl
 
 -- what a verdict stands for fixes it
 pub joined-one : (o : Outcome Outline) → OneOutcome {A = Verdict} (λ v. outlined v ≡ o)

@@ -10,7 +10,7 @@ use mathlib.Core.Bool.{Bool, true, false, _||_, cond, or-true}
 use lib.ListN.{length-append}
 use lib.Dec.{eqb}
 use borrow.Author.Tests.{eqb-false, eq-eqb, ne-eqb, le-leb, lt-leb}
-use Rattle.counts.specs.Number.{number}
+use Rattle.counts.specs.Number.{number, capped}
 use Rattle.counts.specs.declared.Number.{Number}
 use Rattle.counts.specs.declared.Number.the-variants.{Is}
 use Rattle.counts.proofs.Fits.{number-is, number-over}
@@ -19,11 +19,11 @@ use Rattle.dtype.proofs.Digits.{lt-or-ge}
 use Rattle.counts.specs.Outcome.{Outcome, gives, refused, then, each}
 use Rattle.products.specs.declared.Outline.{Outline}
 use Rattle.products.specs.declared.Verdict.{Verdict}
-use Rattle.products.specs.declared.Verdict.the-variants.{Good, Form, Large}
+use Rattle.products.specs.declared.Verdict.the-variants.{Good, NotShape, LargeDimension}
 use Rattle.products.specs.declared.Member as member
 use Rattle.products.specs.declared.Member.{Member}
 use Rattle.products.specs.Answer.{sized, outlined, rankOf}
-use Rattle.products.specs.Outline.{hasZero, beforeZero, behindZero, outlineOf, scaledBy, extendedTo, extendedBy, extends, capped, heldBy, isOver}
+use Rattle.products.specs.Outline.{hasZero, beforeZero, behindZero, outlineOf, scaledBy, extendedTo, extendedBy, extends, heldBy, isOver}
 
 -- a product of numbers that fit or are over, where the new factor is not 0
 pub number-scaled : (a n : ℕ) → eqb n 0 ≡ false → number (a * n) ≡ scaledBy (number a) n
@@ -137,5 +137,5 @@ joined-below (Good o) (gives n) lt =
     let e : capped (o .rank + 1) ≡ o .rank + 1 = omega arith in
     ap (λ (k : ℕ). gives (extendedTo k o n)) e
 joined-below (Good o) (refused n) lt = refl
-joined-below Form m lt = refl
-joined-below Large m lt = refl
+joined-below NotShape m lt = refl
+joined-below LargeDimension m lt = refl

@@ -3,12 +3,12 @@
 -- that is on its other side: in C order stride k is the product of all dimensions after k, in Fortran order of all before k. So the largest of these
 -- products is that of the dimensions behind the last 0, or before the first 0; that this decides 21 and 22 is proved in proofs/Levels.antt and
 -- proofs/Orders.antt. Definitions only. Assumes nothing.
-use Prim.Native.Nat.{ℕ, _+_, _*_, _-_, _^_, min}
+use Prim.Native.Nat.{ℕ, _+_, _*_}
 use mathlib.Core.List.{List, [], _∷_}
 use mathlib.Core.Bool.{Bool, true, false, _||_, cond}
 use lib.Dec.{eqb}
 use lib.ListN.{length}
-use Rattle.counts.specs.Number.{number}
+use Rattle.counts.specs.Number.{number, capped}
 use Rattle.counts.specs.declared.Number.{Number}
 use Rattle.counts.specs.declared.Number.the-variants.{Is, Over}
 use Rattle.dtype.specs.declared.Order.{Order}
@@ -58,9 +58,6 @@ extends o [] = o
 extends o (n ∷ ns) = extends (extendedBy o n) ns
 
 -- the same as it is held: a rank is at most 2^64-1. No text has so many dimensions (`joined-below`, proofs/Outlines.antt)
-abbrev pub capped : ℕ → ℕ
-capped n = min n (2 ^ 64 - 1)
-
 abbrev pub heldBy : Outline → ℕ → Outline
 heldBy o n = extendedTo (capped (o .rank + 1)) o n
 

@@ -7,7 +7,8 @@ use counts::Number;
 ghost use mathlib.Core.Path.{_≡_};
 ghost use Prim.Native.Nat.{_+_};
 ghost use Rattle.counts.specs.Outcome.{then, each};
-ghost use Rattle.products.specs.Outline.{capped, heldBy};
+ghost use Rattle.counts.specs.Number.{capped};
+ghost use Rattle.products.specs.Outline.{heldBy};
 ghost use Rattle.products.specs.Answer.{sized, outlined};
 
 // A verdict and one member more: the first refusal stays.
@@ -15,11 +16,11 @@ pub fn joined(verdict: Verdict, member: Member) -> Verdict
     ensures { λ r. ⌜ outlined r ≡ then (outlined verdict) (λ o. each (heldBy o) (sized member)) ⌝ }
 {
     match verdict {
-        Verdict::Form => Verdict::Form,
-        Verdict::Large => Verdict::Large,
+        Verdict::NotShape => Verdict::NotShape,
+        Verdict::LargeDimension => Verdict::LargeDimension,
         Verdict::Good(o) => match member {
-            Member::Form => Verdict::Form,
-            Member::Large => Verdict::Large,
+            Member::NotShape => Verdict::NotShape,
+            Member::LargeDimension => Verdict::LargeDimension,
             Member::Is(n) => Verdict::Good(extended(o, n)),
         },
     }

@@ -18,15 +18,15 @@ pub struct Outline {
 // A shape or sub-shape; or 11; or 12.
 pub enum Verdict {
     Good(Outline),
-    Form,
-    Large,
+    NotShape,
+    LargeDimension,
 }
 
 // A dimension; or 11; or 12.
 pub enum Member {
     Is(u64),
-    Form,
-    Large,
+    NotShape,
+    LargeDimension,
 }
 
 // Whether the item count or a stride of the order is over 2^64-1 (22).

@@ -10,12 +10,14 @@ use lib.Dec.{ltb}
 use lib.ListN.{length}
 use borrow.Author.Tests.{ltb-false, not-false}
 use Rattle.counts.specs.Outcome.{Outcome, gives, refused, then, unless}
+use Rattle.counts.specs.AllBytes.{AllBytes}
 use Rattle.grammar.specs.Value.{Value}
 use Rattle.grammar.specs.Nesting.{Within}
 use Rattle.grammar.specs.Promise.{Got, got, fault, deep, PromiseAt}
 use Rattle.grammar.specs.Print.{valueOf}
 use Rattle.utf8.specs.Utf8.{WellFormed}
 use Rattle.utf8.specs.Decode.{utf8}
+use Rattle.utf8.proofs.Joined.{formed-bytes}
 use Rattle.utf8.proofs.Outcomes.{accepted-exactly}
 use Rattle.dtype.specs.Record.{Record}
 use Rattle.dtype.specs.Limits.{limited}
@@ -36,7 +38,7 @@ use Rattle.record.proofs.Written.{record-back}
 use Rattle.record.proofs.Clean.{Clean, gives-down}
 use Rattle.record.proofs.Read.{Writable, limited-same, record-holds}
 use Rattle.record.proofs.Padded.{version-fits}
-use Rattle.record.proofs.Files.{prefixFor, file-length, file-append, prefix-back, text-back, record-in-by, header-by}
+use Rattle.record.proofs.Files.{prefixFor, file-length, file-append, file-bytes, prefix-back, text-back, record-in-by, header-by}
 use Rattle.record.proofs.Printed.{text-utf8, text-read, text-length}
 
 -- the header that a record's own bytes have
@@ -46,6 +48,10 @@ headerFor r = record { version = version r; says = r; data-start = headerLength 
 pub file-whole : (r : Record) → length (fileOf r) ≡ headerLength r
 unfolding fileOf headerLength
 file-whole r = file-length (version r) (textLength r) (text r) ∙ ap (λ n. 8 + lengthWidth (version r) + n) (text-length r)
+
+pub file-all-bytes : (r : Record) → Sound r → AllBytes (fileOf r)
+unfolding fileOf
+file-all-bytes r s = file-bytes (version r) (textLength r) (text r) (formed-bytes (text r) (accepted-exactly (text r) .0 (text-utf8 r s)))
 
 -- ---- reading the bytes of a record
 bytes-read : (reading : Reading) → Keeps reading → (r : Record) → Writable r → textLength r ≤ most-text → (rest : List ℕ) (rooms : Rooms)

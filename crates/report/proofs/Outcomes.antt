@@ -12,12 +12,12 @@ use Rattle.report.specs.Report.{reportOf}
 
 back : Outcome ℕ → Reported
 back (gives n) = Reported.Written n
-back (refused n) = Reported.Room
+back (refused n) = Reported.OutputRoom
 
 same-back : (x : Reported) → back (answer x) ≡ x
 unfolding back
 same-back (Reported.Written n) = refl
-same-back Reported.Room = refl
+same-back Reported.OutputRoom = refl
 
 pair-eq : {x y : Reported} {a b : List ℕ} → x ≡ y → a ≡ b → _≡_ {A = Reported × List ℕ} (x, a) (y, b)
 pair-eq hx ha = cc

@@ -88,14 +88,14 @@ module _ (v : Version) (start : ℕ) (r : Record) (said : Said) (l : Lent) (room
     pub lists-all : (n : ℕ) → x ≡ Listed.Written n → Writes (listing v start r []) room (Reported.Written n) room′
     lists-all n e = let y = text-of x fronts in record { answered = sym (ap lists.answer e) ∙ y .0; after = y .1 }
 
-    pub lists-none : (f : Refusal) → x ≡ Listed.Refused f → Writes (listing v start r []) room Reported.Room room′
+    pub lists-none : (f : Refusal) → x ≡ Listed.Refused f → Writes (listing v start r []) room Reported.OutputRoom room′
     lists-none f e =
         let y = text-of x fronts in
         record { answered = room-only (numberOf f) (listing v start r []) room (sym (ap lists.answer e) ∙ y .0); after = y .1 }
 
 -- ---- a refusal's line
 module _ (k : ℕ) (scratch mid : List ℕ) (n : ℕ) (room : List ℕ) (fits : n < 2 ^ 64) (short : length room < 2 ^ 64 - 1) (measured : Emits (refusedLine k) scratch 0 mid n) where
-  pub line-28 : length room < n → Writes (refusedLine k []) room Reported.Room room
+  pub line-28 : length room < n → Writes (refusedLine k []) room Reported.OutputRoom room
   line-28 lt = let x = written-short (refusedLine k) scratch mid n room fits short measured lt in record { answered = x .0; after = x .1 }
 
   pub line-written : (out : List ℕ) (q : ℕ) → n ≤ length room → Emits (refusedLine k) room 0 out q → Writes (refusedLine k []) room (Reported.Written n) out

@@ -37,7 +37,7 @@ reportOf file = textFor (heldInto (ltb held-bytes (length file)) (take held-byte
 -- ---- what the function answers, and what the room then holds
 abbrev pub answer : Reported → Outcome ℕ
 answer (Reported.Written n) = gives n
-answer Reported.Room = refused 28
+answer Reported.OutputRoom = refused 28
 
 pub record Writes (text room : List ℕ) (x : Reported) (room′ : List ℕ) : Type 0 where
   pub answered : answer x ≡ written text room

@@ -1,5 +1,5 @@
 // What the listing program prints of a file (document 01, "What the collector buys"): the listing of its record, or `refused` and the number, with the rooms that
-// the program has. No public function here has a `requires`. The text, and what each answer stands for, are in specs/Report.antt.
+// the program has. No function here has a `requires`. The text, and what each answer stands for, are in specs/Report.antt.
 use header::Header;
 use header::HeaderRead;
 use listing::Listed;
@@ -17,7 +17,7 @@ ghost use Rattle.report.specs.Report.{refusedLine, Writes, Reports};
 // How many bytes were written; or 28.
 pub enum Reported {
     Written(usize),
-    Room,
+    OutputRoom,
 }
 
 // The text for a file, at the front of the room. Of a file no byte behind the first 65,537 is looked at.
@@ -60,7 +60,7 @@ fn list_header(h: Header, table: &[u64], names: &[u8], shape: &[u64], out: &mut 
     );
     match r {
         Listed::Written(n) => Reported::Written(n),
-        Listed::Refused(_) => Reported::Room,
+        Listed::Refused(_) => Reported::OutputRoom,
     }
 }
 
@@ -72,7 +72,7 @@ fn put_refused(why: Refusal, out: &mut [u8]) -> Reported
     let mut scratch = [0u8; 1];
     let n = put_line(&mut scratch, number);
     if out.len() < n {
-        return Reported::Room;
+        return Reported::OutputRoom;
     }
     put_line(out, number);
     Reported::Written(n)

@@ -11,7 +11,8 @@ use Rattle.dtype.specs.Entries.{entriesOf}
 use Rattle.dtype.specs.Names.{nameBytes}
 use Rattle.dtype.specs.Record.{Record, table, names}
 use Rattle.dtype.proofs.Flat.{flat-length, names-length}
-use Rattle.record.specs.Rooms.{Lent, atFront, holding}
+use Rattle.counts.specs.Front.{atFront}
+use Rattle.record.specs.Rooms.{Lent, holding}
 use Rattle.record.specs.Header as header
 use Rattle.judge.specs.Judged.{reading}
 use Rattle.fill.specs.declared.Said.{Said}

@@ -1,14 +1,17 @@
--- `encode` by its four rows, and what all of them have: a lead and then bytes that are not ASCII. Assumes nothing.
+-- `encode` by its four rows, and what all of them have: a lead and then bytes that are not ASCII; of a scalar value all are bytes. Assumes nothing.
 use Prim.Native.Nat.{ℕ, zero, suc, _+_, _/_, _%_, _≤_, _<_}
 use mathlib.Core.Path.{_≡_}
+use mathlib.Core.Bool.{true}
 use mathlib.Core.Logic.{⊎-elim}
 use mathlib.Core.List.{List, [], _∷_}
 use native.Mathlib.Omega.{arith}
-use native.Mathlib.Nat.{not-suc-le-zero, le-of-suc-le-suc}
+use native.Mathlib.Nat.{not-suc-le-zero, le-of-suc-le-suc, mod-lt}
 use borrow.Author.Tests.{lt-ltb, le-ltb}
 use lib.ListN.{length, getD}
+use Rattle.counts.specs.AllBytes.{AllBytes}
+use Rattle.scalar.specs.Scalar.{isScalar}
 use Rattle.scalar.specs.Encode.{encode}
-use Rattle.scalar.proofs.Scalars.{side}
+use Rattle.scalar.proofs.Scalars.{side, scalar-below}
 
 pub row-one : (c : ℕ) → c < 0x80 → encode c ≡ c ∷ []
 unfolding encode
@@ -69,3 +72,21 @@ encode-trailing c (suc i) h k = rw (led c .whole) (go (led c .trail) (led c .tra
     go [] t i h = absurd (not-suc-le-zero h)
     go (b ∷ bytes) t zero h = t .0
     go (b ∷ bytes) t (suc i) h = go bytes (t .1) i (le-of-suc-le-suc h)
+
+-- ---- each is a byte
+group : (n : ℕ) → 0x80 + n % 0x40 < 256
+group n = let m : n % 0x40 < 0x40 = mod-lt n (omega arith) in omega (arith, m)
+
+pub encode-bytes : (c : ℕ) → isScalar c ≡ true → AllBytes (encode c)
+encode-bytes c s =
+    let top = scalar-below c s in
+    ⊎-elim
+    (λ h. rw (row-one c h) (omega arith, tt))
+    (λ h. ⊎-elim
+    (λ k. rw (row-two c h k) (omega arith, (group c, tt)))
+    (λ k. ⊎-elim
+    (λ l. rw (row-three c k l) (omega arith, (group (c / 0x40), (group c, tt))))
+    (λ l. rw (row-four c l) (omega (arith, top), (group (c / 0x1000), (group (c / 0x40), (group c, tt)))))
+    (side c 0x10000))
+    (side c 0x800))
+    (side c 0x80)

@@ -1,4 +1,4 @@
--- Document 01, "The refusal numbers": 21, "some entry's size over 2^64-1". A number of bytes that is, as it is answered. What else a walk over a table
+-- Document 01, "The refusal numbers": 21, "some entry's size over 2^64-1". Whether a sum or product of bytes was answered as over. What else a walk over a table
 -- shows is specs/Seen.antt of the crate dtype. Definitions only. Assumes nothing.
 use mathlib.Core.Bool.{Bool, true, false}
 use Rattle.counts.specs.declared.ByteCount.{ByteCount}

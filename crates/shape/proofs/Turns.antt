@@ -20,7 +20,8 @@ use Rattle.dtype.specs.Limits.{overShape}
 use Rattle.dtype.proofs.Digits.{lt-or-ge}
 use Rattle.dtype.proofs.Strides.{strides-at, strides-length}
 use Rattle.shape.specs.declared.StridesWritten.{StridesWritten}
-use Rattle.shape.specs.Count.{itemCount, stridesCount, front, Writes}
+use Rattle.counts.specs.Front.{atFront}
+use Rattle.shape.specs.Count.{itemCount, stridesCount, Writes}
 use Rattle.shape.specs.Visit.{visited}
 use Rattle.shape.proofs.Passed.{visited-below, visited-back, visited-apart, passed, passed-none, passed-all, passed-next, stride-passed, all-fit, one-over}
 
@@ -124,11 +125,11 @@ module _ (o : Order) (s old : List ℕ) (acc k at : ℕ) (out : List ℕ) (f : F
         behind = λ j h. getD-set-other out at j acc 0 (λ e. omega arith) ∙ f .behind j h;
       }
 
-pub filling-end : (o : Order) (s old : List ℕ) (acc k : ℕ) (out : List ℕ) → Filling o s old acc k out → length s ≤ k → out ≡ front (strides o s) old
+pub filling-end : (o : Order) (s old : List ℕ) (acc k : ℕ) (out : List ℕ) → Filling o s old acc k out → length s ≤ k → out ≡ atFront (strides o s) old
 filling-end o s old acc k out f l =
     let n = strides-length o s in
     let z : k ≡ length s = omega (arith, f .within) in
-    ext-getD 0 out (front (strides o s) old)
+    ext-getD 0 out (atFront (strides o s) old)
     (f .same-length
     ∙ sym (length-append (strides o s) (drop (length (strides o s)) old) ∙ ap (λ (x : ℕ). length (strides o s) + x) (length-drop (length (strides o s)) old) ∙ omega (arith, f .room)))
     (λ i h.
@@ -142,7 +143,7 @@ filling-end o s old acc k out f l =
     e ∙ sym (List·getD-append (strides o s) (drop (length (strides o s)) old) 0 i (omega arith) ∙ strides-at o s i u ∙ g))
     (λ (u : length s ≤ i).
     let y : length (strides o s) + (i - length (strides o s)) ≡ i = omega arith in
-    let g : getD (front (strides o s) old) i 0 ≡ getD old i 0 =
+    let g : getD (atFront (strides o s) old) i 0 ≡ getD old i 0 =
     rw y at (getD-append-add (strides o s) (drop (length (strides o s)) old) (i - length (strides o s)) 0
     ∙ getD-drop (length (strides o s)) old (i - length (strides o s)) 0) in
     f .behind i u ∙ sym g)
@@ -178,7 +179,7 @@ module _ (o : Order) (s out : List ℕ) where
       let u = lt-ltb (length out) (length s) l in
       record { answered = simp (t, u); out-after = simp (t, u) }
 
-  pub writes-all : (n : Items) (out′ : List ℕ) → gives (n .0) ≡ itemCount o s → length s ≤ length out → out′ ≡ front (strides o s) out
+  pub writes-all : (n : Items) (out′ : List ℕ) → gives (n .0) ≡ itemCount o s → length s ≤ length out → out′ ≡ atFront (strides o s) out
       → Writes o s out (StridesWritten.Count n) out′
   unfolding stridesCount
   writes-all n out′ e l q =

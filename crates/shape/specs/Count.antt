@@ -3,9 +3,10 @@
 -- Definitions only. Assumes nothing.
 use Prim.Native.Nat.{ℕ}
 use mathlib.Core.Path.{_≡_}
-use mathlib.Core.List.{List, _++_}
+use mathlib.Core.List.{List}
 use lib.Dec.{ltb}
-use lib.ListN.{length, drop}
+use lib.ListN.{length}
+use Rattle.counts.specs.Front.{atFront}
 use Rattle.counts.specs.Outcome.{Outcome, gives, refused, unless}
 use Rattle.dtype.specs.declared.Order.{Order}
 use Rattle.dtype.specs.Shape.{product, strides}
@@ -21,13 +22,9 @@ itemCount o s = unless (overShape o s) 22 (gives (product s))
 unfoldable pub stridesCount : Order → List ℕ → (room : ℕ) → Outcome ℕ
 stridesCount o s room = unless (overShape o s) 22 (unless (ltb room (length s)) 23 (gives (product s)))
 
--- a buffer with new numbers at its front and the rest as it was
-abbrev pub front : (new old : List ℕ) → List ℕ
-front new old = new ++ drop (length new) old
-
 -- what a buffer holds afterwards: the new numbers, or what it held where the answer is a refusal
 abbrev pub left : Outcome ℕ → (new old : List ℕ) → List ℕ
-left (gives n) new old = front new old
+left (gives n) new old = atFront new old
 left (refused n) new old = old
 
 -- what writing the strides owes

@@ -11,7 +11,8 @@ ghost use lib.ListN.{length};
 ghost use Rattle.dtype.specs.Shape.{strides};
 ghost use Rattle.dtype.specs.Limits.{overShape};
 ghost use Rattle.shape.specs.Answer.{counted};
-ghost use Rattle.shape.specs.Count.{itemCount, Writes, front};
+ghost use Rattle.counts.specs.Front.{atFront};
+ghost use Rattle.shape.specs.Count.{itemCount, Writes};
 ghost use Rattle.shape.specs.Visit.{visited};
 
 // The strides were written, and this is the item count; or 22; or 23.
@@ -55,7 +56,7 @@ pub fn strides(shape: &[u64], order: Order, out: &mut [u64]) -> StridesWritten
 // Each stride is the product of the dimensions visited before.
 fn fill(shape: &[u64], order: Order, out: &mut [u64])
     requires { ⌜ (length (now shape) ≤ length (now out)) × (overShape order (now shape) ≡ false) ⌝ }
-    ensures { λ r. ⌜ now (out .exit) ≡ front (strides order (now (shape .entry))) (now (out .entry)) ⌝ }
+    ensures { λ r. ⌜ now (out .exit) ≡ atFront (strides order (now (shape .entry))) (now (out .entry)) ⌝ }
 {
     let mut stride: u64 = 1;
     let mut k: usize = 0;

@@ -40,5 +40,5 @@ negative-over x m h e = let b = number-over-back m (sym e ∙ h) in more-than-ze
 pub zero-behind : (x : Number) (n : ℕ) → x ≡ Is n → n ≡ 0 → member.Member.Is 0 ≡ negativeOf x
 zero-behind x n h z = ap (λ (k : ℕ). negativeOf (Is k)) (sym z) ∙ ap negativeOf (sym h)
 
-pub more-behind : (x : Number) (n : ℕ) → x ≡ Is n → (n ≡ 0 → ⊥) → member.Member.Form ≡ negativeOf x
-more-behind x n h nz = sym (ap (λ (b : Bool). cond b (member.Member.Is 0) member.Member.Form) (ne-eqb n 0 nz)) ∙ ap negativeOf (sym h)
+pub more-behind : (x : Number) (n : ℕ) → x ≡ Is n → (n ≡ 0 → ⊥) → member.Member.NotShape ≡ negativeOf x
+more-behind x n h nz = sym (ap (λ (b : Bool). cond b (member.Member.Is 0) member.Member.NotShape) (ne-eqb n 0 nz)) ∙ ap negativeOf (sym h)

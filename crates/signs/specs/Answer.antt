@@ -9,8 +9,8 @@ use Rattle.products.specs.declared.Member.{Member}
 
 abbrev pub positiveOf : Number → Member
 positiveOf (Is n) = member.Member.Is n
-positiveOf Over = member.Member.Large
+positiveOf Over = member.Member.LargeDimension
 
 abbrev pub negativeOf : Number → Member
-negativeOf (Is n) = cond (eqb n 0) (member.Member.Is 0) member.Member.Form
-negativeOf Over = member.Member.Form
+negativeOf (Is n) = cond (eqb n 0) (member.Member.Is 0) member.Member.NotShape
+negativeOf Over = member.Member.NotShape

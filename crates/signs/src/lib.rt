@@ -17,7 +17,7 @@ pub fn positive(n: Number) -> Member
 {
     match n {
         Number::Is(n) => Member::Is(n),
-        Number::Over => Member::Large,
+        Number::Over => Member::LargeDimension,
     }
 }
 
@@ -27,7 +27,13 @@ pub fn negative(n: Number) -> Member
     ensures { λ r. ⌜ r ≡ negativeOf n ⌝ }
 {
     match n {
-        Number::Is(n) => { if n == 0 { Member::Is(0) } else { Member::Form } }
-        Number::Over => Member::Form,
+        Number::Is(n) => {
+            if n == 0 {
+                Member::Is(0)
+            } else {
+                Member::NotShape
+            }
+        }
+        Number::Over => Member::NotShape,
     }
 }

@@ -40,7 +40,7 @@ points-same PointsRead.Room = refl
 
 wrote-back : Outcome ℕ → Wrote
 wrote-back (gives n) = Wrote.Written (record { 0 = n })
-wrote-back (refused n) = cond (eqb n 27) Wrote.NoType (cond (eqb n 26) Wrote.NoString (cond (eqb n 29) Wrote.BadScalar (cond (eqb n 30) Wrote.NoFit Wrote.Room)))
+wrote-back (refused n) = cond (eqb n 27) Wrote.NoType (cond (eqb n 26) Wrote.NoString (cond (eqb n 29) Wrote.BadScalar (cond (eqb n 30) Wrote.NoFit Wrote.OutputRoom)))
 
 wrote-same : (r : Wrote) → wrote-back (wroteAnswer r) ≡ r
 unfolding wrote-back
@@ -49,7 +49,7 @@ wrote-same Wrote.NoType = refl
 wrote-same Wrote.NoString = refl
 wrote-same Wrote.BadScalar = refl
 wrote-same Wrote.NoFit = refl
-wrote-same Wrote.Room = refl
+wrote-same Wrote.OutputRoom = refl
 
 pub read-bytes-one : (t : TypeStr) (run room : List ℕ) → OneOutcome {A = BytesRead × List ℕ} (λ r. Owes (readBytes t run room) room (bytesAnswer (r .0)) (r .1))
 read-bytes-one t run room = owes-one bytesAnswer bytes-back bytes-same (readBytes t run room) room

@@ -25,4 +25,4 @@ wroteAnswer Wrote.NoType = refused 27
 wroteAnswer Wrote.NoString = refused 26
 wroteAnswer Wrote.BadScalar = refused 29
 wroteAnswer Wrote.NoFit = refused 30
-wroteAnswer Wrote.Room = refused 28
+wroteAnswer Wrote.OutputRoom = refused 28

@@ -44,7 +44,7 @@ pub enum Wrote {
     NoString,
     BadScalar,
     NoFit,
-    Room,
+    OutputRoom,
 }
 
 fn kind_of(letter: TypeChar) -> Kind
@@ -168,7 +168,7 @@ fn place_bytes(size: u64, value: &[u8], out: &mut [u8]) -> Wrote
     ensures { λ r. ⌜ Owes (roomed 28 (now (out .entry)) (filled size (now (value .entry)))) (now (out .entry)) (wroteAnswer r) (now (out .exit)) ⌝ }
 {
     if (out.len() as u64) < size {
-        return Wrote::Room;
+        return Wrote::OutputRoom;
     }
     put_filled(out, size, value);
     Wrote::Written(Bytes(size))
@@ -222,10 +222,10 @@ fn place_points(order: Endianness, size: Points, value: &[u32], out: &mut [u8]) 
     ensures { λ r. ⌜ Owes (roomed 28 (now (out .entry)) (pointBytes order (filled (size .0) (now (value .entry))) [])) (now (out .entry)) (wroteAnswer r) (now (out .exit)) ⌝ }
 {
     let ByteCount::Is(bytes) = size.in_bytes() else {
-        return Wrote::Room;
+        return Wrote::OutputRoom;
     };
     if (out.len() as u64) < bytes.0 {
-        return Wrote::Room;
+        return Wrote::OutputRoom;
     }
     put_points(out, order, size, value);
     Wrote::Written(bytes)

@@ -18,7 +18,7 @@ use Rattle.grammar.specs.Value.{Values}
 use Rattle.counts.proofs.Alike.{or-none}
 use Rattle.record.specs.Parts.{membersOr}
 use Rattle.record.specs.Dimensions.{dimension, dimensions}
-use Rattle.record.specs.Rooms.{atFront}
+use Rattle.counts.specs.Front.{atFront}
 use Rattle.tokens.specs.Node.{Node}
 use Rattle.classes.specs.Got.{Got, got, fault, deep, pos}
 use Rattle.literal.specs.Answer.{place}
@@ -144,8 +144,8 @@ module _ (k : ℕ) (s : List ℕ) (close from : ℕ) (old out : List ℕ) (g : G
 
       none-by : (x : Member) → d ≡ x → OneOf (1 ∷ 2 ∷ []) (tagOf the-type x) → (frontFrom (value k s) s close (w .bound) (Item p) ≡ []) × (stopFrom (value k s) s close (w .bound) (Item p) ≡ Item p)
       none-by (member.Member.Is n) h o = absurd (miss (1 ∷ 2 ∷ []) 0 tt o)
-      none-by member.Member.Form h o = refused-here 11 (sym size ∙ ap sized h)
-      none-by member.Member.Large h o = refused-here 12 (sym size ∙ ap sized h)
+      none-by member.Member.NotShape h o = refused-here 11 (sym size ∙ ap sized h)
+      none-by member.Member.LargeDimension h o = refused-here 12 (sym size ∙ ap sized h)
 
       pub filling-none : OneOf (1 ∷ 2 ∷ []) (tagOf the-type d) → Stored (frontIn k s from close) (stopIn k s from close) old (record { rank = i; stop = Item p }) out
       filling-none o = at-item p hp (none-by d refl o)

@@ -71,6 +71,6 @@ pub record Stored (ns : List ℕ) (g : Gap) (out : List ℕ) (r : Filled) (out�
   pub stopped : r .stop ≡ g
   pub out-after : out′ ≡ sets out 0 ns
 
--- what storing a shape owes
+-- what follows of a value that is a shape (`stored-shape`, proofs/Stored.antt)
 abbrev pub Fills : Got Node → (out : List ℕ) (r : Filled) (out′ : List ℕ) → Type 0
 Fills g out r out′ = (ns : List ℕ) → dimensionsAt g ≡ gives ns → Stored ns (Shut (place (pos g))) out r out′

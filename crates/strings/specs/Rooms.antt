@@ -3,11 +3,12 @@
 -- reading is counted in code points, every other in bytes. Definitions only. Assumes nothing.
 use Prim.Native.Nat.{ℕ}
 use mathlib.Core.Path.{_≡_}
-use mathlib.Core.List.{List, _++_}
+use mathlib.Core.List.{List}
 use mathlib.Core.Bool.{not}
 use lib.Dec.{ltb}
-use lib.ListN.{length, drop}
+use lib.ListN.{length}
 use Rattle.counts.specs.Outcome.{Outcome, gives, refused, then, each, unless}
+use Rattle.counts.specs.Front.{atFront}
 use Rattle.type_str.specs.Text.{isType}
 use Rattle.type_str.specs.declared.TypeStr.{TypeStr}
 use Rattle.strings.specs.Elements.{kindOf, bytesIn, pointsIn}
@@ -19,7 +20,7 @@ roomed n room content = unless (ltb (length room) (length content)) n (gives con
 
 -- what the room then holds: the content at its front and the rest as it was; after a refusal all as it was
 abbrev pub after : (room : List ℕ) → Outcome (List ℕ) → List ℕ
-after room (gives content) = content ++ drop (length content) room
+after room (gives content) = atFront content room
 after room (refused n) = room
 
 -- ---- the four functions: what goes to the room, or the first refusal

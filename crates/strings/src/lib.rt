@@ -1,5 +1,5 @@
 // What string elements stand for (document 01, "String elements"): the run of one element is all its bytes, as its place in a file gives them. The crate's matter is
-// in specs/ (definitions) and proofs/ (laws, the round trips); the functions that read and write are in the crate slice. No public function has a `requires`.
+// in specs/ (definitions) and proofs/ (laws, the round trips); the functions that read and write are in the crate slice. No function here has a `requires`.
 ghost use mathlib.Core.Path.{_≡_};
 ghost use lib.ListN.{length};
 ghost use Rattle.strings.specs.Elements.{trimmed};

@@ -10,7 +10,7 @@ use Rattle.dtype.specs.Dtype.{Dtype, plain, array, record-of, sizeOf}
 use Rattle.dtype.specs.Entries.{entriesOf, hasObject}
 use Rattle.dtype.specs.Names.{nameBytes}
 use Rattle.dtype.specs.Limits.{over, someOver, overEntries, overLevels, overSize}
-use Rattle.sums.specs.Totals.{capped, totalsOf}
+use Rattle.sums.specs.Totals.{atMost, totalsOf}
 use Rattle.sums.proofs.Sums.{over-not}
 
 -- an entry counts itself
@@ -20,16 +20,16 @@ own-over (array n d) h = rw h
 own-over (record-of fs) h = rw h
 
 -- a cap that is past a limit does not matter to the limit's test
-cap-test : (m n : ℕ) → ltb m (capped (m + 1) n) ≡ ltb m n
+cap-test : (m n : ℕ) → ltb m (atMost (m + 1) n) ≡ ltb m n
 cap-test m n = go (ltb m n) refl
   where
-    go : (t : Bool) → ltb m n ≡ t → ltb m (capped (m + 1) n) ≡ t
+    go : (t : Bool) → ltb m n ≡ t → ltb m (atMost (m + 1) n) ≡ t
     go true h =
         let lt = ltb-true m n h in
-        lt-ltb m (capped (m + 1) n) (omega arith)
+        lt-ltb m (atMost (m + 1) n) (omega arith)
     go false h =
         let le = ltb-false m n h in
-        le-ltb m (capped (m + 1) n) (omega arith)
+        le-ltb m (atMost (m + 1) n) (omega arith)
 
 module _ (d : Dtype) where
   -- 13

@@ -22,7 +22,7 @@ use Rattle.letters.specs.Classes.{isObject}
 use Rattle.dtype.specs.Dtype.{plain}
 use Rattle.dtype.specs.Limits.{over}
 use Rattle.sums.specs.declared.Totals.{Totals}
-use Rattle.sums.specs.Totals.{capped, largest, totalsOf}
+use Rattle.sums.specs.Totals.{atMost, largest, totalsOf}
 use Rattle.sums.proofs.Sums.{totals-eq, over-not}
 
 abbrev pub plainTotals : TypeBytes → Totals
@@ -44,10 +44,10 @@ object-byte UnicodeStr = refl
 object-byte Object = refl
 object-byte RawData = refl
 
-plain-sized : (n : ℕ) → plainTotals (countedBytes (bytes (number n))) ≡ record { entries = 1; names = 0; object = false; wide = false; over = over n; size = capped largest n }
+plain-sized : (n : ℕ) → plainTotals (countedBytes (bytes (number n))) ≡ record { entries = 1; names = 0; object = false; wide = false; over = over n; size = atMost largest n }
 plain-sized n = go (over n) refl
   where
-    go : (t : Bool) → over n ≡ t → plainTotals (countedBytes (bytes (number n))) ≡ record { entries = 1; names = 0; object = false; wide = false; over = over n; size = capped largest n }
+    go : (t : Bool) → over n ≡ t → plainTotals (countedBytes (bytes (number n))) ≡ record { entries = 1; names = 0; object = false; wide = false; over = over n; size = atMost largest n }
     go true h =
         let le = leb-true (2 ^ 64) n h in
         ap (λ (x : Number). plainTotals (countedBytes (bytes x))) (number-over n le) ∙ totals-eq refl refl refl refl (sym h) (omega arith)
@@ -68,8 +68,8 @@ pub plain-totals : (t : TypeStr) → plainTotals (numBytes t) ≡ totalsOf (plai
 plain-totals t = go (isObject (t .letter)) refl
   where
     of-bytes : (o : Bool) → byte.isObject (letterByte (t .letter)) ≡ o → (n : ℕ) → plainBytes t ≡ n
-        → record { entries = 1; names = 0; object = o; wide = false; over = over n; size = capped largest n } ≡ totalsOf (plain t)
-    of-bytes o ho n hn = totals-eq refl refl (sym ho) refl (ap over (sym hn)) (ap (λ (x : ℕ). capped largest x) (sym hn))
+        → record { entries = 1; names = 0; object = o; wide = false; over = over n; size = atMost largest n } ≡ totalsOf (plain t)
+    of-bytes o ho n hn = totals-eq refl refl (sym ho) refl (ap over (sym hn)) (ap (λ (x : ℕ). atMost largest x) (sym hn))
 
     go : (o : Bool) → isObject (t .letter) ≡ o → plainTotals (numBytes t) ≡ totalsOf (plain t)
     go true h = ap plainTotals (object-bytes t h .0) ∙ of-bytes true (object-byte (t .letter) ∙ h) 0 (plain-bytes-type t ∙ object-bytes t h .1)

@@ -11,7 +11,7 @@ use Rattle.counts.specs.Number.{number}
 use Rattle.counts.proofs.Fits.{number-is, number-over}
 use Rattle.dtype.specs.Limits.{over}
 use Rattle.sums.specs.declared.Totals.{Totals}
-use Rattle.sums.specs.Totals.{capped, largest, saturated, isOver, nothing, together}
+use Rattle.sums.specs.Totals.{atMost, largest, heldNumber, isOver, nothing, together}
 use Rattle.sums.specs.Verdict.{both}
 
 pub totals-eq : {e e′ n n′ z z′ : ℕ} {o o′ w w′ v v′ : Bool} → e ≡ e′ → n ≡ n′ → o ≡ o′ → w ≡ w′ → v ≡ v′ → z ≡ z′
@@ -51,48 +51,48 @@ module _ (n : ℕ) where
       go true h = let lt = ltb-true n (2 ^ 64) h in ap isOver (number-is n lt) ∙ sym (over-never n lt)
       go false h = let le = ltb-false n (2 ^ 64) h in ap isOver (number-over n le) ∙ sym (over-is n le)
 
-  pub saturated-number : saturated (number n) ≡ capped largest n
-  saturated-number = go (ltb n (2 ^ 64)) refl
+  pub held-number : heldNumber (number n) ≡ atMost largest n
+  held-number = go (ltb n (2 ^ 64)) refl
     where
-      go : (t : Bool) → ltb n (2 ^ 64) ≡ t → saturated (number n) ≡ capped largest n
-      go true h = let lt = ltb-true n (2 ^ 64) h in ap saturated (number-is n lt) ∙ omega arith
-      go false h = let le = ltb-false n (2 ^ 64) h in ap saturated (number-over n le) ∙ omega arith
+      go : (t : Bool) → ltb n (2 ^ 64) ≡ t → heldNumber (number n) ≡ atMost largest n
+      go true h = let lt = ltb-true n (2 ^ 64) h in ap heldNumber (number-is n lt) ∙ omega arith
+      go false h = let le = ltb-false n (2 ^ 64) h in ap heldNumber (number-over n le) ∙ omega arith
 
 -- ---- caps
-pub cap-assoc : (m a b c : ℕ) → capped m (capped m (a + b) + c) ≡ capped m (a + capped m (b + c))
+pub cap-assoc : (m a b c : ℕ) → atMost m (atMost m (a + b) + c) ≡ atMost m (a + atMost m (b + c))
 cap-assoc m a b c = omega arith
 
-pub cap-again : (m n : ℕ) → capped m (capped m n + 0) ≡ capped m n
+pub cap-again : (m n : ℕ) → atMost m (atMost m n + 0) ≡ atMost m n
 cap-again m n = omega arith
 
-pub cap-front : (m n : ℕ) → capped m (0 + capped m n) ≡ capped m n
+pub cap-front : (m n : ℕ) → atMost m (0 + atMost m n) ≡ atMost m n
 cap-front m n = omega arith
 
 -- what is capped is not over
-pub over-sum : (n : ℕ) → over (capped largest n + 0) ≡ false
-over-sum n = over-never (capped largest n + 0) (omega arith)
+pub over-sum : (n : ℕ) → over (atMost largest n + 0) ≡ false
+over-sum n = over-never (atMost largest n + 0) (omega arith)
 
-over-left : (a c : ℕ) → (over a || over (capped largest a + c)) ≡ over (a + c)
+over-left : (a c : ℕ) → (over a || over (atMost largest a + c)) ≡ over (a + c)
 over-left a c = go (over a) refl
   where
-    go : (t : Bool) → over a ≡ t → (t || over (capped largest a + c)) ≡ over (a + c)
+    go : (t : Bool) → over a ≡ t → (t || over (atMost largest a + c)) ≡ over (a + c)
     go true h = sym (over-more a (a + c) (omega arith) h)
     go false h =
         let lt = over-not a h in
-        let e : capped largest a + c ≡ a + c = omega arith in
+        let e : atMost largest a + c ≡ a + c = omega arith in
         ap over e
 
-over-right : (a c : ℕ) → (over c || over (a + capped largest c)) ≡ over (a + c)
+over-right : (a c : ℕ) → (over c || over (a + atMost largest c)) ≡ over (a + c)
 over-right a c = go (over c) refl
   where
-    go : (t : Bool) → over c ≡ t → (t || over (a + capped largest c)) ≡ over (a + c)
+    go : (t : Bool) → over c ≡ t → (t || over (a + atMost largest c)) ≡ over (a + c)
     go true h = sym (over-more c (a + c) (omega arith) h)
     go false h =
         let lt = over-not c h in
-        let e : a + capped largest c ≡ a + c = omega arith in
+        let e : a + atMost largest c ≡ a + c = omega arith in
         ap over e
 
-over-either : (a b c : ℕ) → (over (a + b) || over (capped largest (a + b) + c)) ≡ (over (b + c) || over (a + capped largest (b + c)))
+over-either : (a b c : ℕ) → (over (a + b) || over (atMost largest (a + b) + c)) ≡ (over (b + c) || over (a + atMost largest (b + c)))
 over-either a b c =
     let e : a + b + c ≡ a + (b + c) = omega arith in
     over-left (a + b) c ∙ (ap over e ∙ sym (over-right a (b + c)))

@@ -20,39 +20,39 @@ use Rattle.sums.specs.declared.Totals.{Totals}
 pub use Rattle.products.specs.Outline.{isOver, largestIn}
 
 -- the lesser of the two
-abbrev pub capped : (most n : ℕ) → ℕ
-capped most n = min most n
+abbrev pub atMost : (most n : ℕ) → ℕ
+atMost most n = min most n
 
 -- the number of a u64, the largest where it is over
 abbrev pub largest : ℕ
 largest = 18446744073709551615
 
-abbrev pub saturated : Number → ℕ
-saturated (Is n) = n
-saturated Over = largest
+abbrev pub heldNumber : Number → ℕ
+heldNumber (Is n) = n
+heldNumber Over = largest
 
 -- of a dtype
 abbrev pub totalsOf : Dtype → Totals
 totalsOf d =
     record {
-      entries = capped 513 (entriesOf d);
-      names = capped 65537 (nameBytes d);
+      entries = atMost 513 (entriesOf d);
+      names = atMost 65537 (nameBytes d);
       object = hasObject d;
       wide = overLevels d;
       over = someOver d;
-      size = capped largest (sizeOf d);
+      size = atMost largest (sizeOf d);
     }
 
 -- of fields, as they add up to their record's
 abbrev pub totalsIn : Fields → Totals
 totalsIn fs =
     record {
-      entries = capped 513 (entriesIn fs);
-      names = capped 65537 (nameBytesIn fs);
+      entries = atMost 513 (entriesIn fs);
+      names = atMost 65537 (nameBytesIn fs);
       object = someEntryIn (plainOnly (λ t. isObject (letterByte (t .letter)))) fs;
       wide = someEntryIn (λ e. ltb 32 (levels e)) fs;
       over = someEntryIn (λ e. over (sizeOf e)) fs || over (sizesOf fs);
-      size = capped largest (sizesOf fs);
+      size = atMost largest (sizesOf fs);
     }
 
 -- of no field, of a record's own entry, and of a name of so many bytes
@@ -63,18 +63,18 @@ abbrev pub oneEntry : Totals
 oneEntry = record { entries = 1; names = 0; object = false; wide = false; over = false; size = 0 }
 
 abbrev pub nameTotals : ℕ → Totals
-nameTotals n = record { entries = 0; names = capped 65537 n; object = false; wide = false; over = false; size = 0 }
+nameTotals n = record { entries = 0; names = atMost 65537 n; object = false; wide = false; over = false; size = 0 }
 
 -- of two, one behind the other
 unfoldable pub together : Totals → Totals → Totals
 together t u =
     record {
-      entries = capped 513 (t .entries + u .entries);
-      names = capped 65537 (t .names + u .names);
+      entries = atMost 513 (t .entries + u .entries);
+      names = atMost 65537 (t .names + u .names);
       object = t .object || u .object;
       wide = t .wide || u .wide;
       over = (t .over || u .over) || over (t .size + u .size);
-      size = capped largest (t .size + u .size);
+      size = atMost largest (t .size + u .size);
     }
 
 -- of a field: its name, and then its type
@@ -85,10 +85,10 @@ fieldTotals f = together (nameTotals (length (f .name))) (totalsOf (f .type))
 unfoldable pub arrayed : Outline → Totals → Totals
 arrayed o t =
     record {
-      entries = capped 513 (o .rank + t .entries);
+      entries = atMost 513 (o .rank + t .entries);
       names = t .names;
       object = t .object;
       wide = ltb 32 (o .rank) || t .wide;
       over = isOver (largestIn o (t .size)) || t .over;
-      size = cond (o .empty) 0 (saturated (largestIn o (t .size)));
+      size = cond (o .empty) 0 (heldNumber (largestIn o (t .size)));
     }

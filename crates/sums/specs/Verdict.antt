@@ -1,24 +1,12 @@
 -- What each verdict stands for: document 01's number, or the totals. 11 "shape or sub-shape not a list or tuple; member not an integer, or negative", 12
 -- "dimension over 2^64-1", 14 "descr or field of wrong form", 15 to 19 "type string: syntax, size over 2^64-1, byte order, size, units". That no two
 -- verdicts stand for the same is proofs/Outcomes.antt. Definitions only. Assumes nothing.
-use Prim.Native.Nat.{ℕ}
 use Rattle.counts.specs.Outcome.{Outcome, gives, refused, then, each}
+use Rattle.refusal.specs.Numbers.{numberOf}
 use Rattle.sums.specs.declared.Totals.{Totals}
-use Rattle.sums.specs.declared.Rule.{Rule}
-use Rattle.sums.specs.declared.Rule.the-variants.{Shape, Dimension, Form, Syntax, TooLarge, ByteOrder, Size, Units}
 use Rattle.sums.specs.declared.Verdict.{Verdict}
 use Rattle.sums.specs.declared.Verdict.the-variants.{Fits, Bad}
 use Rattle.sums.specs.Totals.{together}
-
-abbrev pub numberOf : Rule → ℕ
-numberOf Shape = 11
-numberOf Dimension = 12
-numberOf Form = 14
-numberOf Syntax = 15
-numberOf TooLarge = 16
-numberOf ByteOrder = 17
-numberOf Size = 18
-numberOf Units = 19
 
 abbrev pub verdict : Verdict → Outcome Totals
 verdict (Fits t) = gives t

@@ -6,6 +6,7 @@ use counts::sum;
 use products::Outline;
 use products::is_over;
 use products::largest;
+use refusal::Refusal;
 use type_str::TypeBytes;
 use type_str::TypeRead;
 use type_str::TypeStr;
@@ -16,7 +17,7 @@ ghost use Rattle.counts.specs.Outcome.{each, then};
 ghost use Rattle.dtype.specs.Dtype.{plain as plainType};
 ghost use Rattle.type_str.specs.Answer.{answer};
 ghost use Rattle.products.specs.Answer.{outlined};
-ghost use Rattle.sums.specs.Totals.{capped, saturated, together, arrayed as arrayedBy, totalsOf, nameTotals};
+ghost use Rattle.sums.specs.Totals.{atMost, heldNumber, together, arrayed as arrayedBy, totalsOf, nameTotals};
 ghost use Rattle.sums.specs.Verdict.{verdict, both};
 
 // How much a dtype, a field, some fields or a name comes to.
@@ -35,26 +36,15 @@ pub struct Totals {
     pub size: u64,
 }
 
-// The rules that a descr can break, 11, 12 and 14 to 19.
-pub enum Rule {
-    Shape,
-    Dimension,
-    Form,
-    Syntax,
-    TooLarge,
-    ByteOrder,
-    Size,
-    Units,
-}
-
+// The totals; or 11, 12, 14 to 19.
 pub enum Verdict {
     Fits(Totals),
-    Bad(Rule),
+    Bad(Refusal),
 }
 
 // A sum that is not told apart past `most`.
 fn add(a: u64, b: u64, most: u64) -> u64
-    ensures { λ r. ⌜ r ≡ capped most (a + b) ⌝ }
+    ensures { λ r. ⌜ r ≡ atMost most (a + b) ⌝ }
 {
     let n = sum(a, b);
     match n {
@@ -64,7 +54,7 @@ fn add(a: u64, b: u64, most: u64) -> u64
 }
 
 fn held(n: Number) -> u64
-    ensures { λ r. ⌜ r ≡ saturated n ⌝ }
+    ensures { λ r. ⌜ r ≡ heldNumber n ⌝ }
 {
     match n {
         Number::Is(n) => n,
@@ -129,8 +119,8 @@ pub fn shaped(of: Verdict, shape: products::Verdict) -> Verdict
     };
     match shape {
         products::Verdict::Good(o) => Verdict::Fits(arrays(o, t)),
-        products::Verdict::Form => Verdict::Bad(Rule::Shape),
-        products::Verdict::Large => Verdict::Bad(Rule::Dimension),
+        products::Verdict::NotShape => Verdict::Bad(Refusal::NotShape),
+        products::Verdict::LargeDimension => Verdict::Bad(Refusal::LargeDimension),
     }
 }
 
@@ -172,11 +162,11 @@ pub fn typed(t: TypeRead) -> Verdict
 {
     match t {
         TypeRead::Read(t) => Verdict::Fits(plain(t)),
-        TypeRead::Syntax => Verdict::Bad(Rule::Syntax),
-        TypeRead::TooLarge => Verdict::Bad(Rule::TooLarge),
-        TypeRead::ByteOrder => Verdict::Bad(Rule::ByteOrder),
-        TypeRead::Size => Verdict::Bad(Rule::Size),
-        TypeRead::Units => Verdict::Bad(Rule::Units),
+        TypeRead::Syntax => Verdict::Bad(Refusal::Syntax),
+        TypeRead::LargeNumber => Verdict::Bad(Refusal::LargeNumber),
+        TypeRead::ByteOrder => Verdict::Bad(Refusal::ByteOrder),
+        TypeRead::TypeSize => Verdict::Bad(Refusal::TypeSize),
+        TypeRead::Units => Verdict::Bad(Refusal::Units),
     }
 }
 

@@ -1,5 +1,5 @@
 // A caller's record: the check that every function over a record makes first (document 01, "The refusal numbers": 27, 13, 20, 21, 22, in this order). No
-// public function here has a `requires`. What each answer stands for is in specs/Answer.antt.
+// function here has a `requires`. What each answer stands for is in specs/Answer.antt.
 use counts::ItemCount;
 use counts::Items;
 use dtype::Order;

@@ -19,7 +19,7 @@ pub fn tell_print(a: TypePrint, said: &mut [u64; 1]) -> u8
             0
         }
         TypePrint::NoType => 27,
-        TypePrint::Room => 28,
+        TypePrint::OutputRoom => 28,
     }
 }
 
@@ -38,7 +38,7 @@ pub fn tell_written(a: Written, said: &mut [u64; 1]) -> u8
         Written::Shape => 22,
         Written::Deep => 7,
         Written::Long => 4,
-        Written::Room => 28,
+        Written::OutputRoom => 28,
     }
 }
 
@@ -66,6 +66,6 @@ pub fn tell_wrote(a: Wrote, said: &mut [u64; 1]) -> u8
         Wrote::NoString => 26,
         Wrote::BadScalar => 29,
         Wrote::NoFit => 30,
-        Wrote::Room => 28,
+        Wrote::OutputRoom => 28,
     }
 }

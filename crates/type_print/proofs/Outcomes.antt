@@ -17,13 +17,13 @@ use Rattle.type_print.specs.declared.TypePrint.{TypePrint}
 -- the answer that stands for an outcome
 print-back : Outcome ℕ → TypePrint
 print-back (gives n) = TypePrint.Printed n
-print-back (refused n) = cond (eqb n 27) TypePrint.NoType TypePrint.Room
+print-back (refused n) = cond (eqb n 27) TypePrint.NoType TypePrint.OutputRoom
 
 print-same : (r : TypePrint) → print-back (printAnswer r) ≡ r
 unfolding print-back
 print-same (TypePrint.Printed n) = refl
 print-same TypePrint.NoType = refl
-print-same TypePrint.Room = refl
+print-same TypePrint.OutputRoom = refl
 
 pub print-one : (t : TypeStr) (room : List ℕ) → OneOutcome {A = TypePrint × List ℕ} (λ r. Prints t room (r .0) (r .1))
 print-one t room x y p q =

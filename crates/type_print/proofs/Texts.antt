@@ -15,7 +15,7 @@ use Rattle.letters.specs.Classes.{isObject}
 use Rattle.type_str.specs.Text.{typeText, isType, typePrinted, typePlaced}
 use Rattle.type_str.specs.declared.TypeStr.{TypeStr}
 use Rattle.type_print.specs.Printed.{Prints}
-use Rattle.type_print.specs.declared.TypePrint.the-variants.{Printed, NoType, Room}
+use Rattle.type_print.specs.declared.TypePrint.the-variants.{Printed, NoType, OutputRoom}
 
 -- ---- a type
 module _ (t : TypeStr) (old : List ℕ) (at : ℕ) (mid₁ : List ℕ) (p₁ : ℕ) (mid₂ : List ℕ) (p₂ : ℕ) (a : Emits (λ x. orderByte (t .order) ∷ x) old at mid₁ p₁) (b : Emits (λ x. letterByte (t .letter) ∷ x) mid₁ p₁ mid₂ p₂) where
@@ -42,7 +42,7 @@ unfolding typePrinted typePlaced
 prints-none t room h = record { answered = rw (typePrinted, h); room-after = rw (typePlaced, h) }
 
 module _ (t : TypeStr) (scratch mid : List ℕ) (n : ℕ) (room : List ℕ) (fits : n < 2 ^ 64) (small : length room < 2 ^ 64 - 1) (h : isType t ≡ true) (measured : Emits (typeText t) scratch 0 mid n) where
-  pub prints-short : length room < n → Prints t room Room room
+  pub prints-short : length room < n → Prints t room OutputRoom room
   unfolding typePrinted typePlaced
   prints-short lt =
       let w = written-short (typeText t) scratch mid n room fits small measured lt in

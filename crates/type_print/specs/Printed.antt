@@ -11,7 +11,7 @@ use Rattle.type_print.specs.declared.TypePrint.{TypePrint}
 abbrev pub printAnswer : TypePrint → Outcome ℕ
 printAnswer (TypePrint.Printed n) = gives n
 printAnswer TypePrint.NoType = refused 27
-printAnswer TypePrint.Room = refused 28
+printAnswer TypePrint.OutputRoom = refused 28
 
 -- printing owes the answer and the room
 pub record Prints (t : TypeStr) (room : List ℕ) (r : TypePrint) (room′ : List ℕ) : Type 0 where

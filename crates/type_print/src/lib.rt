@@ -9,7 +9,7 @@ ghost use Rattle.type_print.specs.Printed.{Prints};
 pub enum TypePrint {
     Printed(usize),
     NoType,
-    Room,
+    OutputRoom,
 }
 
 // The type string behind what was written so far. Any type has a text, also one that no type string gives.
@@ -38,7 +38,7 @@ pub fn print(t: TypeStr, out: &mut [u8]) -> TypePrint
     let mut scratch = [0u8; 1];
     let n = put(t, &mut scratch, 0);
     if out.len() < n {
-        return TypePrint::Room;
+        return TypePrint::OutputRoom;
     }
     put(t, out, 0);
     TypePrint::Printed(n)

@@ -9,7 +9,7 @@ use mathlib.Core.List.{List, [], _∷_}
 use lib.ListN.{length, drop}
 use lib.Dec.{leb, eqb}
 use borrow.Author.Tests.{eqb-true}
-use Rattle.counts.specs.Outcome.{Outcome, gives, refused, then, each, unless}
+use Rattle.counts.specs.Outcome.{Outcome, gives, refused, then, each, unless, given}
 use Rattle.counts.proofs.Alike.{true-false, and-left, and-right}
 use Rattle.counts.proofs.Holds.{Holds, unless-holds, holds-of}
 use Rattle.decimal.specs.Decimal.{isDigit, digitsOf, afterDigits, decimal, decimalFrom, printed}
@@ -19,8 +19,8 @@ use Rattle.letters.specs.Spelling.{letterOf}
 use Rattle.units.specs.Units.{unitText, unitsOf}
 use Rattle.letters.specs.Classes.{isObject}
 use Rattle.rules.specs.Rules.{allows}
-use Rattle.type_str.specs.TypeString.{none, sizeStands, sized, sizedBy, syntax, lacksOrder, misplacesUnits, validated, checked, typeString}
-use Rattle.type_str.specs.Text.{sizeText, typeText, passes, isType}
+use Rattle.type_str.specs.TypeString.{noDigits, sizeStands, sized, sizedBy, syntax, lacksOrder, misplacesUnits, validated, checked, typeString}
+use Rattle.type_str.specs.Text.{sizeText, typeText, isType}
 use Rattle.byte_orders.proofs.Tables.{order-spelled}
 use Rattle.letters.proofs.Tables.{letter-spelled}
 use Rattle.units_read.proofs.Tables.{units-spelled}
@@ -49,7 +49,7 @@ units-stop Picosecond = refl
 units-stop Femtosecond = refl
 units-stop Attosecond = refl
 
-none-of-some : (ds : List ℕ) → 0 < length ds → none ds ≡ false
+none-of-some : (ds : List ℕ) → 0 < length ds → noDigits ds ≡ false
 none-of-some [] h = absurd (omega arith)
 none-of-some (d ∷ ds) h = refl
 
@@ -83,12 +83,12 @@ syntax-back : (t : TypeStr) → cond (isObject (t .letter)) (eqb (t .size) 0) tr
 unfolding syntax typeText
 syntax-back t h = rw (syntax, order-spelled (t .order), letter-spelled (t .letter)) (sized-back (t .order) (t .letter) (t .size) (t .units) h)
 
--- what passes the checks is given as it is
-unless-passes : (b : Bool) (n : ℕ) (o : Outcome TypeStr) (t : TypeStr) → (passes o ≡ true → o ≡ gives t) → passes (unless b n o) ≡ true → unless b n o ≡ gives t
+-- what given the checks is given as it is
+unless-passes : (b : Bool) (n : ℕ) (o : Outcome TypeStr) (t : TypeStr) → (given o ≡ true → o ≡ gives t) → given (unless b n o) ≡ true → unless b n o ≡ gives t
 unless-passes true n o t k h = true-false (sym h)
 unless-passes false n o t k h = k h
 
-pub checked-passes : (t : TypeStr) → passes (checked t) ≡ true → checked t ≡ gives t
+pub checked-passes : (t : TypeStr) → given (checked t) ≡ true → checked t ≡ gives t
 unfolding checked validated
 checked-passes t =
     unless-passes (leb (2 ^ 64) (t .size)) 16 (validated t) t
@@ -98,13 +98,13 @@ checked-passes t =
 pub print-parse : (t : TypeStr) → isType t ≡ true → typeString (typeText t []) ≡ gives t
 unfolding typeString isType
 print-parse t h =
-    rw (typeString, syntax-back t (and-right (passes (checked t)) _ h)) (checked-passes t (and-left (passes (checked t)) _ h))
+    rw (typeString, syntax-back t (and-right (given (checked t)) _ h)) (checked-passes t (and-left (given (checked t)) _ h))
 
 -- ---- from a text to a type that may be printed
 abbrev Bare : TypeStr → Type 0
 Bare t = cond (isObject (t .letter)) (eqb (t .size) 0) true ≡ true
 
-object-bare : (b : Bool) (ds : List ℕ) → cond b (none ds) (not (none ds)) ≡ true → cond b (eqb (decimal ds) 0) true ≡ true
+object-bare : (b : Bool) (ds : List ℕ) → cond b (noDigits ds) (not (noDigits ds)) ≡ true → cond b (eqb (decimal ds) 0) true ≡ true
 unfolding decimalFrom
 object-bare true [] h = refl
 object-bare true (d ∷ ds) h = true-false (sym h)

@@ -18,7 +18,7 @@ use Rattle.byte_orders.specs.Spelling.{orderOf}
 use Rattle.letters.specs.Spelling.{letterOf}
 use Rattle.units.specs.Units.{unitsOf}
 use Rattle.letters.specs.Classes.{isObject}
-use Rattle.type_str.specs.TypeString.{none, sizeStands, sized, sizedBy, syntax}
+use Rattle.type_str.specs.TypeString.{noDigits, sizeStands, sized, sizedBy, syntax}
 use Rattle.type_read.specs.Parts.{partsOf}
 use Rattle.byte_orders.specs.declared.Endianness.{Endianness}
 use Rattle.letters.specs.declared.TypeChar.{TypeChar}
@@ -34,7 +34,7 @@ pub read-number : (d : Digits) (s : List ℕ) → d ≡ digitsRead s → d .numb
 unfolding digitsRead
 read-number d s e = ap (λ (x : Digits). x .number) e
 
-none-count : (ds : List ℕ) → none ds ≡ eqb (length ds) 0
+none-count : (ds : List ℕ) → noDigits ds ≡ eqb (length ds) 0
 none-count [] = refl
 none-count (d ∷ ds) = sym (ne-eqb (suc (length ds)) 0 (λ e. omega arith))
 

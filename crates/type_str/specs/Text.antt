@@ -4,7 +4,7 @@ use Prim.Native.Nat.{ℕ}
 use mathlib.Core.List.{List, [], _∷_}
 use mathlib.Core.Bool.{Bool, true, false, cond, _&&_}
 use lib.Dec.{eqb}
-use Rattle.counts.specs.Outcome.{Outcome, gives, refused}
+use Rattle.counts.specs.Outcome.{Outcome, refused, given}
 use Rattle.decimal.specs.Decimal.{printed}
 use Rattle.emit.specs.Placed.{written, placed}
 use Rattle.byte_orders.specs.Spelling.{orderByte}
@@ -24,12 +24,8 @@ unfoldable pub typeText : TypeStr → List ℕ → List ℕ
 typeText t r = orderByte (t .order) ∷ letterByte (t .letter) ∷ sizeText (t .letter) (t .size) (unitText (t .units) r)
 
 -- whether a type is one that some type string gives: it passes the checks, and an object has no size
-abbrev pub passes : Outcome TypeStr → Bool
-passes (gives t) = true
-passes (refused n) = false
-
 unfoldable pub isType : TypeStr → Bool
-isType t = passes (checked t) && cond (isObject (t .letter)) (eqb (t .size) 0) true
+isType t = given (checked t) && cond (isObject (t .letter)) (eqb (t .size) 0) true
 
 -- what printing a type to the front of lent room answers: the length of its text, 27 where no reading gives the type, 28 where the room is too small
 unfoldable pub typePrinted : TypeStr → (room : List ℕ) → Outcome ℕ

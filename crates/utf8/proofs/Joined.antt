@@ -1,5 +1,5 @@
 -- Well-formed texts joined and parted: what is joined of well-formed texts is well-formed, and so is what is left behind a well-formed front. A text
--- of ASCII alone is well-formed, and what stands before an ASCII byte of a well-formed text is well-formed by itself. Assumes nothing.
+-- of ASCII alone is well-formed, and what stands before an ASCII byte of a well-formed text is well-formed by itself. A well-formed text is bytes. Assumes nothing.
 use Prim.Native.Nat.{ℕ, suc, _+_, _≤_, _<_}
 use mathlib.Core.Path.{_≡_, refl, ap, sym, _∙_}
 use mathlib.Core.Bool.{true}
@@ -9,10 +9,12 @@ use mathlib.Core.List.{List, [], _∷_, _++_, append-assoc}
 use native.Mathlib.Omega.{arith}
 use lib.ListN.{length, getD, take, drop, length-append, take-append-drop, List·getD-append}
 use lib.Seq.{getD-append-seam, take-append-le, take-append-seam}
+use Rattle.counts.specs.AllBytes.{AllBytes}
+use Rattle.counts.proofs.AllBytes.{bytes-append}
 use Rattle.scalar.specs.Scalar.{isScalar, Scalars}
 use Rattle.scalar.specs.Encode.{encode}
 use Rattle.scalar.proofs.Scalars.{side, scalar-low}
-use Rattle.scalar.proofs.Encoding.{row-one, encode-trailing}
+use Rattle.scalar.proofs.Encoding.{row-one, encode-trailing, encode-bytes}
 use Rattle.utf8.specs.Utf8.{encodeAll, WellFormed}
 use Rattle.utf8.specs.Decode.{decode, scan, firstIll}
 use Rattle.utf8.proofs.Decoding.{decode-encode}
@@ -106,3 +108,10 @@ before-ascii a b rest l w = ⊎-elim (rest-empty p) (λ s. absurd (seam (s .0) (
         ap (λ (x : List ℕ). x ++ b ∷ rest) (p .split) ∙ append-assoc bytes (p .rest) (b ∷ rest) in
         let left = behind bytes (p .rest ++ b ∷ rest) (rw parts at w) (encodings (p .values) (p .scalars)) in
         first (p .rest) h ill (left .values) (left .scalars) (left .encoded)
+
+encodings-bytes : (cs : List ℕ) → Scalars cs → AllBytes (encodeAll cs)
+encodings-bytes [] s = tt
+encodings-bytes (c ∷ cs) s = bytes-append (encode c) (encodeAll cs) (encode-bytes c (s .0)) (encodings-bytes cs (s .1))
+
+pub formed-bytes : (text : List ℕ) → WellFormed text → AllBytes text
+formed-bytes text w = rw (w .encoded) (encodings-bytes (w .values) (w .scalars))

@@ -1,5 +1,5 @@
 // Whether a caller's table and names are those of a dtype that some reading gives (document 01, "The refusal numbers": 27): the entries agree, the first
-// reaches to the table's end, and the names are those of the entries. No public function here has a `requires`.
+// reaches to the table's end, and the names are those of the entries. No function here has a `requires`.
 use dtype::Entry;
 use utf8::Text;
 ghost use mathlib.Core.Path.{_≡_};

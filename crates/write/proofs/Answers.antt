@@ -10,7 +10,8 @@ use lib.ListN.{length, drop}
 use lib.Seq.{sets-eq}
 use mathlib.Core.Logic.{⊎-elim}
 use Rattle.counts.specs.Outcome.{Outcome, gives, refused}
-use Rattle.emit.specs.Emits.{Emits, capped}
+use Rattle.counts.specs.Number.{capped}
+use Rattle.emit.specs.Emits.{Emits}
 use Rattle.grammar.specs.Print.{spaces, print, valueOf}
 use Rattle.dtype.specs.declared.Order.{Order}
 use Rattle.dtype.specs.Dtype.{Dtype}
@@ -60,9 +61,9 @@ module _ (r : Record) (room : List ℕ) (limits : limited r ≡ gives r) where
         four = rw (writing, limits, near, lt-ltb most-text (textLength r) l)
 
     module _ (few : textLength r ≤ most-text) where
-      writing-28 : length room < headerLength r → WritesRecord r room Written.Room room
+      writing-28 : length room < headerLength r → WritesRecord r room Written.OutputRoom room
       unfolding writing
-      writing-28 l = refused-by r room Written.Room 28 refl small
+      writing-28 l = refused-by r room Written.OutputRoom 28 refl small
         where
           small : writing r room ≡ refused 28
           small = rw (writing, limits, near, le-ltb most-text (textLength r) few, lt-ltb (length room) (headerLength r) l)
@@ -163,7 +164,7 @@ module _ (t ns s : List ℕ) (o : Order) (x : Record) (h : printable t ns s o �
       unfolding textLength version
       short = rw (same-ascii, length-is few) at (told-fits a n p fit .1)
 
-      pub record-28 : length room < p .whole → WritesRecord x room Written.Room room
+      pub record-28 : length room < p .whole → WritesRecord x room Written.OutputRoom room
       record-28 l = writing-28 x room (limits-are t ns s o x is-checked) near-is short (omega (arith, plan-fits .whole-is))
 
       pub record-written : p .whole ≤ length room → (out : List ℕ) (q : ℕ)

@@ -19,7 +19,7 @@ back (refused n) =
     (cond (eqb n 13) Written.Dimensions
     (cond (eqb n 20) Written.Entries
     (cond (eqb n 21) Written.Size
-    (cond (eqb n 22) Written.Shape (cond (eqb n 7) Written.Deep (cond (eqb n 4) Written.Long Written.Room))))))
+    (cond (eqb n 22) Written.Shape (cond (eqb n 7) Written.Deep (cond (eqb n 4) Written.Long Written.OutputRoom))))))
 
 back-same : (r : Written) → back (answer r) ≡ r
 unfolding back
@@ -31,7 +31,7 @@ back-same Written.Size = refl
 back-same Written.Shape = refl
 back-same Written.Deep = refl
 back-same Written.Long = refl
-back-same Written.Room = refl
+back-same Written.OutputRoom = refl
 
 pub write-header-one : (t ns s : List ℕ) (o : Order) (room : List ℕ) → OneOutcome {A = Written × List ℕ} (λ r. Writes t ns s o room (r .0) (r .1))
 write-header-one t ns s o room x y p q =

@@ -13,4 +13,4 @@ answer Written.Size = refused 21
 answer Written.Shape = refused 22
 answer Written.Deep = refused 7
 answer Written.Long = refused 4
-answer Written.Room = refused 28
+answer Written.OutputRoom = refused 28

@@ -9,7 +9,8 @@ ghost use mathlib.Core.Path.{_≡_};
 ghost use mathlib.Core.List.{_∷_};
 ghost use lib.ListN.{length};
 ghost use Rattle.counts.specs.Outcome.{gives};
-ghost use Rattle.emit.specs.Emits.{Emits, capped};
+ghost use Rattle.counts.specs.Number.{capped};
+ghost use Rattle.emit.specs.Emits.{Emits};
 ghost use Rattle.grammar.specs.Print.{spaces, print};
 ghost use Rattle.dtype.specs.Record.{Record};
 ghost use Rattle.record.specs.Layout.{headerLayout};
@@ -29,7 +30,7 @@ pub enum Written {
     Shape,
     Deep,
     Long,
-    Room,
+    OutputRoom,
 }
 
 fn is_ascii(s: &[u8]) -> bool
@@ -95,7 +96,7 @@ fn write_record(
     };
     let whole = plan.whole;
     if out.len() < whole {
-        return Written::Room;
+        return Written::OutputRoom;
     }
     put_header(plan, table, names, shape, order, out);
     Written::Count(whole)

@@ -19,14 +19,11 @@ enum-known-verdict c = search needs
 enum-known-verdict-2 : tie.Need-enum-known-verdict-2
 enum-known-verdict-2 c = search needs
 
-refusal-of-requires : tie.Need-refusal-of-requires
-refusal-of-requires c κs = search needs
-
 returns-2 : tie.Need-returns-2
 returns-2 c = λ text at h. descr-good text at _ _ _ _ h (c .before .before .before .before .found .given .1) (c .before .verdict .given .1)
 
 returns-3 : tie.Need-returns-3
-returns-3 c = λ text at h. descr-bad text at _ _ _ _ h (c .before .before .before .before .before .found .given .1) (c .before .before .verdict2 .given .1) (c .refusal-of .result) (c .refusal-of .ensures)
+returns-3 c = λ text at h. descr-bad text at _ _ _ _ h (c .before .before .before .before .found .given .1) (c .before .verdict2 .given .1)
 
 pub descr-in-spec : {M : Type 1} → statement M
 descr-in-spec =
@@ -37,6 +34,5 @@ descr-in-spec =
     returns
     enum-known-verdict
     enum-known-verdict-2
-    refusal-of-requires
     returns-2
     returns-3)

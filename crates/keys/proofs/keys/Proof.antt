@@ -4,7 +4,7 @@ use native.Mathlib.Omega.{arith}
 use mathlib.Core.Path.{refl, sym, ap, _∙_}
 use borrow.Author.Needs.{needs}
 use Rattle.classes.specs.Text.{kindOf}
-use Rattle.literal.specs.Literal.{most-open}
+use Rattle.grammar.specs.Nesting.{most-open}
 use Rattle.classes.proofs.Positions.{kind-in}
 use Rattle.keys.proofs.Seek.{dict-keys, dict-walked, no-dict}
 use Rattle.keys.proofs.keys.Statement.{statement}

@@ -6,7 +6,7 @@ use lib.Dec.{lit<}
 use Rattle.classes.specs.Text.{byteAt}
 use Rattle.classes.specs.declared.Kind.the-variants.{Minus}
 use Rattle.classes.proofs.Positions.{byte-in}
-use Rattle.products.specs.declared.Member.the-variants.{Form}
+use Rattle.products.specs.declared.Member.the-variants.{NotShape}
 use Rattle.products.specs.Answer.{sized}
 use Rattle.member.proofs.Numbers.{token-value, minus-kind, numeral-ends, numeral-number, dimension-minus, dimension-other, member-minus, member-none}
 use borrow.Author.Needs.{needs}
@@ -23,7 +23,7 @@ returns : tie.Need-returns
 returns c =
     let a = c .before .before .before .before .args in
     let no : byteAt (a .text .now) (a .at) ≡ 45 → ⊥ = λ e. c .before .if1 .taken (c .before .before .peek .ensures ∙ e) in
-    (c .value .ensures, (λ k n e h. dimension-other k (a .text .now) (a .at) e n h no (c .before .before .before .before .pre), member-none (a .text .now) (a .at) Form (c .before .before .before .before .pre) no))
+    (c .value .ensures, (λ k n e h. dimension-other k (a .text .now) (a .at) e n h no (c .before .before .before .before .pre), member-none (a .text .now) (a .at) NotShape (c .before .before .before .before .pre) no))
 
 add-numeral-at : tie.Need-add-numeral-at
 add-numeral-at c =

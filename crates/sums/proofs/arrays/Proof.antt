@@ -3,7 +3,7 @@ use mathlib.Core.Path.{refl, ap, _∙_}
 use mathlib.Core.Bool.{Bool, _||_, cond}
 use Prim.Native.Nat.{ℕ}
 use Rattle.counts.specs.declared.Number.{Number}
-use Rattle.sums.specs.Totals.{isOver, saturated, arrayed}
+use Rattle.sums.specs.Totals.{isOver, heldNumber, arrayed}
 use Rattle.sums.proofs.Sums.{totals-eq}
 use borrow.Author.Needs.{needs}
 use Rattle.sums.proofs.arrays.Statement.{statement}
@@ -32,7 +32,7 @@ returns c =
     let s = c .before .before .before .before .before .before .before .largest .ensures in
     totals-eq (c .before .before .before .before .before .before .add .ensures) refl refl refl
     (ap (λ (b : Bool). b || t .over) (c .before .before .before .is-over .ensures ∙ ap (λ (n : Number). isOver n) s))
-    (c .unless-empty .ensures ∙ ap (λ (n : ℕ). cond (o .empty) 0 n) (c .before .held .ensures ∙ ap (λ (n : Number). saturated n) s))
+    (c .unless-empty .ensures ∙ ap (λ (n : ℕ). cond (o .empty) 0 n) (c .before .held .ensures ∙ ap (λ (n : Number). heldNumber n) s))
 
 pub arrays-spec : {M : Type 1} → statement M
 arrays-spec =

@@ -2,7 +2,7 @@
 use Prim.Native.Nat.{_+_}
 use mathlib.Core.Path.{_≡_, refl, _∙_}
 use native.Mathlib.Omega.{arith}
-use Rattle.sums.specs.Totals.{capped}
+use Rattle.sums.specs.Totals.{atMost}
 use Rattle.sums.proofs.Sums.{totals-eq}
 use borrow.Author.Needs.{needs}
 use Rattle.sums.proofs.named.Statement.{statement}
@@ -12,7 +12,7 @@ add-requires : tie.Need-add-requires
 add-requires c κs = search needs
 
 returns : tie.Need-returns
-returns c = let e : capped 65537 (c .before .args .len + 0) ≡ capped 65537 (c .before .args .len) = omega arith in totals-eq refl (c .add .ensures ∙ e) refl refl refl refl
+returns c = let e : atMost 65537 (c .before .args .len + 0) ≡ atMost 65537 (c .before .args .len) = omega arith in totals-eq refl (c .add .ensures ∙ e) refl refl refl refl
 
 pub named-spec : {M : Type 1} → statement M
 named-spec = tie.close (tie.spec add-requires returns)

@@ -3,8 +3,8 @@ use Prim.Native.Nat.{_+_}
 use mathlib.Core.Path.{refl, ap, _∙_}
 use mathlib.Core.Bool.{Bool, _||_}
 use Rattle.counts.specs.declared.Number.{Number}
-use Rattle.sums.specs.Totals.{isOver, saturated, together}
-use Rattle.sums.proofs.Sums.{totals-eq, over-number, saturated-number}
+use Rattle.sums.specs.Totals.{isOver, heldNumber, together}
+use Rattle.sums.proofs.Sums.{totals-eq, over-number, held-number}
 use borrow.Author.Needs.{needs}
 use Rattle.sums.proofs.plus.Statement.{statement}
 use Rattle.sums.proofs.plus.Tie as tie
@@ -32,7 +32,7 @@ returns c =
     let s = c .before .before .before .before .before .before .before .before .before .before .sum .ensures in
     totals-eq (c .before .before .before .before .before .before .before .before .before .add .ensures) (c .before .before .before .before .before .before .before .before .add2 .ensures) refl refl
     (ap (λ (t : Bool). (a .over || b .over) || t) (c .before .is-over .ensures ∙ (ap (λ (n : Number). isOver n) s ∙ over-number (a .size + b .size))))
-    (c .held .ensures ∙ (ap (λ (n : Number). saturated n) s ∙ saturated-number (a .size + b .size)))
+    (c .held .ensures ∙ (ap (λ (n : Number). heldNumber n) s ∙ held-number (a .size + b .size)))
 
 pub plus-spec : {M : Type 1} → statement M
 plus-spec =
