@@ -1,4 +1,4 @@
--- Laws of tests: what a test decides. Assumes nothing.
+-- What a test decides: it is true exactly where the statement holds, so a test that fails rules the statement out. Assumes nothing.
 use Prim.Native.Nat.{ℕ}
 use mathlib.Core.Path.{_≡_, sym, _∙_}
 use mathlib.Core.Bool.{Bool, false}

@@ -16,7 +16,7 @@ use Rattle.counts.specs.declared.Number.{Number}
 use Rattle.counts.specs.declared.Bytes.{Bytes}
 use Rattle.counts.specs.declared.ByteCount.{ByteCount}
 use Rattle.counts.proofs.Fits.{number-over, number-is-back, number-over-back}
-use Rattle.dtype.proofs.Digits.{lt-or-ge}
+use Rattle.counts.proofs.Sides.{lt-or-ge}
 
 -- ---- counts out of their answers
 bytes-of : (v : Number) (m : Bytes) → ByteCount.Is m ≡ bytes v → v ≡ Number.Is (m .0)

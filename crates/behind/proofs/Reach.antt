@@ -29,33 +29,19 @@ use Rattle.literal.proofs.Ends.{pos-with, Ahead, value-ahead}
 use Rattle.gaps.proofs.Ends.{then-ahead}
 use Rattle.literal.proofs.Rows as literal
 use Rattle.literal.proofs.Rows.{row-step, row-shut, row-stray, row-reads}
+use Rattle.literal.proofs.Steps.{thing, gapLeft, gap-enough, gap-falls, tuple-end, tuple-stop, tuple-comma, tuple-more, ended-by, stop-by}
 use Rattle.classes.proofs.Ends.{Stops}
-use Rattle.literal.proofs.Steps.{thing, gapLeft, gap-enough, gap-falls, tuple-end, tuple-stop, tuple-comma, tuple-more}
 use Rattle.behind.specs.Behind.{itemsFrom, commaThen, secondAt}
 
 module _ (k : ℕ) (s : List ℕ) (close : ℕ) where
-  end-by : (m : ℕ) (g : Gap) → gapLeft (length s) g < m → OneOf (0 ∷ 2 ∷ []) (tagOf the-type g) → endedAt g ≡ pos (items (value k s) s close m g)
-  unfolding items
-  end-by zero g lt o = absurd (not-suc-le-zero lt)
-  end-by (suc m) (Shut e) lt o = refl
-  end-by (suc m) (Stray p) lt o = refl
-  end-by (suc m) (Item p) lt o = absurd (miss (0 ∷ 2 ∷ []) 1 tt o)
-
-  stop-by : (m p : ℕ) (x : Got Node) → gapLeft (length s) (Item p) < m → value k s p ≡ x → Stops (pos x) → pos x ≡ pos (items (value k s) s close m (Item p))
-  unfolding items
-  stop-by zero p x lt hr st = absurd (not-suc-le-zero lt)
-  stop-by (suc m) p (got v q) lt hr st = absurd st
-  stop-by (suc m) p (fault e) lt hr st = rw (items, hr)
-  stop-by (suc m) p (deep e) lt hr st = rw (items, hr)
-
   -- no item stands at the gap
   pub from-end : (g : Gap) → OneOf (0 ∷ 2 ∷ []) (tagOf the-type g) → endedAt g ≡ pos (itemsFrom k s close g)
-  from-end g o = end-by (length s + 2) g (gap-enough (length s) g) o
+  from-end g o = sym (ended-by (value k s) s close (length s + 2) g (gap-enough (length s) g) o)
 
   -- the item there has a fault
   pub from-stop : (g : Gap) (p : ℕ) (r : Parsed) → g ≡ Item p → r ≡ pos (value k s p) → Stops r → r ≡ pos (itemsFrom k s close g)
   from-stop g p r hg hr st =
-      hr ∙ (stop-by (length s + 2) p (value k s p) (gap-enough (length s) (Item p)) refl (subst (λ (x : Parsed). Stops x) hr st) ∙ ap (λ (x : Gap). pos (itemsFrom k s close x)) (sym hg))
+      hr ∙ (sym (stop-by (value k s) s close (length s + 2) p (value k s p) (gap-enough (length s) (Item p)) refl (subst (λ (x : Parsed). Stops x) hr st)) ∙ ap (λ (x : Gap). pos (itemsFrom k s close x)) (sym hg))
 
   module _ (small : close < 256) where
     falls : (p q : ℕ) (v : Node) → value k s p ≡ got v q → gapLeft (length s) (thenAt s q close) < gapLeft (length s) (Item p)

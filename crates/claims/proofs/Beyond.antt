@@ -23,11 +23,12 @@ use Rattle.dtype.proofs.Strides.{strides-length}
 use Rattle.shape.specs.Count as strides
 use Rattle.record.specs.Version.{Version}
 use Rattle.counts.specs.Front.{atFront}
+use Rattle.counts.proofs.Holds.{Holds, unless-holds, holds-of}
+use Rattle.counts.proofs.Apart.{refused-gives}
 use Rattle.record.specs.Rooms.{Lent, holding}
 use Rattle.record.specs.Header as header
 use Rattle.record.specs.File.{fileOf}
 use Rattle.record.specs.Writing.{writing, placed}
-use Rattle.record.proofs.Holds.{Holds, unless-holds, held, gives-refused}
 use Rattle.judge.specs.Judged.{reading}
 use Rattle.table.specs.Checked.{checkedRecord}
 use Rattle.fill.specs.declared.Said.{Said}
@@ -65,11 +66,11 @@ header-rest : (h : Header) (l l′ : Lent) (o : Outcome header.Header) → gives
 header-rest h l l′ (gives k) a b =
     let same : headerIs h ≡ told k = cc in
     rest-by (k .says) l l′ (h .said) (ap (λ (t : Told). t .said) same) b
-header-rest h l l′ (refused n) a b = gives-refused (sym a)
+header-rest h l l′ (refused n) a b = refused-gives (sym a)
 
 text-rest : (said : Said) (l l′ : Lent) (o : Outcome Record) → gives said ≡ each saidOf o → l′ ≡ filled o l → Same-rest said l l′
 text-rest said l l′ (gives r) a b = rest-by r l l′ said (cc) b
-text-rest said l l′ (refused n) a b = gives-refused (sym a)
+text-rest said l l′ (refused n) a b = refused-gives (sym a)
 
 -- ---- one room
 pub owed : (put : Outcome (List ℕ)) (room : List ℕ) (a : Outcome ℕ) (room′ : List ℕ) (n : ℕ) → Owes put room a room′ → a ≡ gives n → drop n room′ ≡ drop n room
@@ -79,7 +80,7 @@ owed put room a room′ n h e = go put (sym (h .answered) ∙ e) (h .room-after)
     go (gives content) f g =
         let len : n ≡ length content = cc in
         ap (drop n) g ∙ behind-front n content room len
-    go (refused k) f g = gives-refused f
+    go (refused k) f g = refused-gives f
 
 printed-rest : (text room : List ℕ) (n : ℕ) → emit.written text room ≡ gives n → drop n (emit.placed text room) ≡ drop n room
 unfolding emit.written emit.placed
@@ -89,7 +90,7 @@ printed-rest text room n e = go (leb (length text) (length room)) refl e
     go true f g =
         let len : n ≡ length text = cc in
         rw (emit.placed, f) (behind-front n text room len)
-    go false f g = gives-refused g
+    go false f g = refused-gives g
 
 pub typed-rest : (t : TypeStr) (room : List ℕ) (n : ℕ) → typePrinted t room ≡ gives n → drop n (typePlaced t room) ≡ drop n room
 unfolding typePrinted typePlaced
@@ -97,12 +98,12 @@ typed-rest t room n e = go (isType t) refl e
   where
     go : (b : Bool) → isType t ≡ b → cond b (emit.written (typeText t []) room) (refused 27) ≡ gives n → drop n (typePlaced t room) ≡ drop n room
     go true f g = rw (typePlaced, f) (printed-rest (typeText t []) room n g)
-    go false f g = gives-refused g
+    go false f g = refused-gives g
 
 pub listed-rest : (v : Version) (start : ℕ) (room : List ℕ) (n : ℕ) (c : Outcome Record) → then c (λ r. emit.written (listing v start r []) room) ≡ gives n
     → drop n (lists.roomBy c v start room) ≡ drop n room
 listed-rest v start room n (gives r) e = printed-rest (listing v start r []) room n e
-listed-rest v start room n (refused k) e = gives-refused e
+listed-rest v start room n (refused k) e = refused-gives e
 
 pub header-placed-rest : (t ns s : List ℕ) (o : Order) (room : List ℕ) (n : ℕ) → headerWritten t ns s o room ≡ gives n → drop n (headerPlaced t ns s o room) ≡ drop n room
 unfolding headerWritten headerPlaced
@@ -110,7 +111,7 @@ header-placed-rest t ns s o room n e = go (checkedRecord t ns s o) e
   where
     go : (c : Outcome Record) → then c (λ r. writing r room) ≡ gives n → drop n (roomOf c room) ≡ drop n room
     go (gives r) f = ap (λ (x : Outcome ℕ). drop n (placed x r room)) f ∙ behind n (fileOf r) room (wrote-length r room n f)
-    go (refused k) f = gives-refused f
+    go (refused k) f = refused-gives f
 
 encoding-length : (c room : ℕ) → Holds (λ n. n ≡ length (encode c)) (scalar.encoding c room)
 unfolding scalar.encoding
@@ -120,11 +121,11 @@ encoding-length c room =
 
 encoded-rest : (c : ℕ) (room : List ℕ) (n : ℕ) → scalar.encoding c (length room) ≡ gives n → drop n (scalar.after (scalar.encoding c (length room)) c room) ≡ drop n room
 encoded-rest c room n e =
-    ap (λ (x : Outcome ℕ). drop n (scalar.after x c room)) e ∙ behind n (encode c) room (held (λ k. k ≡ length (encode c)) e (encoding-length c (length room)))
+    ap (λ (x : Outcome ℕ). drop n (scalar.after x c room)) e ∙ behind n (encode c) room (holds-of (λ k. k ≡ length (encode c)) e (encoding-length c (length room)))
 
 pub strides-rest : (o : Order) (s out : List ℕ) (n : ℕ) (c : Outcome ℕ) → c ≡ gives n → drop (length s) (strides.left c (shape.strides o s) out) ≡ drop (length s) out
 strides-rest o s out n (gives k) e = behind-front (length s) (shape.strides o s) out (sym (strides-length o s))
-strides-rest o s out n (refused k) e = gives-refused e
+strides-rest o s out n (refused k) e = refused-gives e
 
 pub rest-unchanged : Rest-unchanged
 rest-unchanged =

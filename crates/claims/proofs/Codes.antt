@@ -6,6 +6,7 @@ use mathlib.Core.List.{List, [], _∷_}
 use lib.ListN.{length, drop, getD}
 use borrow.Author.Tests.{leb-true}
 use Rattle.counts.specs.Outcome.{Outcome, gives, refused, then, each}
+use Rattle.counts.proofs.OneOutcome.{pair-of}
 use Rattle.type_str.specs.TypeString.{typeString}
 use Rattle.type_str.specs.Text.{typePrinted, typePlaced}
 use Rattle.dtype.specs.declared.Order.{Order}
@@ -82,9 +83,6 @@ module _ {A M : Type 0} (values : A → List ℕ) {before after : M} {said said�
             };
       }
 
-pair-eq : {M : Type 0} {l k : M} {x y : List ℕ} → l ≡ k → x ≡ y → _≡_ {A = M × List ℕ} (l, x) (k, y)
-pair-eq hl hx = cc
-
 told-coded : {A : Type 0} (values : A → List ℕ) (o : Outcome A) (said : List ℕ) (r : ℕ) (said′ : List ℕ) → Numbered o → Tells values o said r said′
     → Coded values o said r said′ said′
 told-coded values o said r said′ h t = coded values o h t (λ n e s. s)
@@ -92,7 +90,7 @@ told-coded values o said r said′ h t = coded values o h t (λ n e s. s)
 -- a room and what is said beside it
 beside : {A M : Type 0} (values : A → List ℕ) (o : Outcome A) (l l′ : M) (said said′ : List ℕ) (r : ℕ) → Numbered o → Tells values o said r said′
     → ((n : ℕ) → o ≡ refused n → l′ ≡ l) → Coded {M = M × List ℕ} values o (l, said) r (l′, said′) said′
-beside values o l l′ said said′ r h t k = coded values o h t (λ n e s. pair-eq (k n e) s)
+beside values o l l′ said said′ r h t k = coded values o h t (λ n e s. pair-of (k n e) s)
 
 -- what is given comes first
 module _ {A B : Type 0} (next : A → Outcome B) (put : A → List ℕ) (room : List ℕ) where

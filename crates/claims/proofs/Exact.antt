@@ -2,15 +2,16 @@
 -- of its checks, and one whose checks all pass gives it. Of a text one outcome keeps the grammar's promise, so that the value which the rules give is the one
 -- that is read. Assumes nothing.
 use Prim.Native.Nat.{ℕ, _+_, _≤_}
-use native.Mathlib.Omega.{arith}
 use mathlib.Core.Path.{_≡_, refl, sym, ap, subst, _∙_}
-use mathlib.Core.Bool.{Bool, true, false, not}
+use mathlib.Core.Bool.{false, not}
 use mathlib.Core.List.{List, _++_}
 use lib.Dec.{ltb}
 use lib.ListN.{length, drop}
 use borrow.Author.Tests.{le-ltb, ltb-false, not-false}
-use Rattle.counts.specs.Outcome.{Outcome, gives, refused, then, each, unless}
+use Rattle.counts.specs.Outcome.{Outcome, gives, then, each}
 use Rattle.counts.specs.Front.{atFront}
+use Rattle.counts.proofs.Apart.{refused-gives}
+use Rattle.counts.proofs.Holds.{unless-back, then-back, each-back}
 use Rattle.grammar.specs.Value.{Value}
 use Rattle.grammar.specs.Nesting.{most-open}
 use Rattle.grammar.specs.Promise.{Got, got, fault, deep, PromiseAt, GivesIn}
@@ -57,19 +58,6 @@ use Rattle.element.proofs.Typed.{bytes-after, points-after}
 use Rattle.claims.specs.Exact.{Says, Read-as, Reads-exactly, Writable, Writes-exactly, Named, Places-exactly, Element, Takes-exactly, Exact}
 use Rattle.claims.proofs.Exactly.{valid-limits}
 
--- ---- rows of checks, back from what they give
-then-back : {A B : Type 0} (o : Outcome A) (f : A → Outcome B) (b : B) → then o f ≡ gives b → (a : A) × (o ≡ gives a) × (f a ≡ gives b)
-then-back (gives a) f b e = (a, refl, e)
-then-back (refused n) f b e = absurd (let z : _≡_ {A = ℕ} 0 1 = cc in omega arith)
-
-each-back : {A B : Type 0} (f : A → B) (o : Outcome A) (b : B) → gives b ≡ each f o → (a : A) × (o ≡ gives a) × (b ≡ f a)
-each-back f (gives a) b e = (a, refl, cc)
-each-back f (refused n) b e = absurd (let z : _≡_ {A = ℕ} 0 1 = cc in omega arith)
-
-unless-back : {A : Type 0} (t : Bool) (n : ℕ) (o : Outcome A) (a : A) → unless t n o ≡ gives a → (t ≡ false) × (o ≡ gives a)
-unless-back true n o a e = absurd (let z : _≡_ {A = ℕ} 0 1 = cc in omega arith)
-unless-back false n o a e = (refl, e)
-
 -- ---- reading
 abbrev header-of : Prefix → Record → header.Header
 header-of p r = record { version = p .version; says = r; data-start = dataStart p }
@@ -95,12 +83,12 @@ module _ (file : List ℕ) (l : Lent) where
         starts = ap (λ (t : Told). t .data-start) same;
         held = b;
       }
-  read-as p r (HeaderRead.Refused f) l′ a b = absurd (let z : _≡_ {A = ℕ} 0 1 = cc in omega arith)
+  read-as p r (HeaderRead.Refused f) l′ a b = refused-gives a
 
   value-given : (text : List ℕ) (g : Got ℕ Value) → PromiseAt most-open text g → (v : Value) → header.valueRead g ≡ gives v → GivesIn most-open text v
   value-given text (got u q) k v e = let same : u ≡ v = cc in subst (GivesIn most-open text) same (k .1)
-  value-given text (fault q) k v e = absurd (let z : _≡_ {A = ℕ} 0 1 = cc in omega arith)
-  value-given text (deep q) k v e = absurd (let z : _≡_ {A = ℕ} 0 1 = cc in omega arith)
+  value-given text (fault q) k v e = refused-gives e
+  value-given text (deep q) k v e = refused-gives e
 
   said-by : (h : header.Header) → header.headerInto reading file l ≡ gives h
       → (p : Prefix) × (r : Record) × Says file p r × (tooSmall (roomsOf l) (needs r) ≡ false)
@@ -130,7 +118,7 @@ module _ (file : List ℕ) (l : Lent) where
       record {
         all = accepts;
         only = λ f e.
-            let (g, is, _) = each-back told (header.headerInto reading file l) (headerIs f) (sym (ap answer e) ∙ h .answered) in
+            let (g, is, _) = each-back told (header.headerInto reading file l) (headerIs f) (sym (h .answered) ∙ ap answer e) in
             let (p, r, s, fits) = said-by g is in
             (p, r, s, accepts p r s fits);
       }
@@ -187,7 +175,7 @@ module _ (file start : ℕ) (t ns s : List ℕ) (o : Order) (x p : List ℕ) whe
       let (no-object, behind) = unless-back (hasObject (r .dtype)) 24 _ u of-record in
       let (long, in-file) = unless-back (ltb file (start + dataBytes r)) 25 _ u behind in
       let (ranged, by-path) = unless-back (not (inRange (r .shape) x)) 26 _ u in-file in
-      let (k, leads, _) = each-back (λ k. place.runFrom (place start r x p) k) (plainAt (r .dtype) p) u (sym by-path) in (
+      let (k, leads, _) = each-back (λ k. place.runFrom (place start r x p) k) (plainAt (r .dtype) p) u by-path in (
         r,
         k,
         record {
@@ -231,7 +219,7 @@ module _ (within : TypeStr → List ℕ → Outcome (List ℕ)) (at : Outcome Ru
             let given-is = is ∙ put-given content e in
             (h .answered ∙ ap (each length) given-is, h .room-after ∙ ap (after room) given-is);
         only = λ n e.
-            let (content, given-is, _) = each-back length whole n (sym e ∙ h .answered) in
+            let (content, given-is, _) = each-back length whole n (sym (h .answered) ∙ e) in
             (content, element-by content (sym is ∙ given-is));
       }
 

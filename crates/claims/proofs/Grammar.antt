@@ -4,10 +4,10 @@ use mathlib.Core.Path.{_≡_, ap, _∙_}
 use mathlib.Core.Bool.{Bool}
 use mathlib.Core.List.{List}
 use Rattle.counts.specs.Outcome.{then, each}
+use Rattle.counts.proofs.Holds.{then-alike}
 use Rattle.record.specs.Prefix.{prefix}
 use Rattle.record.specs.Rooms.{Lent, roomsOf}
 use Rattle.record.specs.Header.{Reading, Keeps, recordIn, housed, filled}
-use Rattle.record.proofs.Holds.{then-alike}
 use Rattle.record.proofs.OneHeader.{record-in-same}
 use Rattle.judge.specs.Judged.{reading}
 use Rattle.judge.proofs.Top.{reading-keeps}

@@ -9,10 +9,10 @@ use lib.ListN.{length, take}
 use lib.Seq.{length-take-le}
 use borrow.Author.Tests.{lt-ltb, le-ltb}
 use Rattle.counts.specs.Outcome.{Outcome, gives, refused, then, each}
+use Rattle.counts.proofs.Holds.{Holds, holds-each, then-alike-held}
 use Rattle.record.specs.Prefix.{Prefix, dataStart, prefix, textOf}
 use Rattle.record.specs.Rooms.{Lent, roomsOf}
 use Rattle.record.specs.Header as header
-use Rattle.record.proofs.Holds.{Holds, by-equation, then-alike-held}
 use Rattle.record.proofs.Fronts.{prefix-front, front-enough}
 use Rattle.judge.specs.Judged.{reading}
 use Rattle.header.specs.Answer.{told, textHeld, behind, heldInto}
@@ -45,8 +45,8 @@ module _ (k : ℕ) (file : List ℕ) (twelve : 12 ≤ k) (longer : k < length fi
   front-within h l =
       let len = held-length in
       held-same (take k file) l
-      (by-equation (λ p. dataStart p ≤ length (take k file)) (prefix (take k file)) (λ p e. rw len (h p (sym (prefix-front k file twelve) ∙ e))))
-      ∙ front-enough reading (roomsOf l) k file twelve (by-equation (λ p. dataStart p ≤ k) (prefix file) h)
+      (holds-each (λ p. dataStart p ≤ length (take k file)) (prefix (take k file)) (λ p e. rw len (h p (sym (prefix-front k file twelve) ∙ e))))
+      ∙ front-enough reading (roomsOf l) k file twelve (holds-each (λ p. dataStart p ≤ k) (prefix file) h)
 
   front-past : (p : Prefix) → prefix file ≡ gives p → k < dataStart p → (l : Lent) → heldInto true (take k file) l ≡ refused 23
   front-past p e h l = let len = held-length in held-past (take k file) l p (prefix-front k file twelve ∙ e) (rw len h)

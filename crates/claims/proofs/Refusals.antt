@@ -7,6 +7,7 @@ use mathlib.Core.List.{List, []}
 use lib.Dec.{leb}
 use lib.ListN.{length}
 use Rattle.counts.specs.Outcome.{Outcome, gives, refused, then, each}
+use Rattle.counts.proofs.Apart.{refused-gives}
 use Rattle.emit.specs.Placed as emit
 use Rattle.scalar.specs.Answer as scalar
 use Rattle.type_str.specs.declared.TypeStr.{TypeStr}
@@ -18,7 +19,6 @@ use Rattle.shape.specs.Count as strides
 use Rattle.record.specs.Version.{Version}
 use Rattle.record.specs.Header as record-of-file
 use Rattle.record.specs.Writing.{writing, placed}
-use Rattle.record.proofs.Holds.{gives-refused}
 use Rattle.judge.specs.Judged.{reading}
 use Rattle.table.specs.Checked.{checkedRecord}
 use Rattle.header.specs.Answer as header
@@ -32,7 +32,7 @@ use Rattle.claims.specs.Refusals.{Unchanged}
 -- one outcome for the answer and the memory
 pub by-outcome : {A B M : Type 0} (f : A → B) (memory : Outcome A → M) (before : M) → ((n : ℕ) → memory (refused n) ≡ before) → (o : Outcome A) (k : ℕ)
     → each f o ≡ refused k → memory o ≡ before
-by-outcome f memory before h (gives a) k e = gives-refused (sym e)
+by-outcome f memory before h (gives a) k e = refused-gives (sym e)
 by-outcome f memory before h (refused n) k e = h n
 
 owed : (put : Outcome (List ℕ)) (room : List ℕ) (a : Outcome ℕ) (room′ : List ℕ) (k : ℕ) → Owes put room a room′ → a ≡ refused k → room′ ≡ room
@@ -44,7 +44,7 @@ unfolding emit.written emit.placed
 text-left text room k e = go (leb (length text) (length room)) refl e
   where
     go : (b : Bool) → leb (length text) (length room) ≡ b → cond b (gives (length text)) (refused 28) ≡ refused k → emit.placed text room ≡ room
-    go true f g = gives-refused (sym g)
+    go true f g = refused-gives (sym g)
     go false f g = rw (emit.placed, f)
 
 pub typed-left : (t : TypeStr) (room : List ℕ) (k : ℕ) → typePrinted t room ≡ refused k → typePlaced t room ≡ room
@@ -57,7 +57,7 @@ typed-left t room k e = go (isType t) refl e
 
 -- a header
 written-left : (r : Record) (room : List ℕ) (o : Outcome ℕ) (k : ℕ) → o ≡ refused k → placed o r room ≡ room
-written-left r room (gives n) k e = gives-refused (sym e)
+written-left r room (gives n) k e = refused-gives (sym e)
 written-left r room (refused n) k e = refl
 
 pub header-left : (t ns s : List ℕ) (o : Order) (room : List ℕ) (k : ℕ) → headerWritten t ns s o room ≡ refused k → headerPlaced t ns s o room ≡ room
@@ -76,11 +76,11 @@ listed-left v start room k (refused n) e = refl
 
 -- strides, and a scalar value
 pub strides-left : (new old : List ℕ) (k : ℕ) (o : Outcome ℕ) → o ≡ refused k → strides.left o new old ≡ old
-strides-left new old k (gives n) e = gives-refused (sym e)
+strides-left new old k (gives n) e = refused-gives (sym e)
 strides-left new old k (refused n) e = refl
 
 encoded-left : (value : ℕ) (room : List ℕ) (k : ℕ) (o : Outcome ℕ) → o ≡ refused k → scalar.after o value room ≡ room
-encoded-left value room k (gives n) e = gives-refused (sym e)
+encoded-left value room k (gives n) e = refused-gives (sym e)
 encoded-left value room k (refused n) e = refl
 
 pub unchanged : Unchanged

@@ -1,7 +1,7 @@
 -- Both round trips of demand 2 (specs/RoundTrips.antt), of whatever satisfies the contracts of `write_header` and `read`. What was written is the header of the record
 -- that the check accepted, which is sound (Accepted.antt); and of sound records crate record shows that their bytes are read back. What was read is sound, and the
 -- check accepts it: so it is written, 4 and 28 aside, and the same holds of its bytes. Assumes nothing.
-use Prim.Native.Nat.{ℕ, _+_}
+use Prim.Native.Nat.{ℕ}
 use native.Mathlib.Omega.{arith}
 use mathlib.Core.Path.{_≡_, refl, sym, ap, subst, _∙_}
 use mathlib.Core.List.{List, _++_}
@@ -11,6 +11,7 @@ use lib.Dec.{ltb}
 use lib.ListN.{length, take, drop}
 use lib.Seq.{take-append-seam}
 use Rattle.counts.specs.Outcome.{Outcome, gives, refused, then, each, unless}
+use Rattle.counts.proofs.Holds.{Holds, then-any, unless-holds, holds-of}
 use Rattle.refusal.specs.declared.Refusal.{Refusal}
 use Rattle.refusal.proofs.Names.{number-apart}
 use Rattle.grammar.specs.Print.{valueOf}
@@ -25,7 +26,6 @@ use Rattle.record.specs.Header as header
 use Rattle.record.specs.File.{textLength, fileOf, headerLength}
 use Rattle.record.specs.Writing.{writing, placed, roomAfter}
 use Rattle.record.specs.Sound.{Sound}
-use Rattle.record.proofs.Holds.{Holds, then-any, unless-holds, held}
 use Rattle.record.proofs.RoundTrips.{headerFor, file-whole, written-read, read-readable, read-written}
 use Rattle.table.specs.Checked.{checkedRecord}
 use Rattle.table.proofs.Accepts.{accepts-valid}
@@ -55,7 +55,7 @@ writing-whole r room =
     (λ b. unless-holds (λ n. n ≡ headerLength r) (ltb (length room) (headerLength r)) 28 (gives (headerLength r)) (λ c. refl))))
 
 pub wrote-length : (r : Record) (room : List ℕ) (n : ℕ) → writing r room ≡ gives n → n ≡ length (fileOf r)
-wrote-length r room n e = held (λ k. k ≡ headerLength r) e (writing-whole r room) ∙ sym (file-whole r)
+wrote-length r room n e = holds-of (λ k. k ≡ headerLength r) e (writing-whole r room) ∙ sym (file-whole r)
 
 record Wrote (t ns s : List ℕ) (o : Order) (room : List ℕ) (n : ℕ) (room′ : List ℕ) : Type 0 where
   says : Record
@@ -118,7 +118,7 @@ module _ (r : Record) (n : ℕ) (l l′ : Lent) (x : HeaderRead) (start : header
 sound-back : (r : Record) → Sound r → (room rest : List ℕ) (n : ℕ) → writing r room ≡ gives n → (l l′ : Lent) (x : HeaderRead) → Reads (fileOf r ++ rest) l x l′
     → Comes-back (table (r .dtype)) (names (r .dtype)) (r .shape) (r .order) n l x l′
 sound-back r sound room rest n e l l′ x reads =
-    by-room r n l l′ x (sym (held (λ k. k ≡ headerLength r) e (writing-whole r room))) (header.headerInto reading (fileOf r ++ rest) l)
+    by-room r n l l′ x (sym (holds-of (λ k. k ≡ headerLength r) e (writing-whole r room))) (header.headerInto reading (fileOf r ++ rest) l)
     (written-read reading reading-keeps r sound room n e rest (roomsOf l)) (reads .answered) (reads .after)
 
 -- .. in the caller's own words

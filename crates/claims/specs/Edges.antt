@@ -4,7 +4,7 @@ use mathlib.Core.Path.{_≡_}
 use mathlib.Core.Bool.{false}
 use mathlib.Core.List.{[], _∷_}
 use Rattle.counts.specs.Outcome.{gives}
-use Rattle.grammar.specs.Value.{Value, Values, string, integer, list, tuple, end-of-values, value-then}
+use Rattle.grammar.specs.Value.{Value, string, integer, list, tuple, end-of-values, value-then}
 use Rattle.record.specs.Descr.{descrOf}
 use Rattle.type_read.specs.Edges as types
 use Rattle.dtype.specs.Edges as dtypes

@@ -6,12 +6,12 @@ use mathlib.Core.Path.{_≡_, refl, sym, ap, subst, _∙_}
 use mathlib.Core.Logic.{⊎-elim}
 use mathlib.Core.List.{List}
 use lib.ListN.{length, length-drop}
+use Rattle.counts.proofs.Sides.{lt-or-ge}
 use Rattle.dtype.specs.declared.Entry.{Entry}
 use Rattle.dtype.specs.Dtype.{Dtype, Fields, plain, array, record-of, field-then}
 use Rattle.dtype.specs.Entries.{entriesOf}
 use Rattle.dtype.specs.Flat.{kindOf, entryOf, entry-width, flats}
 use Rattle.dtype.specs.Agrees.{entryAt}
-use Rattle.dtype.proofs.Digits.{lt-or-ge}
 use Rattle.dtype.proofs.Flat.{some-entry, flat-length}
 use Rattle.dtype.proofs.Stands.{stands-entry, stands-below, stands-after}
 use Rattle.record.specs.Layout.{descrLayout}

@@ -10,8 +10,8 @@ use lib.Dec.{eqb}
 use Rattle.counts.specs.Outcome.{Outcome, gives, refused, each}
 use Rattle.counts.specs.OneOutcome.{OneOutcome}
 use Rattle.counts.proofs.OneOutcome.{by-inverse}
+use Rattle.counts.proofs.Sides.{lt-or-ge}
 use Rattle.dtype.specs.declared.Order.{Order}
-use Rattle.dtype.proofs.Digits.{lt-or-ge}
 use Rattle.table.specs.Answer.{summary}
 use Rattle.table.specs.declared.Summary.{Summary}
 use Rattle.depth.specs.declared.Printable.{Printable}

@@ -1,12 +1,12 @@
 -- Which record can be printed and which refusal applies, seen from the answers of the functions that are called: the check of crate table and the count of the
 -- brackets. Assumes nothing.
 use Prim.Native.Nat.{ℕ}
-use native.Mathlib.Omega.{arith}
 use mathlib.Core.Path.{_≡_, refl, sym, ap, _∙_}
 use mathlib.Core.Bool.{Bool, true, false, _&&_, and-true}
 use mathlib.Core.List.{List, []}
 use Rattle.counts.specs.Outcome.{Outcome, gives, refused, each}
 use Rattle.counts.proofs.Alike.{true-false}
+use Rattle.counts.proofs.Apart.{gives-refused}
 use Rattle.grammar.specs.Print.{valueOf}
 use Rattle.dtype.specs.declared.Order.{Order}
 use Rattle.dtype.specs.declared.Order.the-variants.{C, Fortran}
@@ -22,9 +22,6 @@ use Rattle.table.proofs.Accepts.{accepts-valid}
 use Rattle.depth.specs.Listed.{Listed}
 use Rattle.depth.specs.Printable.{printable}
 use Rattle.depth.proofs.Nesting.{shape-within}
-
-pub neither : {A B : Type 0} (a : A) (n : ℕ) → gives a ≡ refused n → B
-neither a n e = let z : _≡_ {A = ℕ} 0 1 = cc in absurd (omega arith)
 
 pub same-number : {A B : Type 0} (n m : ℕ) → _≡_ {A = Outcome A} (refused n) (refused m) → _≡_ {A = Outcome B} (refused n) (refused m)
 same-number n m e = let z : n ≡ m = cc in ap refused z
@@ -63,15 +60,15 @@ module _ (t ns s : List ℕ) (o : Order) where
     where
       go : View t ns s o → refused k ≡ each summary (printable t ns s o)
       go (unread m c p) = h ∙ ap (λ (y : Outcome Record). each summary y) (c ∙ sym p)
-      go (too-deep x c w p) = neither (summary x) k (sym (h ∙ ap (λ (y : Outcome Record). each summary y) c))
-      go (shown x c w p) = neither (summary x) k (sym (h ∙ ap (λ (y : Outcome Record). each summary y) c))
+      go (too-deep x c w p) = gives-refused (sym (h ∙ ap (λ (y : Outcome Record). each summary y) c))
+      go (shown x c w p) = gives-refused (sym (h ∙ ap (λ (y : Outcome Record). each summary y) c))
 
   made-of : (x : Record) → checkedRecord t ns s o ≡ gives x → (d : Dtype) × (x ≡ made d s o) × Listed t 0 d
   made-of x c = let u = accepts-valid t ns s o x c in (u .0, u .1, valid-listed t ns s o (u .0) (u .2))
 
   module _ (f : Summary) (h : gives f ≡ each summary (checkedRecord t ns s o)) where
     not-refused : {A : Type 0} (k : ℕ) → checkedRecord t ns s o ≡ refused k → A
-    not-refused k c = neither f k (h ∙ ap (λ (y : Outcome Record). each summary y) c)
+    not-refused k c = gives-refused (h ∙ ap (λ (y : Outcome Record). each summary y) c)
 
     pub accepted-listed : (d : Dtype) × Listed t 0 d
     accepted-listed = go view

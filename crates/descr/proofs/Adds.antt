@@ -5,13 +5,14 @@ use Prim.Native.Nat.{ℕ, zero, suc, _+_, _*_, _^_, _≤_}
 use native.Mathlib.Omega.{arith}
 use mathlib.Core.Path.{_≡_, refl, sym, ap, _∙_}
 use mathlib.Core.List.{List}
-use mathlib.Core.Bool.{Bool, true, false, _||_, not, cond}
+use mathlib.Core.Bool.{Bool, true, false, _||_, not, cond, or-false, or-true}
 use lib.Dec.{ltb}
 use lib.ListN.{length}
 use native.Mathlib.Nat.{mul-suc}
 use borrow.Author.Tests.{leb-true}
 use Rattle.counts.specs.Outcome.{Outcome, gives, refused, then, each, unless}
 use Rattle.counts.specs.declared.Number.{Number}
+use Rattle.counts.proofs.Alike.{false-true}
 use Rattle.grammar.specs.Value.{Value, Values, string, integer, True, False, None, list, tuple, dict, end-of-values, value-then}
 use Rattle.type_str.specs.declared.TypeStr.{TypeStr}
 use Rattle.type_str.specs.TypeString.{typeString}
@@ -21,16 +22,14 @@ use Rattle.dtype.specs.Limits.{over, someOver, overLevels}
 use Rattle.record.specs.Parts.{stringOr}
 use Rattle.record.specs.Dimensions.{subShape}
 use Rattle.record.specs.Descr.{Field, arrays, descrOf, fieldsOf, fieldOf, twoOrThree, namedOf}
+use Rattle.record.proofs.Levels.{arrays-entries, arrays-name-bytes}
 use Rattle.products.specs.Outline.{hasZero, behindZero, outlineOf, isOver, largestIn}
-use Rattle.products.proofs.Levels.{largest-is, arrays-outline, arrays-over, arrays-entries, arrays-wide, arrays-object, arrays-name-bytes}
+use Rattle.products.proofs.Levels.{largest-is, arrays-outline, arrays-over, arrays-wide, arrays-object}
 use Rattle.sums.specs.declared.Totals.{Totals}
 use Rattle.sums.specs.Totals.{atMost, largest, heldNumber, nothing, oneEntry, nameTotals, totalsOf, totalsIn, fieldTotals, together, arrayed}
 use Rattle.sums.specs.Verdict.{both}
-use Rattle.sums.proofs.Sums.{totals-eq, or-true, or-false, over-never, over-not, over-more, over-number, held-number, cap-front}
+use Rattle.sums.proofs.Sums.{totals-eq, over-never, over-not, over-more, over-number, held-number, cap-front}
 use Rattle.sums.proofs.Limits.{own-over}
-
-false-true : {A : Type 0} → false ≡ true → A
-false-true h = absurd (let z : _≡_ {A = ℕ} 0 1 = cc in omega arith)
 
 over-front : (n : ℕ) → over (0 + atMost largest n) ≡ false
 over-front n = over-never (0 + atMost largest n) (omega arith)

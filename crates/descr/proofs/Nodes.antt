@@ -10,6 +10,7 @@ use lib.ListN.{length}
 use lib.Dec.{eqb}
 use borrow.Author.Tests.{eqb-true}
 use Rattle.counts.specs.Outcome.{Outcome, gives, refused, each}
+use Rattle.counts.proofs.Alike.{true-false}
 use Rattle.type_str.specs.declared.TypeStr.{TypeStr}
 use Rattle.type_str.specs.TypeString.{typeString}
 use Rattle.dtype.specs.Dtype.{plain}
@@ -20,8 +21,8 @@ use Rattle.member.specs.Members.{closingOf}
 use Rattle.tokens.specs.Node.{Node, string, integer, True, False, None, list, tuple, dict}
 use Rattle.classes.specs.Got.{Got, got, deep, pos}
 use Rattle.classes.specs.Text.{byteAt, kindOf}
+use Rattle.classes.proofs.Positions.{open-in, open-square, open-round}
 use Rattle.escapes.specs.Strings.{spelled}
-use Rattle.classes.proofs.Positions.{open-in}
 use Rattle.literal.specs.Literal.{value as valueOf}
 use Rattle.gaps.specs.Gaps.{gapAt}
 use Rattle.literal.specs.Rows.{Row, kindOfNode}
@@ -43,9 +44,6 @@ use Rattle.descr.specs.Judges.{Judges, JudgesFrom, typedAt}
 use Rattle.descr.proofs.Adds.{fieldsBy, fieldBy, nameBy, descrBy, itemsBy, record-step}
 use Rattle.behind.proofs.Reach.{inside, list-from}
 use Rattle.descr.proofs.Along.{JudgesInside, valuesOf}
-
-true-false : {A : Type 0} → true ≡ false → A
-true-false h = absurd (let z : _≡_ {A = ℕ} 0 1 = cc in omega arith)
 
 square-kind : (k : Kind) → closingOf k ≡ 93 → k ≡ Square
 square-kind Square h = refl
@@ -185,14 +183,6 @@ opening-byte b close hc some = go (eqb b 91) (eqb b 40) refl refl (hc ∙ closin
     go true u ht hu h = inl (eqb-true b 91 ht, h)
     go false true ht hu h = inr (eqb-true b 40 hu, h)
     go false false ht hu h = absurd (some h)
-
-open-square : (b : ℕ) → b ≡ 91 → isOpen b ≡ true
-unfolding isOpen
-open-square b h = rw h
-
-open-round : (b : ℕ) → b ≡ 40 → isOpen b ≡ true
-unfolding isOpen
-open-round b h = rw h
 
 -- ---- what the walk owes for the value at `at`, by what stands there
 module _ (k : ℕ) (s : List ℕ) (at : ℕ) where

@@ -35,6 +35,3 @@ module _ (k : ℕ) (s : List ℕ) (at : ℕ) where
   judged-at r e w he =
       let t = thing (value k s at) e (sym he ∙ w .ends) in
       record { ends = w .ends; says = w .of-value (t .0) e (t .1) ∙ sym (ap (λ (g : Got Node). then (valueOr 14 g) totals) (t .1)) }
-
-  pub judged-value : (r : Judged) → JudgesAt (value k s at) r → Judges k s at totals r
-  judged-value r w = record { ends = w .ends; of-value = λ n e h. w .says ∙ ap (λ (g : Got Node). then (valueOr 14 g) totals) h }

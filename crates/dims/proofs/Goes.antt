@@ -1,6 +1,5 @@
 -- What a loop over the items of a bracket keeps: whichever items the bracket has, those from the gap on are its last ones, and F holds of all the items
--- and the last ones. A law for each place of such a loop: its start, one more item, its end, and the place that no loop comes to where the items
--- stand. Assumes nothing.
+-- and the last ones. A law for each place of such a loop: its start, one more item and its end. Assumes nothing.
 use Prim.Native.Nat.{ℕ, _+_, _<_, _≤_}
 use native.Mathlib.Omega.{arith}
 use mathlib.Core.Path.{_≡_, sym, ap, subst, _∙_}
@@ -17,7 +16,6 @@ use Rattle.gaps.specs.declared.Gap.the-variants.{Shut, Item, Stray}
 use Rattle.classes.proofs.Parsed.{the-type}
 use Rattle.gaps.proofs.Gap as gap
 use Rattle.gaps.proofs.Ends.{GapAhead}
-use Rattle.classes.proofs.Ends.{Stops, stops}
 use Rattle.literal.proofs.Rows.{row-step, row-shut, row-stray}
 
 module _ {A : Type 0} (rd : ℕ → Got A) (s : List ℕ) (close from : ℕ) where
@@ -41,13 +39,6 @@ module _ {A : Type 0} (rd : ℕ → Got A) (s : List ℕ) (close from : ℕ) whe
       → (v : A) × (ts : List A) × (q : ℕ) × (us ≡ v ∷ ts) × (rd p ≡ got v q) × Row rd s close ts (thenAt s q close) e
   item-at g us p e hp r = row-step rd s close us p e (subst (λ (x : Gap). Row rd s close us x e) hp r)
 
-  pub goes-item : (F : List A → List A → Type 0) (g : Gap) (p : ℕ) → Goes F g → g ≡ Item p
-      → (vs : List A) (e : ℕ) → Row rd s close vs (gapAt s from close) e → (v : A) × (us : List A) × (q : ℕ) × (rd p ≡ got v q) × F vs (v ∷ us)
-  goes-item F g p w hp vs e r =
-      let k = w vs e r in
-      let i = item-at g (k .0) p e hp (k .1) in
-      (i .0, i .1, i .2, i .4, subst (F vs) (i .3) (k .2))
-
   pub goes-more : (F F′ : List A → List A → Type 0) (g g′ : Gap) (p q : ℕ) (r : Parsed) → Goes F g → g ≡ Item p → r ≡ Value q → r ≡ pos (rd p) → g′ ≡ thenAt s q close
       → ((v : A) (vs us : List A) → rd p ≡ got v q → F vs (v ∷ us) → F′ vs us) → Goes F′ g′
   goes-more F F′ g g′ p q r w hp hq hr hg f vs e row =
@@ -56,12 +47,6 @@ module _ {A : Type 0} (rd : ℕ → Got A) (s : List ℕ) (close from : ℕ) whe
       let x : Value q ≡ Value (i .2) = sym hq ∙ hr ∙ ap pos (i .4) in
       let y : i .2 ≡ q = cc in
       (i .1, subst (λ (z : Gap). Row rd s close (i .1) z e) (ap (λ (z : ℕ). thenAt s z close) y ∙ sym hg) (i .5), f (i .0) vs (i .1) (i .4 ∙ ap (got (i .0)) y) (subst (F vs) (i .3) (k .2)))
-
-  pub goes-stop : {X : Type 0} (F : List A → List A → Type 0) (g : Gap) (p : ℕ) (r : Parsed) → Goes F g → g ≡ Item p → r ≡ pos (rd p) → OneOf (1 ∷ 2 ∷ []) (tagOf the-type r)
-      → (vs : List A) (e : ℕ) → Row rd s close vs (gapAt s from close) e → X
-  goes-stop F g p r w hp hr o vs e row =
-      let i = goes-item F g p w hp vs e row in
-      absurd (subst Stops (hr ∙ ap pos (i .3)) (stops r o))
 
 -- ---- a text has no more items than bytes
 abbrev pub Counted : ℕ → Gap → Type 0

@@ -12,8 +12,8 @@ use borrow.Author.Tests.{eqb-true, eqb-false, eq-eqb, ne-eqb}
 use denote.Enum.Declared.{tagOf}
 use types.Run.{OneOf, miss}
 use Rattle.counts.specs.Outcome.{Outcome, gives, refused, then, each}
+use Rattle.counts.proofs.Alike.{true-false}
 use Rattle.grammar.specs.Bytes.{isOpen, isQuote}
-use Rattle.grammar.proofs.Texts.{true-false}
 use Rattle.decimal.specs.Decimal.{isDigit}
 use Rattle.tokens.specs.Node.{Node, span, list, tuple, nodes}
 use Rattle.classes.specs.Got.{Got, got, fault, deep, pos, with}
@@ -31,9 +31,10 @@ use Rattle.gaps.specs.declared.Gap.{Gap}
 use Rattle.gaps.specs.declared.Gap.the-variants.{Shut, Item, Stray}
 use Rattle.gaps.proofs.Gap as gap
 use Rattle.literal.proofs.Ends.{pos-with, value-ahead}
+use Rattle.literal.proofs.Steps.{thing, gapLeft, gap-enough, gap-falls, read-ahead, tuple-stop, tuple-comma, value-deep, stop-by}
 use Rattle.gaps.proofs.Ends.{GapAhead, gap-ahead, then-ahead}
 use Rattle.classes.proofs.Ends.{Stops, stops}
-use Rattle.literal.proofs.Steps.{thing, gapLeft, gap-enough, gap-falls, read-ahead, tuple-stop, tuple-comma, value-deep}
+use Rattle.classes.proofs.Positions.{open-square, open-round}
 use Rattle.products.specs.declared.Outline.{Outline}
 use Rattle.products.specs.declared.Verdict.{Verdict}
 use Rattle.products.specs.declared.Verdict.the-variants.{NotShape}
@@ -98,19 +99,12 @@ module _ (k : ℕ) (s : List ℕ) (close from : ℕ) (met : Verdict) where
       let e = end-by (w .bound) g v (w .enough) o in
       subst (λ (x : Judged). Walks (outlined met) whole x) (sym hr) (record { ends = e .ends ∙ sym (w .ends); says = e .says ∙ sym (w .says) })
 
-  stop-by : (m p : ℕ) (g : Got Node) → gapLeft (length s) (Item p) < m → value k s p ≡ g → Stops (pos g) → pos (items (value k s) s close m (Item p)) ≡ pos g
-  unfolding items
-  stop-by zero p g lt hr st = absurd (not-suc-le-zero lt)
-  stop-by (suc m) p (got v q) lt hr st = absurd st
-  stop-by (suc m) p (fault e) lt hr st = rw (items, hr)
-  stop-by (suc m) p (deep e) lt hr st = rw (items, hr)
-
   pub walking-stop : (g : Gap) (v : Verdict) (p : ℕ) (r : Parsed) → Walking g v → g ≡ Item p → r ≡ pos (value k s p) → OneOf (1 ∷ 2 ∷ []) (tagOf the-type r)
       → Walks (outlined met) whole (record { ended = r; verdict = NotShape })
   walking-stop g v p r w hp hr o =
       let w′ = subst (λ (x : Gap). Walking x v) hp w in
       let st = subst (λ (x : Parsed). Stops x) hr (stops r o) in
-      walks-stop (outlined met) whole r (hr ∙ sym (w′ .ends ∙ stop-by (w′ .bound) p (value k s p) (w′ .enough) refl st)) (stops r o)
+      walks-stop (outlined met) whole r (hr ∙ sym (w′ .ends ∙ stop-by (value k s) s close (w′ .bound) p (value k s p) (w′ .enough) refl st)) (stops r o)
 
   module _ (small : close < 256) (g g′ : Gap) (v v′ : Verdict) (p q : ℕ) (r : Parsed) (d : Member) (hp : g ≡ Item p) (hq : r ≡ Value q) (hr : r ≡ pos (value k s p)) (hd : SizeAt s p d)
       (hv : outlined v′ ≡ then (outlined v) (λ o. each (heldBy o) (sized d))) (hg : g′ ≡ thenAt s q close) (fits : length s < 2 ^ 64) where
@@ -229,14 +223,6 @@ shape-open b h = go (eqb b 91) (eqb b 40) (eqb b 123) h
     go true u v e = refl
     go false true v e = refl
     go false false v e = true-false (sym e)
-
-open-square : (b : ℕ) → b ≡ 91 → isOpen b ≡ true
-unfolding isOpen
-open-square b h = rw h
-
-open-round : (b : ℕ) → b ≡ 40 → isOpen b ≡ true
-unfolding isOpen
-open-round b h = rw h
 
 module _ (s : List ℕ) (at : ℕ) where
   square-by : (j : ℕ) → byteAt s at ≡ 91 → value (suc j) s at ≡ with (λ e ns. list (span at e) (nodes ns)) (listBy (value j s) s (at + 1) 93)

@@ -1,26 +1,24 @@
 -- A path followed in a table. Where a dtype stands in the table, one number of a path leads to the entry of an inner dtype, some bytes further, or
--- nowhere (26); at the path's end the entry must be plain. Sizes are exact since no entry is over (21). Assumes nothing.
+-- nowhere (26). Sizes are exact since no entry is over (21). Assumes nothing.
 use Prim.Native.Nat.{ℕ, zero, suc, _+_, _*_, _<_, _≤_}
-use mathlib.Core.Path.{_≡_, refl, ap, sym, _∙_}
+use mathlib.Core.Path.{_≡_, refl, ap, _∙_}
 use mathlib.Core.Bool.{false}
-use mathlib.Core.List.{List, [], _∷_}
+use mathlib.Core.List.{List, _∷_}
 use native.Mathlib.Omega.{arith}
 use native.Mathlib.Nat.{mul-le-mul-right}
 use borrow.Author.Tests.{le-leb, lt-leb}
 use lib.ListN.{length, drop}
-use Rattle.counts.specs.Outcome.{gives, refused}
+use Rattle.counts.specs.Outcome.{refused}
 use Rattle.dtype.specs.declared.Entry.{Entry}
 use Rattle.dtype.specs.Dtype.{Dtype, Fields, plain, array, record-of, end-of-fields, field-then, sizeOf, sizesOf}
 use Rattle.dtype.specs.Entries.{fieldCount, entriesOf, entriesIn, someEntryIn}
 use Rattle.dtype.specs.Flat.{kindOf, numberOf, entry-width, flat, flats}
-use Rattle.dtype.specs.Record.{typeFrom}
 use Rattle.dtype.specs.Limits.{over, someOver}
-use Rattle.dtype.specs.Paths.{plainAt, plainOf, offset}
+use Rattle.dtype.specs.Paths.{plainAt, plainOf}
 use Rattle.dtype.specs.Agrees.{entryAt}
 use Rattle.dtype.specs.Seen.{fieldAt, fieldBytes}
 use Rattle.dtype.specs.Leads.{Leads}
 use Rattle.dtype.proofs.Stands.{stands-entry, stands-below, stands-after}
-use Rattle.dtype.proofs.Record.{type-back}
 use Rattle.dtype.proofs.Seen.{or-left, or-right, bytes-exact}
 
 pub array-leads : (n : ℕ) (d : Dtype) (t : List ℕ) (e up m : ℕ) (x : List ℕ) (i : ℕ) → drop (entry-width * e) t ≡ flat (array n d) e up m x
@@ -111,16 +109,3 @@ pub past-leads-nowhere : (d : Dtype) (i : ℕ) (p : List ℕ) → numberOf d ≤
 past-leads-nowhere (plain t) i p l = refl
 past-leads-nowhere (array n d) i p l = simp (le-leb n i l)
 past-leads-nowhere (record-of fs) i p l = no-field fs i p l
-
--- the path's end
-pub ends-plain : (d : Dtype) (t : List ℕ) (e up m : ℕ) (x : List ℕ) → drop (entry-width * e) t ≡ flat d e up m x → kindOf d ≡ 0
-    → (plainAt d [] ≡ gives (typeFrom (entryAt t e))) × (offset d [] ≡ 0)
-ends-plain (plain ty) t e up m x h k =
-    (ap gives (sym (ap (λ (a : Entry). typeFrom a) (stands-entry (plain ty) t e up m x h) ∙ type-back ty up m)), refl)
-ends-plain (array n d) t e up m x h k = absurd (omega arith)
-ends-plain (record-of fs) t e up m x h k = absurd (omega arith)
-
-pub ends-nowhere : (d : Dtype) → (kindOf d ≡ 0 → ⊥) → plainAt d [] ≡ refused 26
-ends-nowhere (plain t) k = absurd (k refl)
-ends-nowhere (array n d) k = refl
-ends-nowhere (record-of fs) k = refl

@@ -1,13 +1,14 @@
 -- A place that is given has a type that readings give: its record was checked, and no plain type of it is another. So behind its place an element's reading never has
 -- a 27 of its own, and document 01's "A string element is read after its place: 29, 23" is all that is left (26 for another type aside). Assumes nothing.
 use Prim.Native.Nat.{ℕ, zero, suc, _+_}
-use mathlib.Core.Path.{_≡_, refl, sym, ap, _∙_}
+use mathlib.Core.Path.{_≡_, refl, ap, _∙_}
 use mathlib.Core.Bool.{Bool, true, false, not}
 use mathlib.Core.List.{List, [], _∷_}
 use lib.Dec.{ltb, leb}
 use lib.ListN.{length}
 use borrow.Author.Tests.{not-false}
 use Rattle.counts.specs.Outcome.{Outcome, gives, refused, then, each, unless}
+use Rattle.counts.proofs.Apart.{refused-gives, gives-apart}
 use Rattle.type_str.specs.Text.{isType}
 use Rattle.type_str.specs.declared.TypeStr.{TypeStr}
 use Rattle.dtype.specs.declared.Order.{Order}
@@ -24,13 +25,11 @@ use Rattle.area.specs.declared.Run.{Run}
 use Rattle.places.specs.Place.{runFrom, placed, placeOf}
 use Rattle.strings.specs.Elements.{kindOf, bytesIn, pointsIn}
 use Rattle.strings.specs.Rooms.{roomed, readBytes, readPoints}
-use Rattle.strings.proofs.Scalars.{apart}
-use Rattle.strings.proofs.Places.{gives-same}
 use Rattle.placed.specs.Bytes.{bytesOf}
 use Rattle.element.specs.Element.{elementBytes, elementPoints}
 
 passed : {A : Type 0} {a : A} (b : Bool) (n : ℕ) (o : Outcome A) → unless b n o ≡ gives a → o ≡ gives a
-passed true n o e = apart (sym e)
+passed true n o e = refused-gives e
 passed false n o e = e
 
 -- what no plain type of a dtype is, no path leads to
@@ -38,14 +37,14 @@ module _ (test : TypeStr → Bool) where
   mutual
     none-at : (d : Dtype) (p : List ℕ) (ty : TypeStr) → someEntry (plainOnly test) d ≡ false → plainAt d p ≡ gives ty → test ty ≡ false
     none-at (plain t) [] ty n e = let z : t ≡ ty = cc in rw (← z) n
-    none-at (plain t) (i ∷ p) ty n e = apart (sym e)
-    none-at (array k d) [] ty n e = apart (sym e)
+    none-at (plain t) (i ∷ p) ty n e = refused-gives e
+    none-at (array k d) [] ty n e = refused-gives e
     none-at (array k d) (i ∷ p) ty n e = none-at d p ty n (passed (leb k i) 26 (plainAt d p) e)
-    none-at (record-of fs) [] ty n e = apart (sym e)
+    none-at (record-of fs) [] ty n e = refused-gives e
     none-at (record-of fs) (i ∷ p) ty n e = none-of fs i p ty n e
 
     none-of : (fs : Fields) (i : ℕ) (p : List ℕ) (ty : TypeStr) → someEntryIn (plainOnly test) fs ≡ false → plainOf fs i p ≡ gives ty → test ty ≡ false
-    none-of end-of-fields i p ty n e = apart (sym e)
+    none-of end-of-fields i p ty n e = refused-gives e
     none-of (field-then name d fs) zero p ty n e = none-at d p ty (or-left (someEntry (plainOnly test) d) (someEntryIn (plainOnly test) fs) n) e
     none-of (field-then name d fs) (suc i) p ty n e = none-of fs i p ty (or-right (someEntry (plainOnly test) d) (someEntryIn (plainOnly test) fs) n) e
 
@@ -56,9 +55,9 @@ module _ (file start : ℕ) (x p : List ℕ) (u : Run) where
   run-typed : (r : Record) → someEntry (plainOnly untyped) (r .dtype) ≡ false → (c : Outcome TypeStr) → plainAt (r .dtype) p ≡ c
       → each (λ ty. runFrom (place start r x p) ty) c ≡ gives u → isType (u .kind) ≡ true
   run-typed r n (gives ty) e k =
-      let z : ty ≡ u .kind = ap (λ (v : Run). v .kind) (gives-same k) in
+      let z : ty ≡ u .kind = ap (λ (v : Run). v .kind) (gives-apart k) in
       not-false (isType (u .kind)) (none-at untyped (r .dtype) p (u .kind) n (e ∙ ap gives z))
-  run-typed r n (refused m) e k = apart (sym k)
+  run-typed r n (refused m) e k = refused-gives k
 
   in-record-typed : (r : Record) → someEntry (plainOnly untyped) (r .dtype) ≡ false → placed file start r x p ≡ gives u → isType (u .kind) ≡ true
   unfolding placed
@@ -74,7 +73,7 @@ module _ (file start : ℕ) (x p : List ℕ) (u : Run) where
       go (gives r) e k =
           let v = accepts-valid t ns s o r e in
           in-record-typed r (ap (λ (y : Record). someEntry (plainOnly untyped) (y .dtype)) (v .1) ∙ v .2 .typed) k
-      go (refused n) e k = apart (sym k)
+      go (refused n) e k = refused-gives k
 
 -- ---- so of an element
 then-same : (c : Outcome Run) (f g : Run → Outcome (List ℕ)) → ((u : Run) → c ≡ gives u → f u ≡ g u) → then c f ≡ then c g

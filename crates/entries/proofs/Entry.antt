@@ -6,10 +6,10 @@ use mathlib.Core.Logic.{⊎-elim}
 use mathlib.Core.List.{List}
 use lib.ListN.{length, getD, drop, List·getD-eq-default}
 use lib.Seq.{getD-drop}
+use Rattle.counts.proofs.Sides.{lt-or-ge}
 use Rattle.dtype.specs.declared.Entry.{Entry}
 use Rattle.dtype.specs.Flat.{entry-width}
 use Rattle.dtype.specs.Agrees.{entryAt}
-use Rattle.dtype.proofs.Digits.{lt-or-ge}
 
 -- past its end a table has no number
 pub past-end : (t : List ℕ) (n k : ℕ) → length t ≤ n + k → 0 ≡ getD (drop n t) k 0

@@ -5,8 +5,8 @@ use mathlib.Core.Bool.{Bool, true, false, or-true}
 use mathlib.Core.Logic.{⊎-elim}
 use native.Mathlib.Omega.{arith}
 use Rattle.counts.proofs.Alike.{true-false}
+use Rattle.counts.proofs.Sides.{lt-or-ge}
 use Rattle.dtype.specs.Seen.{someFrom}
-use Rattle.dtype.proofs.Digits.{lt-or-ge}
 
 -- one more entry, going back
 pub one-more : (P : ℕ → Type 0) (n e : ℕ) → 0 < e → ((c : ℕ) → e ≤ c → c < n → P c) → P (e - 1) → (c : ℕ) → e - 1 ≤ c → c < n → P c

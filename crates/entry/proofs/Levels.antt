@@ -3,19 +3,18 @@
 use Prim.Native.Nat.{ℕ, zero, suc, _+_, _-_, _*_, _/_, _^_, _<_, _≤_}
 use native.Mathlib.Omega.{arith}
 use mathlib.Core.Path.{_≡_, refl, sym, ap, _∙_}
-use mathlib.Core.Logic.{⊎-elim}
 use mathlib.Core.List.{List, [], _∷_}
 use mathlib.Core.Bool.{Bool, true, false, cond}
 use lib.Dec.{ltb}
 use lib.ListN.{length, getD, drop}
 use lib.Seq.{sets, length-sets, drop-cons, drop-length}
 use borrow.Author.Tests.{lt-ltb, le-ltb}
-use Rattle.dtype.proofs.Digits.{lt-or-ge}
 use Rattle.dtype.specs.declared.Entry.{Entry}
 use Rattle.dtype.specs.Dtype.{Dtype, array, sizeOf}
 use Rattle.dtype.specs.Entries.{entriesOf}
 use Rattle.counts.specs.Number.{capped}
 use Rattle.dtype.specs.Flat.{entry-width, entryOf, numbers, flat}
+use Rattle.dtype.proofs.Whole.{capped-times}
 use Rattle.record.specs.Descr.{arrays}
 use Rattle.entry.specs.Written.{put, bare, upOf, nameOf, sizeOver, levelled}
 use Rattle.lifts.proofs.Stores.{sets-back}
@@ -68,22 +67,10 @@ up-above : (k at : ℕ) → at + k ≡ upOf k (suc at) at
 up-above zero at = omega arith
 up-above (suc k) at = omega arith
 
--- ---- a size times a number, capped before or after
-pub saturated-times : (n c : ℕ) → capped (n * capped c) ≡ capped (n * c)
-saturated-times zero c = omega arith
-saturated-times (suc n) c =
-    ⊎-elim
-    (λ (l : c < 2 ^ 64). let e : capped c ≡ c = omega arith in ap (λ (x : ℕ). capped (suc n * x)) e)
-    (λ (l : 2 ^ 64 ≤ c). let e : capped c ≡ 2 ^ 64 - 1 = omega arith in rw e (omega arith))
-    (lt-or-ge c (2 ^ 64))
-
+-- ---- a size times numbers, capped at each or at the end
 pub size-over : (ns : List ℕ) (d : Dtype) (size : ℕ) → size ≡ capped (sizeOf d) → sizeOver ns size ≡ capped (sizeOf (arrays ns d))
 size-over [] d size h = h
-size-over (n ∷ ns) d size h = ap (λ (x : ℕ). capped (n * x)) (size-over ns d size h) ∙ saturated-times n (sizeOf (arrays ns d))
-
-pub arrays-entries : (ns : List ℕ) (d : Dtype) → entriesOf (arrays ns d) ≡ length ns + entriesOf d
-arrays-entries [] d = omega arith
-arrays-entries (n ∷ ns) d = omega (arith, arrays-entries ns d)
+size-over (n ∷ ns) d size h = ap (λ (x : ℕ). capped (n * x)) (size-over ns d size h) ∙ capped-times n (sizeOf (arrays ns d))
 
 -- ---- the levels above a type are the table of the array
 pub levels-flat : (ns : List ℕ) (d : Dtype) (at up m last size : ℕ) (old : List ℕ) → size ≡ capped (sizeOf d) → last ≡ at + entriesOf (arrays ns d) → entry-width * last ≤ length old

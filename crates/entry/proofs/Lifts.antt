@@ -11,11 +11,12 @@ use Rattle.counts.specs.Number.{capped}
 use Rattle.dtype.specs.Flat.{entry-width, flat}
 use Rattle.dtype.proofs.Flat.{flat-length}
 use Rattle.record.specs.Descr.{arrays}
+use Rattle.record.proofs.Levels.{arrays-entries}
 use Rattle.lifts.specs.Lifted.{movedFrom, lifted}
 use Rattle.lifts.proofs.Stores.{sets-over}
 use Rattle.lifts.proofs.Lifts.{dtype-moved, part-of, lifted-room}
 use Rattle.entry.specs.Written.{sizeOver, levelled, above}
-use Rattle.entry.proofs.Levels.{arrays-entries, levels-flat}
+use Rattle.entry.proofs.Levels.{levels-flat}
 
 -- ---- the levels above a type that was lifted
 pub over-none : (ns : List ℕ) (entry up m last size : ℕ) (table : List ℕ) → length ns ≡ 0 → (size ≡ sizeOver ns size) × (table ≡ above ns entry up m last size table)

@@ -3,7 +3,7 @@ use Prim.Native.Nat.{ℕ, _-_}
 use mathlib.Core.Path.{_≡_, sym, _∙_}
 use mathlib.Core.List.{List}
 use Rattle.counts.specs.OneOutcome.{OneOutcome}
-use Rattle.counts.proofs.OneOutcome.{by-equation}
+use Rattle.counts.proofs.OneOutcome.{by-equation, pair-of}
 use Rattle.type_str.specs.declared.TypeStr.{TypeStr}
 use Rattle.type_str.specs.declared.TypeRead.{TypeRead}
 use Rattle.dtype.specs.Dtype.{plain, sizeOf}
@@ -14,12 +14,9 @@ use Rattle.entry.specs.Written.{typeIn, put, bare, sizeOver, above}
 pub type-of-one : (r : TypeRead) → OneOutcome {A = TypeStr} (λ t. t ≡ typeIn r)
 type-of-one r = by-equation (typeIn r)
 
-pair-eq : {n m : ℕ} {a b : List ℕ} → n ≡ m → a ≡ b → _≡_ {A = ℕ × List ℕ} (n, a) (m, b)
-pair-eq hn ha = cc
-
 -- an outcome is the answer and what the table then holds
 two-one : (n : ℕ) (l : List ℕ) → OneOutcome {A = ℕ × List ℕ} (λ r. (r .0 ≡ n) × (r .1 ≡ l))
-two-one n l x y p q = pair-eq {n = x .0} {m = y .0} {a = x .1} {b = y .1} (p .0 ∙ sym (q .0)) (p .1 ∙ sym (q .1))
+two-one n l x y p q = pair-of {a = x .0} {a′ = y .0} {b = x .1} {b′ = y .1} (p .0 ∙ sym (q .0)) (p .1 ∙ sym (q .1))
 
 pub put-plain-one : (table : List ℕ) (at : ℕ) (t : TypeStr) (up m : ℕ) → OneOutcome {A = ℕ × List ℕ} (λ r. (r .0 ≡ capped (sizeOf (plain t))) × (r .1 ≡ put table at (entryOf (plain t) up m)))
 put-plain-one table at t up m = two-one (capped (sizeOf (plain t))) (put table at (entryOf (plain t) up m))

@@ -1,22 +1,18 @@
--- Where a string, a list or a tuple begins, a byte of the text stands. By the kinds. Assumes nothing.
+-- Where a string begins, a byte of the text stands, since what is past the end is of another kind. By the kinds. Assumes nothing.
 use Prim.Native.Nat.{ℕ, _<_}
-use native.Mathlib.Omega.{arith}
 use mathlib.Core.Path.{_≡_, refl, sym}
 use mathlib.Core.List.{List, [], _∷_}
 use mathlib.Core.Bool.{true, false}
 use lib.ListN.{length}
 use denote.Enum.Declared.{tagOf}
 use types.Run.{OneOf, miss}
+use Rattle.counts.proofs.Alike.{true-false}
 use Rattle.classes.specs.Text.{byteAt, kindOf}
 use Rattle.classes.specs.declared.Kind.{Kind}
 use Rattle.classes.specs.declared.Kind.the-variants.{Square, Round, Curly, Quote, Minus, Digit, TrueWord, FalseWord, NoneWord, Other}
 use Rattle.classes.proofs.Kind.{the-type}
 use Rattle.classes.proofs.Positions.{kind-in}
-use Rattle.member.specs.Members.{closingOf}
 use Rattle.field.specs.Begins.{isString}
-
-true-false : {A : Type 0} → true ≡ false → A
-true-false h = absurd (let z : _≡_ {A = ℕ} 0 1 = cc in omega arith)
 
 -- every kind but a string's
 pub other-kind : (k : Kind) → OneOf (0 ∷ 1 ∷ 2 ∷ 4 ∷ 5 ∷ 6 ∷ 7 ∷ 8 ∷ 9 ∷ []) (tagOf the-type k) → isString k ≡ false
@@ -43,21 +39,6 @@ string-kind FalseWord h = true-false (sym h)
 string-kind NoneWord h = true-false (sym h)
 string-kind Other h = true-false (sym h)
 
-closing-begins : (s : List ℕ) (at : ℕ) (k : Kind) → kindOf (byteAt s at) ≡ k → (closingOf k ≡ 0 → ⊥) → at < length s
-closing-begins s at Square e h = kind-in s at e refl
-closing-begins s at Round e h = kind-in s at e refl
-closing-begins s at Curly e h = absurd (h refl)
-closing-begins s at Quote e h = absurd (h refl)
-closing-begins s at Minus e h = absurd (h refl)
-closing-begins s at Digit e h = absurd (h refl)
-closing-begins s at TrueWord e h = absurd (h refl)
-closing-begins s at FalseWord e h = absurd (h refl)
-closing-begins s at NoneWord e h = absurd (h refl)
-closing-begins s at Other e h = absurd (h refl)
-
 module _ (s : List ℕ) (at : ℕ) where
   pub string-in : isString (kindOf (byteAt s at)) ≡ true → at < length s
   string-in h = kind-in s at (string-kind (kindOf (byteAt s at)) h) refl
-
-  pub closing-in : (closingOf (kindOf (byteAt s at)) ≡ 0 → ⊥) → at < length s
-  closing-in h = closing-begins s at (kindOf (byteAt s at)) refl h

@@ -12,7 +12,7 @@ use lib.Dec.{eqb, ltb}
 use borrow.Author.Tests.{eqb-true, ltb-true, ltb-false, le-ltb}
 use Rattle.counts.specs.Outcome.{Outcome, gives, refused, then, unless}
 use Rattle.counts.specs.Same.{same}
-use Rattle.counts.proofs.Alike.{or-none}
+use Rattle.counts.proofs.Alike.{or-none, false-true, or-elim}
 use Rattle.grammar.specs.Bytes.{isBreak, isEscape, unescape}
 use Rattle.decimal.specs.Decimal.{isDigit, digitsOf, afterDigits}
 use Rattle.classes.specs.Text.{byteAt}
@@ -31,13 +31,6 @@ use Rattle.letters.specs.Spelling.{letters, letterOf, letterByte}
 use Rattle.spelling.specs.Spelling.{firstOf}
 use Rattle.units.specs.Units.{units, unitText, unitsOf}
 use Rattle.type_str.specs.TypeString.{sizeStands, sized, syntax, typeString}
-
-false-true : {A : Type 0} → false ≡ true → A
-false-true h = absurd (let z : _≡_ {A = ℕ} 0 1 = cc in omega arith)
-
-or-elim : {A : Type 0} (a b : Bool) → (a || b) ≡ true → (a ≡ true → A) → (b ≡ true → A) → A
-or-elim true b h f g = f refl
-or-elim false b h f g = g h
 
 -- ---- bytes: one of a list
 abbrev among : List ℕ → ℕ → Bool

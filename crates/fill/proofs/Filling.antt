@@ -15,12 +15,15 @@ use Rattle.dtype.specs.Dtype.{Dtype, Fields, plain, record-of, end-of-fields, f
 use Rattle.dtype.specs.Entries.{entriesOf, entriesIn, fieldCount, levels}
 use Rattle.dtype.specs.Names.{nameBytes, nameBytesIn, namesOf, namesIn}
 use Rattle.counts.specs.Number.{capped}
+use Rattle.counts.proofs.Alike.{false-true}
+use Rattle.counts.proofs.Apart.{refused-gives}
 use Rattle.dtype.specs.Flat.{entry-width, entryOf, numbers, flat, flats}
 use Rattle.dtype.proofs.Flat.{some-entry, flat-length, names-length}
 use Rattle.type_str.specs.declared.TypeStr.{TypeStr}
 use Rattle.type_str.specs.Answer.{answer}
 use Rattle.type_str.specs.TypeString.{typeString}
 use Rattle.record.specs.Descr.{Field, arrays, descrOf, fieldOf, fieldsOf}
+use Rattle.record.proofs.Levels.{arrays-entries, arrays-names, arrays-name-bytes}
 use Rattle.tokens.specs.Node.{Node, nodes, string, integer, True, False, None, list, tuple, dict}
 use Rattle.classes.specs.declared.Parsed.{Parsed}
 use Rattle.classes.specs.Got.{Got, got, pos}
@@ -48,10 +51,10 @@ use Rattle.field.specs.declared.Typed.{Typed}
 use Rattle.field.specs.Begins.{gapPlace, isString}
 use Rattle.entry.specs.Written.{typeIn, put, bare, above}
 use Rattle.entry.proofs.Stores.{sets-append, flat-front, names-front}
-use Rattle.entry.proofs.Levels.{put-room, entry-before, size-over, arrays-entries}
+use Rattle.entry.proofs.Levels.{put-room, entry-before, size-over}
 use Rattle.entry.proofs.Lifts.{above-flat}
 use Rattle.fill.specs.Filled.{Narrow, NarrowIn, nameSpelled, DueHead, Headed, DueShape, DueShapeAt, Shapes, Due, DueAt, Fills, Filled, DueFields, DueFieldsFrom, FillsFields, FilledFields, DueField, FilledField}
-use Rattle.fill.proofs.Parted.{refused-gives, read-back, row-none, Opened, opened}
+use Rattle.fill.proofs.Parted.{read-back, row-none, Opened, opened}
 
 -- ---- a type string
 plain-back : (o : Outcome TypeStr) (d : Dtype) → each plain o ≡ gives d → (t : TypeStr) × (o ≡ gives t) × (d ≡ plain t)
@@ -61,9 +64,6 @@ plain-back (refused n) d h = refused-gives h
 record-back : (o : Outcome Fields) (d : Dtype) → each record-of o ≡ gives d → (fs : Fields) × (o ≡ gives fs) × (d ≡ record-of fs)
 record-back (gives fs) d h = (fs, refl, sym (let z : record-of fs ≡ d = cc in z))
 record-back (refused n) d h = refused-gives h
-
-false-true : {A : Type 0} → false ≡ true → A
-false-true h = absurd (let z : _≡_ {A = ℕ} 0 1 = cc in omega arith)
 
 -- what the value at `at` is, by whether a string begins there
 pub record Text (s : List ℕ) (at e : ℕ) (d : Dtype) : Type 0 where
@@ -358,14 +358,6 @@ narrow-levels (n ∷ ns) d h = (omega (arith, h .0, deep ns), narrow-levels ns d
     deep (n ∷ ns) = omega (arith, deep ns)
 
 -- ---- a field
-arrays-bytes : (ns : List ℕ) (d : Dtype) → nameBytes (arrays ns d) ≡ nameBytes d
-arrays-bytes [] d = refl
-arrays-bytes (n ∷ ns) d = arrays-bytes ns d
-
-arrays-names : (ns : List ℕ) (d : Dtype) (y : List ℕ) → namesOf (arrays ns d) y ≡ namesOf d y
-arrays-names [] d y = refl
-arrays-names (n ∷ ns) d y = arrays-names ns d y
-
 module _ (k : ℕ) (s : List ℕ) (at entry up byte : ℕ) (table names : List ℕ) (close : ℕ) (hc : close ≡ closingOf (kindOf (byteAt s at))) (n : Node) (e : ℕ) (f : Field) (due : DueField k s at entry table byte names n e f) where
   w : Opened k s at close e f
   w = opened k s at close hc n e f (due .one)
@@ -374,7 +366,7 @@ module _ (k : ℕ) (s : List ℕ) (at entry up byte : ℕ) (table names : List �
   entries-are = ap entriesOf (w .typed) ∙ arrays-entries (w .ns) (w .d)
 
   bytes-are : nameBytes (f .type) ≡ nameBytes (w .d)
-  bytes-are = ap nameBytes (w .typed) ∙ arrays-bytes (w .ns) (w .d)
+  bytes-are = ap nameBytes (w .typed) ∙ arrays-name-bytes (w .ns) (w .d)
 
   few-levels : (length (w .ns) ≤ 32) × Narrow (w .d)
   few-levels = narrow-levels (w .ns) (w .d) (subst (λ (x : Dtype). Narrow x) (w .typed) (due .narrow))

@@ -7,8 +7,9 @@ use mathlib.Core.Bool.{Bool, true, false, _||_}
 use lib.Dec.{ltb}
 use lib.ListN.{length}
 use borrow.Author.Tests.{ltb-false}
-use Rattle.counts.specs.Outcome.{Outcome, gives, unless}
+use Rattle.counts.specs.Outcome.{gives, unless}
 use Rattle.counts.proofs.Alike.{or-none}
+use Rattle.counts.proofs.Holds.{unless-back}
 use Rattle.refusal.specs.declared.Refusal.{Refusal}
 use Rattle.dtype.specs.declared.Order.{Order}
 use Rattle.dtype.specs.Entries.{entriesOf}
@@ -38,10 +39,6 @@ use Rattle.fill.specs.declared.TextRead.{TextRead}
 use Rattle.fill.specs.Text.{lent, saidOf, Houses}
 
 -- ---- what was not refused
-unless-back : {A : Type 0} (b : Bool) (n : ℕ) (o : Outcome A) (a : A) → unless b n o ≡ gives a → (b ≡ false) × (o ≡ gives a)
-unless-back true n o a e = absurd (let z : _≡_ {A = ℕ} 0 1 = cc in omega arith)
-unless-back false n o a e = (refl, e)
-
 module _ (r : Record) (within : limited r ≡ gives r) where
   not-13 : ((overDimensions (r .shape) || overLevels (r .dtype)) ≡ false) × (unless (overEntries (r .dtype)) 20 (unless (overSize (r .dtype)) 21 (unless (overShape (r .order) (r .shape)) 22 (gives r))) ≡ gives r)
   unfolding limited

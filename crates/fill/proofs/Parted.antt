@@ -12,6 +12,7 @@ use borrow.Author.Tests.{eqb-true, eqb-false}
 use denote.Enum.Declared.{tagOf}
 use types.Run.{OneOf, miss}
 use Rattle.counts.specs.Outcome.{Outcome, gives, refused, then, each, unless}
+use Rattle.counts.proofs.Apart.{refused-gives}
 use Rattle.grammar.specs.Value as value
 use Rattle.grammar.specs.Value.{Value, Values}
 use Rattle.dtype.specs.Dtype.{Dtype}
@@ -46,9 +47,6 @@ use Rattle.dims.proofs.Held.{Bracket, bracket, no-bracket}
 use Rattle.field.specs.Begins.{gapPlace}
 use Rattle.fill.specs.Filled.{OneField, namePlace, nameSpelled, innerPlace, DueShape, Shaped}
 use Rattle.fill.specs.declared.Spot.{Spot}
-
-pub refused-gives : {A B : Type 0} {a : A} {n : ℕ} → refused n ≡ gives a → B
-refused-gives h = absurd (let z : _≡_ {A = ℕ} 0 1 = cc in omega arith)
 
 -- an answer that stands for a type is that type
 pub read-back : (r : TypeRead) (t : TypeStr) → answer r ≡ gives t → r ≡ TypeRead.Read t

@@ -1,10 +1,11 @@
 -- From the judged text to the text read with lent rooms; and no second outcome satisfies the statement of `read_text`. Assumes nothing.
 use Prim.Native.Nat.{ℕ}
-use native.Mathlib.Omega.{arith}
 use mathlib.Core.Path.{_≡_, refl, sym, ap, subst, _∙_}
 use mathlib.Core.List.{List}
 use Rattle.counts.specs.Outcome.{Outcome, gives, refused, then, each}
 use Rattle.counts.specs.OneOutcome.{OneOutcome}
+use Rattle.counts.proofs.OneOutcome.{pair-of}
+use Rattle.counts.proofs.Apart.{gives-apart, refused-gives, refused-apart, gives-refused}
 use Rattle.refusal.specs.declared.Refusal.{Refusal}
 use Rattle.refusal.specs.Numbers.{numberOf}
 use Rattle.refusal.proofs.Names.{number-apart}
@@ -15,7 +16,6 @@ use Rattle.classes.specs.Text.{skip}
 use Rattle.judge.specs.declared.Plan.{Plan}
 use Rattle.judge.specs.declared.Judged.{Judged}
 use Rattle.judge.specs.Judged.{reading, PlanOf, JudgedIs}
-use Rattle.fill.specs.declared.Said.{Said}
 use Rattle.fill.specs.declared.TextRead.{TextRead}
 use Rattle.fill.specs.Text.{saidOf, textAnswer, roomed, textInto, filled, Houses, ReadsText}
 
@@ -48,23 +48,11 @@ module _ (text : List ℕ) (j : Judged) (h : JudgedIs text (skip text 0) j (head
       record { answered = sym (ap (each saidOf) same); after = sym (ap (λ (o : Outcome Record). filled o l) same) }
 
 -- ---- an outcome is the answer and what the three rooms then hold
-gives-apart : (a b : Said) → gives a ≡ gives b → a ≡ b
-gives-apart a b e = cc
-
-refused-apart : (m n : ℕ) → _≡_ {A = Outcome Said} (refused m) (refused n) → m ≡ n
-refused-apart m n e = cc
-
-never : {X : Type 0} (a : Said) (n : ℕ) → gives a ≡ refused n → X
-never a n e = absurd (let z : _≡_ {A = ℕ} 0 1 = cc in omega arith)
-
 text-apart : (x y : TextRead) → textAnswer x ≡ textAnswer y → x ≡ y
-text-apart (TextRead.Read s) (TextRead.Read u) e = ap TextRead.Read (gives-apart s u e)
-text-apart (TextRead.Read s) (TextRead.Refused g) e = never s (numberOf g) e
-text-apart (TextRead.Refused f) (TextRead.Read u) e = never u (numberOf f) (sym e)
-text-apart (TextRead.Refused f) (TextRead.Refused g) e = ap TextRead.Refused (number-apart f g (refused-apart (numberOf f) (numberOf g) e))
-
-pair-eq : {x y : TextRead} {l m : Lent} → x ≡ y → l ≡ m → _≡_ {A = TextRead × Lent} (x, l) (y, m)
-pair-eq hx hl = cc
+text-apart (TextRead.Read s) (TextRead.Read u) e = ap TextRead.Read (gives-apart e)
+text-apart (TextRead.Read s) (TextRead.Refused g) e = gives-refused e
+text-apart (TextRead.Refused f) (TextRead.Read u) e = refused-gives e
+text-apart (TextRead.Refused f) (TextRead.Refused g) e = ap TextRead.Refused (number-apart f g (refused-apart e))
 
 pub read-text-one : (text : List ℕ) (l : Lent) → OneOutcome {A = TextRead × Lent} (λ o. ReadsText text l (o .0) (o .1))
-read-text-one text l x y p q = pair-eq (text-apart (x .0) (y .0) (p .answered ∙ sym (q .answered))) (p .after ∙ sym (q .after))
+read-text-one text l x y p q = pair-of (text-apart (x .0) (y .0) (p .answered ∙ sym (q .answered))) (p .after ∙ sym (q .after))

@@ -2,9 +2,9 @@
 -- record has them. Assumes nothing.
 use Prim.Native.Nat.{ℕ, _*_, _≤_}
 use native.Mathlib.Omega.{arith}
-use mathlib.Core.Path.{_≡_, refl}
+use mathlib.Core.Path.{_≡_}
 use mathlib.Core.List.{List}
-use mathlib.Core.Bool.{Bool, true, false, _||_}
+use mathlib.Core.Bool.{false}
 use lib.ListN.{length}
 use lib.Seq.{sets}
 use lib.Dec.{ltb}
@@ -17,14 +17,11 @@ use Rattle.dtype.specs.Record.{table, names}
 use Rattle.dtype.specs.Limits.{overLevels}
 use Rattle.dtype.proofs.Seen.{table-length, all-names-length}
 use Rattle.counts.specs.Front.{atFront}
+use Rattle.counts.proofs.Alike.{or-none}
 use Rattle.stored.proofs.Stored.{stored-over}
 use Rattle.fill.specs.Filled.{Narrow, NarrowIn}
 
 -- ---- 13
-or-none : (a b : Bool) → (a || b) ≡ false → (a ≡ false) × (b ≡ false)
-or-none true b h = absurd (let z : _≡_ {A = ℕ} 0 1 = cc in omega arith)
-or-none false b h = (refl, h)
-
 mutual
   pub narrow-of : (d : Dtype) → overLevels d ≡ false → Narrow d
   narrow-of (plain t) h = tt

@@ -1,3 +1,2 @@
 pub mod Whole
-pub mod Held
 pub mod Outcomes

@@ -14,9 +14,7 @@ use Rattle.record.specs.Version.{Version, textStart, one-zero, two-zero, three-
 use Rattle.record.specs.Prefix.{Prefix, dataStart, prefix, textOf}
 use Rattle.record.specs.Rooms.{Rooms, needs, tooSmall, Lent, roomsOf}
 use Rattle.record.specs.Header as header
-use Rattle.prefix.specs.declared.Version as declared
 use Rattle.prefix.specs.declared.Prefix as before
-use Rattle.prefix.specs.Answer as prefixes
 use Rattle.prefix.specs.Answer.{versionIs, prefixIs}
 use Rattle.judge.specs.Judged.{reading}
 use Rattle.fill.specs.declared.Said.{Said}

@@ -4,7 +4,7 @@
 use Prim.Native.Nat.{ℕ}
 use mathlib.Core.Path.{_≡_}
 use mathlib.Core.List.{List}
-use mathlib.Core.Bool.{Bool, false}
+use mathlib.Core.Bool.{Bool}
 use lib.Dec.{ltb}
 use lib.ListN.{length, take, drop}
 use Rattle.counts.specs.Outcome.{Outcome, gives, refused, then, each, unless}
@@ -57,10 +57,6 @@ behind = behindBy reading
 
 abbrev pub heldInto : (longer : Bool) (file : List ℕ) → Lent → Outcome header.Header
 heldInto = heldBy reading
-
--- what a file longer than k gets by its first k bytes, said of the whole file; that the bytes held tell it is proofs/Held.antt
-abbrev pub heldOf : (k : ℕ) (file : List ℕ) → Lent → Outcome header.Header
-heldOf k file l = then (prefix file) (λ p. unless (ltb k (dataStart p)) 23 (behind false file p l))
 
 pub record ReadsBehind (longer : Bool) (file : List ℕ) (p : Prefix) (l : Lent) (x : HeaderRead) (l′ : Lent) : Type 0 where
   pub answered : answer x ≡ each told (behind longer file p l)

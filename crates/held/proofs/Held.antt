@@ -1,4 +1,5 @@
--- Numbers as entries hold them, by what sums, products and `num_bytes` answer. Assumes nothing.
+-- Numbers as entries hold them, by what sums, products and `num_bytes` answer: a number that fits is itself, one that is over is held as 2^64-1, which is what `capped` makes
+-- of each, and an object, which has no size, as 0. Assumes nothing.
 use Prim.Native.Nat.{ℕ}
 use mathlib.Core.Path.{_≡_, refl, ap, sym, _∙_}
 use mathlib.Core.Bool.{Bool, true, false, cond}

@@ -1,9 +1,10 @@
 -- From where a key's value was found to what it is: the order, the shape and the dtype of the dict. Assumes nothing.
 use Prim.Native.Nat.{ℕ}
-use native.Mathlib.Omega.{arith}
 use mathlib.Core.Path.{_≡_, refl, sym, ap, subst, _∙_}
 use mathlib.Core.List.{List}
 use Rattle.counts.specs.Outcome.{Outcome, gives, refused, then, each}
+use Rattle.counts.proofs.Apart.{each-none}
+use Rattle.counts.proofs.Holds.{each-back}
 use Rattle.grammar.specs.Value.{Value}
 use Rattle.refusal.specs.declared.Refusal.{Refusal}
 use Rattle.refusal.specs.Numbers.{numberOf}
@@ -39,15 +40,6 @@ use Rattle.judge.specs.declared.ShapeRead.{ShapeRead}
 use Rattle.judge.specs.declared.DescrRead.{DescrRead}
 use Rattle.judge.specs.Steps.{neededAt, orderAt, shapeAt, dtypeAt, orderAnswer, ShapeFor, DescrFor, ShapeIs, DescrIs, RankedOf}
 use Rattle.judge.specs.Judged.{inside, Counts}
-
--- ---- what `each` gives, and what it refuses
-pub each-back : {A B : Type 0} (f : A → B) (o : Outcome A) (b : B) → each f o ≡ gives b → (a : A) × (o ≡ gives a) × (f a ≡ b)
-each-back f (gives a) b e = (a, refl, cc)
-each-back f (refused n) b e = absurd (let z : _≡_ {A = ℕ} 0 1 = cc in omega arith)
-
-pub each-none : {A B : Type 0} (f : A → B) (o : Outcome A) (n : ℕ) → each f o ≡ refused n → o ≡ refused n
-each-none f (gives a) n e = absurd (let z : _≡_ {A = ℕ} 0 1 = cc in omega arith)
-each-none f (refused m) n e = let h : m ≡ n = cc in ap refused h
 
 -- ---- a key
 module _ (s : List ℕ) (at : ℕ) (w : List ℕ) where

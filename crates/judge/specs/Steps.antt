@@ -35,7 +35,7 @@ use Rattle.judge.specs.declared.Judged.{Judged}
 use Rattle.judge.specs.declared.OrderRead.{OrderRead}
 use Rattle.judge.specs.declared.ShapeRead.{ShapeRead}
 use Rattle.judge.specs.declared.DescrRead.{DescrRead}
-use Rattle.judge.specs.Judged.{reading, inside, Counts, ShapeOf, DescrOf, JudgedIs}
+use Rattle.judge.specs.Judged.{inside, Counts, ShapeOf, DescrOf, JudgedIs}
 
 -- the value of the key w in the dict that was read, or 9
 abbrev pub neededAt : (w : List ℕ) → Got Node → Outcome Value

@@ -3,13 +3,11 @@ use Prim.Native.Nat.{ℕ, _/_}
 use native.Mathlib.Omega.{arith}
 use mathlib.Core.Path.{_≡_, refl, sym, ap, subst, _∙_}
 use mathlib.Core.List.{List}
-use mathlib.Core.Bool.{Bool, true, false, _||_}
 use lib.ListN.{length, take, drop}
 use lib.Seq.{take-append-seam}
 use borrow.Author.Tests.{le-ltb, ltb-false}
 use Rattle.counts.specs.Outcome.{Outcome, gives}
 use Rattle.counts.specs.declared.Items.{Items}
-use Rattle.counts.proofs.Alike.{true-false}
 use Rattle.emit.specs.Emits.{Emits}
 use Rattle.emit.proofs.Pieces.{emits-then, emits-same}
 use Rattle.dtype.specs.declared.Order.{Order}
@@ -20,7 +18,7 @@ use Rattle.dtype.specs.Shape.{product, strides}
 use Rattle.dtype.specs.Record.{table}
 use Rattle.dtype.specs.Limits.{overDimensions, overLevels}
 use Rattle.dtype.proofs.Strides.{strides-length}
-use Rattle.dtype.proofs.Seen.{table-length}
+use Rattle.dtype.proofs.Seen.{table-length, or-left}
 use Rattle.counts.specs.Front.{atFront}
 use Rattle.shape.specs.Count.{stridesCount, left, Writes}
 use Rattle.shape.specs.declared.StridesWritten.{StridesWritten}
@@ -34,10 +32,6 @@ use Rattle.lines.specs.Strided.{Strided}
 use Rattle.lines.proofs.Pieces.{three}
 
 -- ---- the strides
-or-first : (a b : Bool) → (a || b) ≡ false → a ≡ false
-or-first true b h = true-false h
-or-first false b h = refl
-
 module _ (o : Order) (s zeros : List ℕ) (r : StridesWritten) (out : List ℕ) (long : length zeros ≡ 32) (st : Strided o s) (w : Writes o s zeros r out) where
   strides-there : stridesCount o s (length zeros) ≡ gives (product s)
   unfolding stridesCount
@@ -60,7 +54,7 @@ module _ (t ns s : List ℕ) (o : Order) (d : Dtype) (size : ItemSize) (count : 
   pub strided : Strided o s
   strided =
       record {
-        few = ltb-false 32 (length s) (or-first (overDimensions s) (overLevels d) (a .valid .dimensions));
+        few = ltb-false 32 (length s) (or-left (overDimensions s) (overLevels d) (a .valid .dimensions));
         fits = a .valid .shape-fits;
       }
 

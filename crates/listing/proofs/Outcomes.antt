@@ -4,7 +4,7 @@ use mathlib.Core.Path.{_≡_, refl, sym, ap, _∙_}
 use mathlib.Core.List.{List}
 use Rattle.counts.specs.Outcome.{Outcome, gives, refused}
 use Rattle.counts.specs.OneOutcome.{OneOutcome}
-use Rattle.counts.proofs.OneOutcome.{by-inverse}
+use Rattle.counts.proofs.OneOutcome.{by-inverse, pair-of}
 use Rattle.refusal.proofs.Names.{refusalOf, refusal-back}
 use Rattle.dtype.specs.declared.Order.{Order}
 use Rattle.record.specs.Version.{Version}
@@ -20,9 +20,6 @@ unfolding back
 same-back (Listed.Written n) = refl
 same-back (Listed.Refused r) = ap Listed.Refused (refusal-back r)
 
-pair-eq : {x y : Listed} {a b : List ℕ} → x ≡ y → a ≡ b → _≡_ {A = Listed × List ℕ} (x, a) (y, b)
-pair-eq hx ha = cc
-
 pub list-one : (v : Version) (start : ℕ) (t ns s : List ℕ) (o : Order) (room : List ℕ) → OneOutcome {A = Listed × List ℕ} (λ r. Lists v start t ns s o room (r .0) (r .1))
 list-one v start t ns s o room x y p q =
-    pair-eq (by-inverse answer back same-back (listed v start t ns s o room) (x .0) (y .0) (p .answered) (q .answered)) (p .after ∙ sym (q .after))
+    pair-of (by-inverse answer back same-back (listed v start t ns s o room) (x .0) (y .0) (p .answered) (q .answered)) (p .after ∙ sym (q .after))

@@ -1,10 +1,10 @@
 -- What listing owes: the room of a record that was checked, and a caller's record. Assumes nothing.
 use Prim.Native.Nat.{ℕ, _^_, _-_, _<_, _≤_}
-use native.Mathlib.Omega.{arith}
 use mathlib.Core.Path.{_≡_, sym, ap, _∙_}
 use mathlib.Core.List.{List, []}
 use lib.ListN.{length}
 use Rattle.counts.specs.Outcome.{Outcome, gives, refused, then, each}
+use Rattle.counts.proofs.Apart.{each-none}
 use Rattle.refusal.specs.declared.Refusal.{Refusal}
 use Rattle.refusal.specs.Numbers.{numberOf}
 use Rattle.emit.specs.Emits.{Emits}
@@ -28,12 +28,8 @@ module _ (v : Version) (start : ℕ) (r : Record) (scratch mid : List ℕ) (n : 
   one-written out q le h = let x = written-whole (listing v start r) scratch mid n room fits short measured out q le h in record { answered = x .0; after = x .1 }
 
 -- ---- a caller's record
-each-none : {A B : Type 0} (f : A → B) (o : Outcome A) (n : ℕ) → refused n ≡ each f o → o ≡ refused n
-each-none f (gives a) n e = absurd (let z : _≡_ {A = ℕ} 0 1 = cc in omega arith)
-each-none f (refused m) n e = let h : n ≡ m = cc in ap refused (sym h)
-
 pub refused-by-check : (t ns s : List ℕ) (o : Order) (n : ℕ) → refused n ≡ each summary (checkedRecord t ns s o) → checkedRecord t ns s o ≡ refused n
-refused-by-check t ns s o n e = each-none summary (checkedRecord t ns s o) n e
+refused-by-check t ns s o n e = each-none summary (checkedRecord t ns s o) n (sym e)
 
 module _ (v : Version) (start : ℕ) (t ns s : List ℕ) (o : Order) (room : List ℕ) where
   pub lists-one : (r : Record) (x : Listed) (room′ : List ℕ) → checkedRecord t ns s o ≡ gives r → ListsOne v start r room x room′ → Lists v start t ns s o room x room′

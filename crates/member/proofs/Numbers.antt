@@ -9,9 +9,9 @@ use denote.Enum.Declared.{tagOf}
 use types.Run.{OneOf, miss}
 use Rattle.counts.specs.Outcome.{Outcome, refused}
 use Rattle.counts.specs.Number.{number}
+use Rattle.counts.proofs.Alike.{true-false}
 use Rattle.decimal.specs.Decimal.{isDigit, decimal}
 use Rattle.grammar.specs.Bytes.{isOpen, isQuote}
-use Rattle.grammar.proofs.Texts.{true-false}
 use Rattle.record.specs.Dimensions.{signed, dimension}
 use Rattle.tokens.specs.Node.{Node}
 use Rattle.classes.specs.Got.{got, pos}

@@ -7,6 +7,7 @@ use mathlib.Core.List.{List, [], _∷_}
 use denote.Enum.Declared.{tagOf}
 use types.Run.{OneOf, miss}
 use Rattle.counts.specs.Outcome.{Outcome, gives, refused, each}
+use Rattle.counts.proofs.Apart.{gives-refused, gives-apart}
 use Rattle.emit.specs.Emits.{Emits}
 use Rattle.grammar.specs.Print.{print}
 use Rattle.dtype.specs.declared.Order.{Order}
@@ -18,25 +19,22 @@ use Rattle.table.specs.declared.Summary.{Summary}
 use Rattle.table.specs.Valid.{made}
 use Rattle.table.proofs.Accepts.{accepts-valid}
 use Rattle.depth.specs.Printable.{printable}
-use Rattle.depth.proofs.Views.{neither, same-number, valid-listed, View, unread, too-deep, shown, view}
+use Rattle.depth.proofs.Views.{same-number, valid-listed, View, unread, too-deep, shown, view}
 use Rattle.print.specs.declared.Printed.{Printed}
 use Rattle.print.specs.Walk.{Stands}
 use Rattle.print.specs.Prints.{answer, Prints}
 use Rattle.print.proofs.Printed.{the-type}
 
 -- ---- an answer, once it is known what there is to print
-given-one : {A : Type 0} (a b : A) → gives a ≡ gives b → a ≡ b
-given-one a b e = cc
-
 module _ (c : Outcome Record) (old : List ℕ) (at : ℕ) where
   pub prints-refused : (w : Printed) (n : ℕ) → answer w ≡ refused n → c ≡ refused n → Prints c old at w old
-  prints-refused w n a e = record { printed = λ x g. neither x n (sym g ∙ e); unprinted = λ m g. (a ∙ same-number n m (sym e ∙ g), refl) }
+  prints-refused w n a e = record { printed = λ x g. gives-refused (sym g ∙ e); unprinted = λ m g. (a ∙ same-number n m (sym e ∙ g), refl) }
 
   prints-gives : (x : Record) → c ≡ gives x → (out : List ℕ) (p : ℕ) → Emits (print (headerLayout x)) old at out p → Prints c old at (Printed.Behind p) out
   prints-gives x e out p h =
       record {
-        printed = λ y g. (p, refl, subst (λ (z : Record). Emits (print (headerLayout z)) old at out p) (given-one x y (sym e ∙ g)) h);
-        unprinted = λ n g. neither x n (sym e ∙ g);
+        printed = λ y g. (p, refl, subst (λ (z : Record). Emits (print (headerLayout z)) old at out p) (gives-apart (sym e ∙ g)) h);
+        unprinted = λ n g. gives-refused (sym e ∙ g);
       }
 
 -- ---- a caller's record that the check of crate depth has accepted, or has not
@@ -45,7 +43,7 @@ module _ (t ns s : List ℕ) (o : Order) where
   accepted f h = go (view t ns s o)
     where
       none : {A : Type 0} (k : ℕ) → printable t ns s o ≡ refused k → A
-      none k p = neither f k (h ∙ ap (λ (y : Outcome Record). each summary y) p)
+      none k p = gives-refused (h ∙ ap (λ (y : Outcome Record). each summary y) p)
 
       go : View t ns s o → (d : Dtype) × (printable t ns s o ≡ gives (made d s o)) × Stands t ns 0 0 d
       go (unread k c p) = none k p
@@ -59,7 +57,7 @@ module _ (t ns s : List ℕ) (o : Order) where
   unaccepted k h = go (printable t ns s o) h
     where
       go : (c : Outcome Record) → refused k ≡ each summary c → c ≡ refused k
-      go (gives r) e = neither (summary r) k (sym e)
+      go (gives r) e = gives-refused (sym e)
       go (refused m) e = same-number m k (sym e)
 
   pub accepted-text : (f : Summary) → gives f ≡ each summary (printable t ns s o) → (old : List ℕ) (at : ℕ) (out : List ℕ) (p : ℕ)
@@ -87,11 +85,11 @@ module _ (c : Outcome Record) (old : List ℕ) (at : ℕ) where
     where
       go : (b : Outcome Record) → c ≡ b → (x : Record) × (c ≡ gives x) × Emits (print (headerLayout x)) old at out p
       go (gives x) e = (x, e, text-at x e (Printed.Behind p) p refl out h)
-      go (refused n) e = neither p n (h .unprinted n e .0)
+      go (refused n) e = gives-refused (h .unprinted n e .0)
 
   pub told-refused : (w : Printed) (n : ℕ) (out : List ℕ) → answer w ≡ refused n → Prints c old at w out → c ≡ refused n
   told-refused w n out a h = go c refl
     where
       go : (b : Outcome Record) → c ≡ b → c ≡ refused n
-      go (gives x) e = let u = h .printed x e in neither (u .0) n (sym (ap answer (u .1)) ∙ a)
+      go (gives x) e = let u = h .printed x e in gives-refused (sym (ap answer (u .1)) ∙ a)
       go (refused m) e = e ∙ same-number m n (sym (h .unprinted m e .0) ∙ a)

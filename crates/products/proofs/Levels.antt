@@ -6,23 +6,21 @@ use native.Mathlib.Nat.{mul-suc}
 use mathlib.Core.Path.{_≡_, refl, sym, ap, _∙_}
 use mathlib.Core.Logic.{⊎-elim}
 use mathlib.Core.List.{List, [], _∷_}
-use mathlib.Core.Bool.{Bool, true, false, _||_, cond}
+use mathlib.Core.Bool.{Bool, true, false, _||_, cond, or-assoc}
 use lib.ListN.{length}
 use lib.Dec.{eqb, ltb}
 use borrow.Author.Tests.{eqb-true, eqb-false, le-leb, lt-leb, lt-ltb, le-ltb}
 use Rattle.counts.specs.Number.{number}
-use Rattle.counts.specs.declared.Number.{Number}
 use Rattle.counts.specs.declared.Number.the-variants.{Is}
 use Rattle.counts.proofs.Fits.{number-is}
+use Rattle.counts.proofs.Sides.{lt-or-ge}
 use Rattle.dtype.specs.Dtype.{Dtype, plain, array, record-of, sizeOf}
-use Rattle.dtype.specs.Entries.{someEntry, entriesOf, levels, hasObject}
-use Rattle.dtype.specs.Names.{nameBytes, namesOf}
+use Rattle.dtype.specs.Entries.{someEntry, levels, hasObject}
 use Rattle.dtype.specs.Shape.{product}
 use Rattle.dtype.specs.Limits.{over, someOver, overLevels}
-use Rattle.dtype.proofs.Digits.{lt-or-ge}
 use Rattle.record.specs.Descr.{arrays}
-use Rattle.products.specs.Outline.{hasZero, behindZero, outlineOf, scaledBy, isOver, largestIn}
-use Rattle.products.proofs.Outlines.{number-scaled, number-over-is, or-assoc}
+use Rattle.products.specs.Outline.{hasZero, behindZero, outlineOf, scaledBy, largestIn}
+use Rattle.products.proofs.Outlines.{number-scaled}
 
 -- ---- products
 pub zero-product : (ns : List ℕ) → hasZero ns ≡ true → product ns ≡ 0
@@ -117,24 +115,7 @@ largest-is ns s = go (eqb s 0) refl
         sym (ap number z ∙ number-is 0 (omega arith))
     go false h = sym (number-scaled (behindZero ns) s h)
 
-pub levels-over : (ns : List ℕ) (d : Dtype) → (isOver (largestIn (outlineOf ns) (sizeOf d)) || someOver d) ≡ someOver (arrays ns d)
-levels-over ns d =
-    ap (λ (n : Number). isOver n || someOver d) (largest-is ns (sizeOf d))
-    ∙ ap (λ (b : Bool). b || someOver d) (number-over-is (behindZero ns * sizeOf d))
-    ∙ sym (arrays-over ns d)
-
-pub levels-size : (ns : List ℕ) (d : Dtype) → cond (hasZero ns) (Is 0) (largestIn (outlineOf ns) (sizeOf d)) ≡ number (sizeOf (arrays ns d))
-levels-size ns d = ap (cond (hasZero ns) (Is 0)) (largest-is ns (sizeOf d)) ∙ go (hasZero ns) ∙ ap number (sym (arrays-outline ns d))
-  where
-    go : (t : Bool) → cond t (Is 0) (number (behindZero ns * sizeOf d)) ≡ number (cond t 0 (behindZero ns * sizeOf d))
-    go true = sym (number-is 0 (omega arith))
-    go false = refl
-
--- 20 and 13: one entry for each level, and the outermost one has the most levels below it
-pub arrays-entries : (ns : List ℕ) (d : Dtype) → entriesOf (arrays ns d) ≡ length ns + entriesOf d
-arrays-entries [] d = omega arith
-arrays-entries (n ∷ ns) d = ap suc (arrays-entries ns d) ∙ omega arith
-
+-- 13: the outermost level has the most levels below it
 pub arrays-levels : (ns : List ℕ) (d : Dtype) → levels (arrays ns d) ≡ length ns + levels d
 arrays-levels [] d = omega arith
 arrays-levels (n ∷ ns) d = ap suc (arrays-levels ns d) ∙ omega arith
@@ -158,11 +139,3 @@ arrays-wide (n ∷ ns) d =
 pub arrays-object : (ns : List ℕ) (d : Dtype) → hasObject (arrays ns d) ≡ hasObject d
 arrays-object [] d = refl
 arrays-object (n ∷ ns) d = arrays-object ns d
-
-pub arrays-names : (ns : List ℕ) (d : Dtype) (y : List ℕ) → namesOf (arrays ns d) y ≡ namesOf d y
-arrays-names [] d y = refl
-arrays-names (n ∷ ns) d y = arrays-names ns d y
-
-pub arrays-name-bytes : (ns : List ℕ) (d : Dtype) → nameBytes (arrays ns d) ≡ nameBytes d
-arrays-name-bytes [] d = refl
-arrays-name-bytes (n ∷ ns) d = arrays-name-bytes ns d

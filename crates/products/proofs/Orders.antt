@@ -4,7 +4,7 @@ use Prim.Native.Nat.{ℕ, _*_}
 use native.Mathlib.Omega.{arith}
 use mathlib.Core.Path.{_≡_, refl, sym, ap, _∙_}
 use mathlib.Core.List.{List, [], _∷_, _++_, reverse, reverse-cons}
-use mathlib.Core.Bool.{Bool, true, false, _||_, cond}
+use mathlib.Core.Bool.{Bool, true, false, _||_, cond, or-false}
 use lib.Dec.{eqb}
 use Rattle.dtype.specs.declared.Order.{Order}
 use Rattle.dtype.specs.declared.Order.the-variants.{C, Fortran}
@@ -12,7 +12,7 @@ use Rattle.dtype.specs.Shape.{product, strides}
 use Rattle.dtype.specs.Limits.{over, anyOver, overShape}
 use Rattle.dtype.proofs.Strides.{strides-c, strides-reverse, product-reverse}
 use Rattle.products.specs.Outline.{beforeZero, behindZero, outlineOf, overIn}
-use Rattle.products.proofs.Outlines.{number-over-is, or-false, behind-last}
+use Rattle.products.proofs.Outlines.{number-over-is, behind-last}
 use Rattle.products.proofs.Levels.{over-front}
 
 times-one : (x : ℕ) → x * 1 ≡ x

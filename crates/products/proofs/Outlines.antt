@@ -6,7 +6,7 @@ use native.Mathlib.Nat.{mul-suc}
 use mathlib.Core.Path.{_≡_, refl, sym, ap, _∙_}
 use mathlib.Core.Logic.{⊎-elim}
 use mathlib.Core.List.{List, [], _∷_, _++_, append-nil, append-assoc}
-use mathlib.Core.Bool.{Bool, true, false, _||_, cond, or-true}
+use mathlib.Core.Bool.{Bool, true, false, _||_, cond, or-true, or-assoc, or-false}
 use lib.ListN.{length-append}
 use lib.Dec.{eqb}
 use borrow.Author.Tests.{eqb-false, eq-eqb, ne-eqb, le-leb, lt-leb}
@@ -15,8 +15,8 @@ use Rattle.counts.specs.declared.Number.{Number}
 use Rattle.counts.specs.declared.Number.the-variants.{Is}
 use Rattle.counts.proofs.Fits.{number-is, number-over}
 use Rattle.dtype.specs.Limits.{over}
-use Rattle.dtype.proofs.Digits.{lt-or-ge}
 use Rattle.counts.specs.Outcome.{Outcome, gives, refused, then, each}
+use Rattle.counts.proofs.Sides.{lt-or-ge}
 use Rattle.products.specs.declared.Outline.{Outline}
 use Rattle.products.specs.declared.Verdict.{Verdict}
 use Rattle.products.specs.declared.Verdict.the-variants.{Good, NotShape, LargeDimension}
@@ -44,14 +44,6 @@ number-over-is n =
     (λ (h : n < 2 ^ 64). rw (number-is n h, lt-leb (2 ^ 64) n h))
     (λ (h : 2 ^ 64 ≤ n). rw (number-over n h, le-leb (2 ^ 64) n h))
     (lt-or-ge n (2 ^ 64))
-
-pub or-assoc : (a b c : Bool) → ((a || b) || c) ≡ (a || (b || c))
-or-assoc true b c = refl
-or-assoc false b c = refl
-
-pub or-false : (a : Bool) → (a || false) ≡ a
-or-false true = refl
-or-false false = refl
 
 pub zero-last : (us : List ℕ) (n : ℕ) → hasZero (us ++ n ∷ []) ≡ (hasZero us || eqb n 0)
 zero-last [] n = or-false (eqb n 0)

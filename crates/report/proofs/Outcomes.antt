@@ -4,9 +4,9 @@ use mathlib.Core.Path.{_≡_, refl, sym, _∙_}
 use mathlib.Core.List.{List}
 use Rattle.counts.specs.Outcome.{Outcome, gives, refused}
 use Rattle.counts.specs.OneOutcome.{OneOutcome}
+use Rattle.counts.proofs.OneOutcome.{by-inverse, pair-of}
 use Rattle.report.specs.declared.Reported.{Reported}
 use Rattle.report.specs.Report.{answer, Reports}
-use Rattle.counts.proofs.OneOutcome.{by-inverse}
 use Rattle.emit.specs.Placed.{written}
 use Rattle.report.specs.Report.{reportOf}
 
@@ -19,9 +19,6 @@ unfolding back
 same-back (Reported.Written n) = refl
 same-back Reported.OutputRoom = refl
 
-pair-eq : {x y : Reported} {a b : List ℕ} → x ≡ y → a ≡ b → _≡_ {A = Reported × List ℕ} (x, a) (y, b)
-pair-eq hx ha = cc
-
 pub report-one : (file room : List ℕ) → OneOutcome {A = Reported × List ℕ} (λ r. Reports file room (r .0) (r .1))
 report-one file room x y p q =
-    pair-eq (by-inverse answer back same-back (written (reportOf file) room) (x .0) (y .0) (p .answered) (q .answered)) (p .after ∙ sym (q .after))
+    pair-of (by-inverse answer back same-back (written (reportOf file) room) (x .0) (y .0) (p .answered) (q .answered)) (p .after ∙ sym (q .after))

@@ -12,8 +12,8 @@ use Rattle.dtype.specs.Limits.{over}
 use Rattle.dtype.specs.Agrees.{entryAt}
 use Rattle.dtype.specs.Seen.{objectAt}
 use Rattle.dtype.specs.declared.Entry.{Entry}
-use Rattle.dtype.proofs.Digits.{lt-or-ge}
 use Rattle.counts.specs.Counts.{bytes}
+use Rattle.counts.proofs.Sides.{lt-or-ge}
 use Rattle.seen.specs.Over.{isOver}
 
 -- an entry is an object, or not

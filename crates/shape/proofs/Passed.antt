@@ -8,12 +8,12 @@ use native.Mathlib.Omega.{arith}
 use borrow.Author.Tests.{le-leb, lt-leb}
 use lib.ListN.{length, getD, take, drop}
 use lib.Seq.{drop-length, drop-cons, take-suc, take-length}
+use Rattle.counts.proofs.Sides.{lt-or-ge}
 use Rattle.dtype.specs.declared.Order.{Order}
 use Rattle.dtype.specs.declared.Order.the-variants.{C, Fortran}
 use Rattle.dtype.specs.Shape.{product, stride, strides}
 use Rattle.dtype.specs.Limits.{anyOver, overShape}
 use mathlib.Core.Logic.{⊎-elim}
-use Rattle.dtype.proofs.Digits.{lt-or-ge}
 use Rattle.dtype.proofs.Strides.{strides-at, strides-length, product-last}
 use Rattle.shape.specs.Visit.{visited}
 

@@ -17,10 +17,10 @@ use Rattle.counts.proofs.Fits.{number-is-back, number-over-back}
 use Rattle.dtype.specs.declared.Order.{Order}
 use Rattle.dtype.specs.Shape.{product, stride, strides}
 use Rattle.dtype.specs.Limits.{overShape}
-use Rattle.dtype.proofs.Digits.{lt-or-ge}
 use Rattle.dtype.proofs.Strides.{strides-at, strides-length}
 use Rattle.shape.specs.declared.StridesWritten.{StridesWritten}
 use Rattle.counts.specs.Front.{atFront}
+use Rattle.counts.proofs.Sides.{lt-or-ge}
 use Rattle.shape.specs.Count.{itemCount, stridesCount, Writes}
 use Rattle.shape.specs.Visit.{visited}
 use Rattle.shape.proofs.Passed.{visited-below, visited-back, visited-apart, passed, passed-none, passed-all, passed-next, stride-passed, all-fit, one-over}

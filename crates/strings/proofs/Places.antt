@@ -127,6 +127,3 @@ pub four-at : (order : Endianness) (run : List ℕ) {n : ℕ} {old out : List �
 four-at order run at i j lt le =
     let here = found-at order run i (omega arith) in
     rw (j .four) (record { inside = here .inside; is = here .is })
-
-pub gives-same : {A : Type 0} {a b : A} → gives a ≡ gives b → a ≡ b
-gives-same e = cc

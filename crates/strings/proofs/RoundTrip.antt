@@ -12,6 +12,7 @@ use lib.Seq.{take-at, drop-at}
 use borrow.Author.Tests.{not-false}
 use Rattle.counts.specs.Outcome.{Outcome, gives, refused, then, each, unless}
 use Rattle.counts.proofs.Alike.{and-left, and-right}
+use Rattle.counts.proofs.Apart.{refused-gives, gives-apart}
 use Rattle.numbers.specs.Numbers.{inOrder, outOrder}
 use Rattle.numbers.proofs.Runs.{length-out}
 use Rattle.numbers.proofs.Widths.{in-out}
@@ -24,19 +25,19 @@ use Rattle.strings.specs.Elements.{kindOf, trimmed, scalar, point, point
 use Rattle.strings.specs.Runs.{filled, bytesOut, allScalars, pointBytes, pointsOut}
 use Rattle.strings.specs.Rooms.{roomed, readBytes, readPoints, writeBytes, writePoints}
 use Rattle.strings.specs.declared.Kind.{Kind}
-use Rattle.strings.proofs.Scalars.{apart, scalar-is, point-four, point-step}
-use Rattle.strings.proofs.Places.{trim-filled, gives-same}
+use Rattle.strings.proofs.Scalars.{scalar-is, point-four, point-step}
+use Rattle.strings.proofs.Places.{trim-filled}
 use Rattle.strings.proofs.Ways.{read-bytes-by}
 
 -- ---- what was given passed every check
 passed : {A : Type 0} {a : A} (b : Bool) (n : ℕ) (o : Outcome A) → unless b n o ≡ gives a → (b ≡ false) × (o ≡ gives a)
-passed true n o e = apart (sym e)
+passed true n o e = refused-gives e
 passed false n o e = (refl, e)
 
 had-room : (o : Outcome (List ℕ)) (n : ℕ) (room run : List ℕ) → then o (roomed n room) ≡ gives run → o ≡ gives run
 unfolding roomed
 had-room (gives content) n room run e = passed (ltb (length room) (length content)) n (gives content) e .1
-had-room (refused m) n room run e = apart (sym e)
+had-room (refused m) n room run e = refused-gives e
 
 bytes-run : (t : TypeStr) (value room run : List ℕ) (kind : Kind) → kindOf (t .letter) ≡ kind → writeBytes t value room ≡ gives run → bytesOut kind (t .size) value ≡ gives run
 unfolding writeBytes
@@ -56,12 +57,12 @@ points-typed t value room run e = not-false (isType t) (passed (not (isType t)) 
 s-run : (t : TypeStr) (value room run : List ℕ) → kindOf (t .letter) ≡ Kind.ByteStr → writeBytes t value room ≡ gives run → trimmed run ≡ trimmed value
 unfolding bytesOut
 s-run t value room run k e =
-    let r : filled (t .size) value ≡ run = gives-same (passed (ltb (t .size) (length value)) 30 (gives (filled (t .size) value)) (bytes-run t value room run Kind.ByteStr k e) .1) in
+    let r : filled (t .size) value ≡ run = gives-apart (passed (ltb (t .size) (length value)) 30 (gives (filled (t .size) value)) (bytes-run t value room run Kind.ByteStr k e) .1) in
     ap (λ (l : List ℕ). trimmed l) (sym r) ∙ trim-filled (t .size) value
 
 v-run : (t : TypeStr) (value room run : List ℕ) → kindOf (t .letter) ≡ Kind.RawData → writeBytes t value room ≡ gives run → run ≡ value
 unfolding bytesOut
-v-run t value room run k e = sym (gives-same (passed (not (eqb (t .size) (length value))) 30 (gives value) (bytes-run t value room run Kind.RawData k e) .1))
+v-run t value room run k e = sym (gives-apart (passed (not (eqb (t .size) (length value))) 30 (gives value) (bytes-run t value room run Kind.RawData k e) .1))
 
 pub s-back : (t : TypeStr) (value room run room′ : List ℕ) → kindOf (t .letter) ≡ Kind.ByteStr → writeBytes t value room ≡ gives run
     → readBytes t run room′ ≡ roomed 23 room′ (trimmed value)
@@ -107,17 +108,17 @@ points-back order (p ∷ ps) a =
 -- a value that was written as code points was written to U
 u-kind : (kind : Kind) (order : Endianness) (size : ℕ) (value run : List ℕ) → pointsOut kind order size value ≡ gives run → kind ≡ Kind.UnicodeStr
 unfolding pointsOut
-u-kind Kind.ByteStr order size value run e = apart (sym e)
+u-kind Kind.ByteStr order size value run e = refused-gives e
 u-kind Kind.UnicodeStr order size value run e = refl
-u-kind Kind.RawData order size value run e = apart (sym e)
-u-kind Kind.Other order size value run e = apart (sym e)
+u-kind Kind.RawData order size value run e = refused-gives e
+u-kind Kind.Other order size value run e = refused-gives e
 
 u-found : (order : Endianness) (size : ℕ) (value run : List ℕ) → pointsOut Kind.UnicodeStr order size value ≡ gives run → each trimmed (points order run) ≡ gives (trimmed value)
 unfolding pointsOut filled
 u-found order size value run e =
     let one = passed (not (allScalars value)) 29 _ e in
     let all : allScalars value ≡ true = not-false (allScalars value) (one .0) in
-    let run-is : pointBytes order (filled size value) [] ≡ run = gives-same (passed (ltb size (length value)) 30 (gives (pointBytes order (filled size value) [])) (one .1) .1) in
+    let run-is : pointBytes order (filled size value) [] ≡ run = gives-apart (passed (ltb size (length value)) 30 (gives (pointBytes order (filled size value) [])) (one .1) .1) in
     let back = points-back order (filled size value) (scalars-zeros value (size - length value) ∙ all) in
     ap (λ (l : List ℕ). each trimmed (points order l)) (sym run-is) ∙ ap (λ (o : Outcome (List ℕ)). each trimmed o) back ∙ ap gives (trim-filled size value)
 
@@ -134,4 +135,4 @@ u-back t value room run room′ e =
     rw (readPoints, points-typed t value room run e) (ap (λ (o : Outcome (List ℕ)). then o (roomed 23 room′)) (u-run t value room run e))
 
 pub u-apart : (t : TypeStr) (a b room room′ run : List ℕ) → writePoints t a room ≡ gives run → writePoints t b room′ ≡ gives run → trimmed a ≡ trimmed b
-u-apart t a b room room′ run d e = gives-same (sym (u-run t a room run d) ∙ u-run t b room′ run e)
+u-apart t a b room room′ run d e = gives-apart (sym (u-run t a room run d) ∙ u-run t b room′ run e)

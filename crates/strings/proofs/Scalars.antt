@@ -9,6 +9,7 @@ use lib.ListN.{length, getD, take, drop, length-append, length-drop, drop-of-len
 use lib.Seq.{drop-drop, drop-cons}
 use borrow.Author.Tests.{lt-ltb, le-ltb}
 use Rattle.counts.specs.Outcome.{Outcome, gives, refused, then, each}
+use Rattle.counts.proofs.Apart.{gives-refused}
 use Rattle.numbers.specs.Numbers.{inOrder}
 use Rattle.scalar.specs.Scalar.{isScalar}
 use Rattle.scalar.proofs.Scalars.{scalar-over}
@@ -35,11 +36,8 @@ unfolding point
 point-four order run h = rw (point, le-ltb (length run) 4 h)
 
 -- ---- all of them
-pub apart : {A B : Type 0} {a : A} {n : ℕ} → gives a ≡ refused n → B
-apart {A} {B} e = let z : _≡_ {A = ℕ} 0 1 = cc in absurd (omega arith)
-
 point-of-short : {B : Type 0} (order : Endianness) (run : List ℕ) {p : ℕ} → length run < 4 → point order run ≡ gives p → B
-point-of-short order run lt e = apart (sym e ∙ point-short order run lt)
+point-of-short order run lt e = gives-refused (sym e ∙ point-short order run lt)
 
 pub point-step : (order : Endianness) (run : List ℕ) (p : ℕ) → point order run ≡ gives p
     → (4 ≤ length run) × (points order run ≡ each (λ (ps : List ℕ). p ∷ ps) (points order (drop 4 run)))

@@ -1,4 +1,5 @@
--- The four functions by the kind of the type: what each owes where it ends. Assumes nothing.
+-- What each of the four functions owes where it ends. A type that no reading gives is 27 before all else; then the letter decides, and of all letters U alone has code points;
+-- then what was found fits the room or does not. Assumes nothing.
 use Prim.Native.Nat.{ℕ, _^_, _<_, _≤_}
 use native.Mathlib.Omega.{arith}
 use mathlib.Core.Path.{_≡_, refl, sym, ap, _∙_}
@@ -14,6 +15,7 @@ use Rattle.counts.specs.declared.Bytes.{Bytes}
 use Rattle.counts.specs.declared.ByteCount.{ByteCount}
 use Rattle.counts.proofs.Fits.{number-is-back, number-over-back}
 use Rattle.counts.proofs.Alike.{true-false}
+use Rattle.counts.proofs.Apart.{gives-refused, each-none}
 use Rattle.letters.specs.Classes.{isUnicode}
 use Rattle.type_str.specs.Text.{isType}
 use Rattle.byte_orders.specs.declared.Endianness.{Endianness}
@@ -25,7 +27,6 @@ use Rattle.strings.specs.Runs.{filled, bytesOut, allScalars, pointBytes,
 use Rattle.strings.specs.Rooms.{roomed, readBytes, readPoints, writeBytes, writePoints, Owes}
 use Rattle.strings.specs.declared.Kind.{Kind}
 use Rattle.strings.proofs.Trims.{trim-take, trim-length}
-use Rattle.strings.proofs.Scalars.{apart}
 use Rattle.strings.proofs.Places.{filled-exact, owes-same, owes-short, owes-whole}
 
 -- ---- U and no other letter has code points
@@ -80,13 +81,9 @@ unfolding readBytes
 read-bytes-by t run room h kind e = rw (readBytes, h) (ap (λ (k : Kind). then (bytesIn k run) (roomed 23 room)) e)
 
 -- what was judged tells what was found
-judged-bad : {A : Type 0} (f : List ℕ → A) (o : Outcome (List ℕ)) (n : ℕ) → refused n ≡ each f o → o ≡ refused n
-judged-bad f (gives ps) n e = apart (sym e)
-judged-bad f (refused m) n e = cc
-
 judged-found : {A : Type 0} (f : List ℕ → A) (o : Outcome (List ℕ)) (k : A) → gives k ≡ each f o → (o ≡ gives (found o)) × (k ≡ f (found o))
 judged-found f (gives ps) k e = (refl, cc)
-judged-found f (refused m) k e = apart e
+judged-found f (refused m) k e = gives-refused e
 
 module _ (t : TypeStr) (run room : List ℕ) (h : isType t ≡ true) where
   pub read-points-other : isUnicode (t .letter) ≡ false → refused 26 ≡ readPoints t run room
@@ -100,7 +97,7 @@ module _ (t : TypeStr) (run room : List ℕ) (h : isType t ≡ true) where
 
     pub read-points-bad : refused 29 ≡ each (λ (ps : List ℕ). length (trimmed ps)) (points (t .order) run) → refused 29 ≡ readPoints t run room
     read-points-bad j =
-        sym (ap (λ (o : Outcome (List ℕ)). then (each trimmed o) (roomed 23 room)) (judged-bad (λ ps. length (trimmed ps)) (points (t .order) run) 29 j)) ∙ in-points
+        sym (ap (λ (o : Outcome (List ℕ)). then (each trimmed o) (roomed 23 room)) (each-none (λ ps. length (trimmed ps)) (points (t .order) run) 29 (sym j))) ∙ in-points
 
     module _ (k : ℕ) (j : gives k ≡ each (λ (ps : List ℕ). length (trimmed ps)) (points (t .order) run)) where
       left-of : k ≡ length (trimmed (found (points (t .order) run)))

@@ -7,11 +7,10 @@ use mathlib.Core.Bool.{Bool, true, false, _||_, _&&_, not}
 use lib.Dec.{ltb}
 use borrow.Author.Tests.{ltb-true, ltb-false, lt-ltb, le-ltb}
 use Rattle.dtype.specs.Dtype.{Dtype, plain, array, record-of, sizeOf}
-use Rattle.dtype.specs.Entries.{entriesOf, hasObject}
+use Rattle.dtype.specs.Entries.{entriesOf}
 use Rattle.dtype.specs.Names.{nameBytes}
 use Rattle.dtype.specs.Limits.{over, someOver, overEntries, overLevels, overSize}
 use Rattle.sums.specs.Totals.{atMost, totalsOf}
-use Rattle.sums.proofs.Sums.{over-not}
 
 -- an entry counts itself
 pub own-over : (d : Dtype) → over (sizeOf d) ≡ true → someOver d ≡ true
@@ -47,17 +46,5 @@ module _ (d : Dtype) where
   names-are h = omega arith
 
   -- 21
-  pub object-says : totalsOf d .object ≡ hasObject d
-  object-says = refl
-
   pub over-says : (not (totalsOf d .object) && totalsOf d .over) ≡ overSize d
   over-says = refl
-
-  pub size-is : totalsOf d .over ≡ false → totalsOf d .size ≡ sizeOf d
-  size-is h = go (over (sizeOf d)) refl
-    where
-      go : (t : Bool) → over (sizeOf d) ≡ t → totalsOf d .size ≡ sizeOf d
-      go true k = absurd (let e = own-over d k in let z : _≡_ {A = ℕ} 0 1 = cc in omega arith)
-      go false k =
-          let lt = over-not (sizeOf d) k in
-          omega arith

@@ -3,7 +3,7 @@
 use Prim.Native.Nat.{ℕ, _+_, _^_, _<_, _≤_}
 use native.Mathlib.Omega.{arith}
 use mathlib.Core.Path.{_≡_, refl, sym, ap, _∙_}
-use mathlib.Core.Bool.{Bool, true, false, _||_}
+use mathlib.Core.Bool.{Bool, true, false, _||_, or-assoc, or-false}
 use lib.Dec.{ltb}
 use borrow.Author.Tests.{leb-true, leb-false, le-leb, lt-leb, ltb-true, ltb-false}
 use Rattle.counts.specs.Outcome.{Outcome, gives, refused}
@@ -19,18 +19,6 @@ pub totals-eq : {e e′ n n′ z z′ : ℕ} {o o′ w w′ v v′ : Bool} → e
 totals-eq he hn ho hw hv hz = cc
 
 -- ---- tests
-pub or-true : (a : Bool) → (a || true) ≡ true
-or-true true = refl
-or-true false = refl
-
-pub or-false : (a : Bool) → (a || false) ≡ a
-or-false true = refl
-or-false false = refl
-
-pub or-assoc : (a b c : Bool) → ((a || b) || c) ≡ (a || (b || c))
-or-assoc true b c = refl
-or-assoc false b c = refl
-
 pub over-never : (n : ℕ) → n < 2 ^ 64 → over n ≡ false
 over-never n h = lt-leb (2 ^ 64) n h
 

@@ -16,8 +16,9 @@ use Rattle.dtype.specs.Names.{nameBytes, nameBytesIn}
 use Rattle.dtype.specs.Limits.{over, overLevels, someOver}
 use Rattle.record.specs.Descr.{Field}
 use Rattle.products.specs.declared.Outline.{Outline}
+use Rattle.products.specs.Outline.{largestIn}
 use Rattle.sums.specs.declared.Totals.{Totals}
-pub use Rattle.products.specs.Outline.{isOver, largestIn}
+pub use Rattle.products.specs.Outline.{isOver}
 
 -- the lesser of the two
 abbrev pub atMost : (most n : ℕ) → ℕ

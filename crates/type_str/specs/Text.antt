@@ -2,7 +2,7 @@
 -- "caller's record or type that no reading gives". Definitions only. Assumes nothing.
 use Prim.Native.Nat.{ℕ}
 use mathlib.Core.List.{List, [], _∷_}
-use mathlib.Core.Bool.{Bool, true, false, cond, _&&_}
+use mathlib.Core.Bool.{Bool, true, cond, _&&_}
 use lib.Dec.{eqb}
 use Rattle.counts.specs.Outcome.{Outcome, refused, given}
 use Rattle.decimal.specs.Decimal.{printed}

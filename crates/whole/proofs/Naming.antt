@@ -8,11 +8,11 @@ use native.Mathlib.Omega.{arith}
 use lib.Dec.{eqb}
 use lib.ListN.{length, take, drop}
 use Rattle.counts.proofs.Alike.{true-false}
+use Rattle.counts.proofs.Sides.{lt-or-ge}
 use Rattle.utf8.specs.Decode.{utf8}
 use Rattle.dtype.specs.declared.Entry.{Entry}
 use Rattle.dtype.specs.Agrees.{entryAt, nameStart}
 use Rattle.dtype.specs.Seen.{nameAt}
-use Rattle.dtype.proofs.Digits.{lt-or-ge}
 use Rattle.dtype.proofs.Whole.{name-start-grows}
 use Rattle.agrees.specs.Decides.{refuses, Decides}
 use Rattle.whole.specs.Named.{illAt, Named}

@@ -11,12 +11,12 @@ use lib.Seq.{sets-eq}
 use mathlib.Core.Logic.{⊎-elim}
 use Rattle.counts.specs.Outcome.{Outcome, gives, refused}
 use Rattle.counts.specs.Number.{capped}
+use Rattle.counts.proofs.Sides.{lt-or-ge}
 use Rattle.emit.specs.Emits.{Emits}
 use Rattle.grammar.specs.Print.{spaces, print, valueOf}
 use Rattle.dtype.specs.declared.Order.{Order}
 use Rattle.dtype.specs.Dtype.{Dtype}
 use Rattle.dtype.specs.Limits.{limited}
-use Rattle.dtype.proofs.Digits.{lt-or-ge}
 use Rattle.dtype.specs.Record.{Record}
 use Rattle.record.specs.Version.{textStart}
 use Rattle.record.specs.Prefix.{most-text}

@@ -1,4 +1,5 @@
--- `agrees::record_agrees` meets its contract: the loop keeps `Linking`. The measure is how many fields are left. Assumes nothing.
+-- `agrees::record_agrees` meets its contract. The loop keeps that the record agrees exactly if its fields from entry c on do, with the bytes before them (`Linking`); the measure is
+-- how many fields are left. Assumes nothing.
 use borrow.Author.Needs.{needs}
 use Rattle.agrees.proofs.Fields.{record-view, Linking, linking-start, next-field, field-view, linking-next, linking-end, linking-back}
 use Rattle.agrees.proofs.Tests.{no, by-eqb, fails}

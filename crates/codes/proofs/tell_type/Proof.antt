@@ -1,4 +1,4 @@
--- Case by case. Assumes nothing.
+-- A type that was read is told by 0 and the four numbers of a plain entry; every other answer is its number, and the values stay. Assumes nothing.
 use Rattle.type_str.specs.Answer.{answer}
 use mathlib.Core.Path.{refl}
 use Rattle.codes.specs.Numbers.{typeValues}

@@ -1,5 +1,5 @@
--- `depth::innermost` meets its contract: the loop keeps `Passed`. The measure is what is left of the table, behind whose end no entry is an array level.
--- Assumes nothing.
+-- `depth::innermost` meets its contract. The loop keeps that each entry passed is an array level, and that the kind is that of the next one (`Passed`). The measure is what is left of
+-- the table, behind whose end no entry is an array level. Assumes nothing.
 use Prim.Native.Nat.{_-_}
 use native.Mathlib.Omega.{arith}
 use lib.ListN.{length}

@@ -1,4 +1,4 @@
--- A file that is held whole. Assumes nothing.
+-- A file that is held whole is one that is held in part and is not longer, so `read_held` answers what is owed. Assumes nothing.
 use Rattle.header.specs.Answer.{lent}
 use Rattle.header.proofs.Whole.{whole-read}
 use borrow.Author.Needs.{needs}

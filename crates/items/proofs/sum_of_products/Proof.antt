@@ -1,4 +1,5 @@
--- `items::sum_of_products` meets its contract: the loop keeps `Summed`. The measure is what is left of the index. Assumes nothing.
+-- `items::sum_of_products` meets its contract. The loop keeps that the whole sum is the sum so far, which fits, and that of the numbers left (`Summed`); the measure is what is left
+-- of the index. Assumes nothing.
 use Rattle.items.proofs.Sums.{Summed, summed-start, summed-end, summed-short, times-over, plus-over, summed-next}
 use lib.ListN.{length}
 use mathlib.Core.Path.{sym, _∙_}

@@ -1,4 +1,4 @@
--- What was found, and the dtype that it is. Assumes nothing.
+-- The verdict on the value that counts is the verdict on the dtype: what fits gives its totals, what does not its refusal, and without the key the answer is 9. Assumes nothing.
 use Rattle.judge.proofs.Found.{descr-good, descr-bad, descr-none}
 use borrow.Author.Needs.{needs}
 use Rattle.judge.proofs.descr_in.Statement.{statement}

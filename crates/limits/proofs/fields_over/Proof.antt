@@ -1,4 +1,5 @@
--- `limits::fields_over` meets its contract: the loop keeps `Summing`. The measure is how many fields are left. Assumes nothing.
+-- `limits::fields_over` meets its contract. The loop keeps that the fields' bytes are the sum so far, which fits, and those of the fields from entry c on (`Summing`); the measure
+-- is how many fields are left. Assumes nothing.
 use borrow.Author.Needs.{needs}
 use Rattle.limits.proofs.Fields.{Summing, summing-start, field-in, summing-over, summing-next, summing-end}
 use Rattle.counts.proofs.Fits.{number-is-back, number-over-back}

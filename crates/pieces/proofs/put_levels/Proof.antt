@@ -1,4 +1,5 @@
--- `pieces::put_levels` meets its contract: the loop keeps `Levels`. The measure is what is left of the table. Assumes nothing.
+-- `pieces::put_levels` meets its contract. The loop keeps that the dimensions from entry c on, put behind those that were put, make the whole row (`Levels`); the measure is what is
+-- left of the table. Assumes nothing.
 use Prim.Native.Nat.{_-_}
 use native.Mathlib.Omega.{arith}
 use lib.ListN.{length}

@@ -1,4 +1,5 @@
--- The record is at the front of the rooms. Assumes nothing.
+-- `run_header::list_record` is safe: the record's parts lie at the front of the rooms, since each number is cut at the room's length, and the look begins behind them. Assumes
+-- nothing.
 use native.Mathlib.Omega.{arith}
 use mathlib.Core.Path.{sym}
 use lib.Seq.{length-take-le}

@@ -3,7 +3,6 @@ use mathlib.Core.Path.{sym}
 use lib.Seq.{length-take-le}
 use native.Mathlib.Omega.{arith}
 use borrow.Author.Needs.{needs}
-use borrow.Author.Needs.{needs}
 use Rattle.run_npy.proofs.front.Statement.{statement}
 use Rattle.run_npy.proofs.front.Tie as tie
 

@@ -1,4 +1,5 @@
--- `seen::too_deep` meets its contract: the loop keeps `Deepening`. The measure is how many entries are left. Assumes nothing.
+-- `seen::too_deep` meets its contract. The loop, from the last entry back, keeps that no entry from e on begins more than 32 array levels, and that `levels` is how many entry e
+-- begins (`Deepening`); the measure is how many entries are left. Assumes nothing.
 use borrow.Author.Needs.{needs}
 use Rattle.seen.proofs.Levels.{Deepening, deepening-start, deepening-over, deepening-next, deepening-end}
 use Rattle.seen.proofs.too_deep.Statement.{statement}

@@ -1,4 +1,5 @@
--- `shape::fill` meets its contract: the loop keeps `Filling`. The measure is what is left of the rank. Assumes nothing.
+-- `shape::fill` meets its contract. The loop keeps that the strides of the dimensions passed stand at their places, that the product so far is the next one's, and that the room behind
+-- the rank is as it was (`Filling`); the measure is what is left of the rank. Assumes nothing.
 use Prim.Native.Nat.{_-_}
 use borrow.Author.Needs.{needs}
 use lib.ListN.{length}

@@ -1,4 +1,4 @@
--- Case by case. Assumes nothing.
+-- The five values are those of the summary: a size is 1 and its bytes, and no size is 0 and 0. Assumes nothing.
 use Rattle.told_place.proofs.Numbers.{size-numbers}
 use borrow.Author.Needs.{needs}
 use Rattle.told_place.proofs.put_summary.Statement.{statement}

@@ -1,4 +1,4 @@
--- Case by case. Assumes nothing.
+-- A record that is accepted is told by 0 and its summary's five values; every other answer is its number, and the values stay. Assumes nothing.
 use Rattle.table.specs.Answer.{answer}
 use mathlib.Core.Path.{refl}
 use Rattle.told_place.specs.Values.{summaryValues}

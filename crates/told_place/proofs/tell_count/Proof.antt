@@ -1,4 +1,4 @@
--- Case by case. Assumes nothing.
+-- A count is told by 0 and its value; one that is over is 22, and the value stays. Assumes nothing.
 use mathlib.Core.Path.{refl}
 use Rattle.shape.specs.Answer.{counted}
 use Rattle.codes.specs.Codes.{alone}

@@ -1,4 +1,4 @@
--- Case by case. Assumes nothing.
+-- An item is told by 0 and its number in the array; otherwise the answer is its refusal's number, and the value stays. Assumes nothing.
 use mathlib.Core.Path.{refl}
 use Rattle.items.specs.Answer.{itemAnswer}
 use Rattle.codes.specs.Codes.{alone}

@@ -1,4 +1,4 @@
--- Case by case. Assumes nothing.
+-- A place is told by 0 and six values, its type by the numbers of a plain entry; every other answer is its number, and the values stay. Assumes nothing.
 use Rattle.places.specs.Answer.{answer}
 use mathlib.Core.Path.{refl}
 use Rattle.told_place.specs.Values.{runValues}

@@ -1,4 +1,4 @@
--- Case by case. Assumes nothing.
+-- Strides that were written are told by 0 and how many they are; otherwise the answer is its number, and the value stays. Assumes nothing.
 use mathlib.Core.Path.{refl}
 use Rattle.shape.specs.Answer.{wrote}
 use Rattle.codes.specs.Codes.{alone}

@@ -1,4 +1,4 @@
--- Case by case. Assumes nothing.
+-- A header that was read is told by 0 and the values that `put_header` puts; a refusal is its own number, and the values stay. Assumes nothing.
 use Rattle.header.specs.Answer.{answer}
 use mathlib.Core.Path.{refl}
 use Rattle.told_read.specs.Values.{headerValues}

@@ -1,4 +1,4 @@
--- Case by case. Assumes nothing.
+-- A text that was read is told by 0 and four values, its order by `order_number`; a refusal is its own number, and the values stay. Assumes nothing.
 use Rattle.header.specs.Answer.{textAnswer}
 use Prim.Native.Nat.{ℕ}
 use mathlib.Core.Path.{_≡_, refl, ap}

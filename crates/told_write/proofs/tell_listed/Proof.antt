@@ -1,4 +1,4 @@
--- Case by case. Assumes nothing.
+-- A listing that was written is told by 0 and its length; a refusal is its own number, and the value stays. Assumes nothing.
 use mathlib.Core.Path.{refl}
 use Rattle.listing.specs.Answer.{answer}
 use Rattle.codes.specs.Codes.{alone}

@@ -1,4 +1,4 @@
--- Case by case. Assumes nothing.
+-- An element that was written is told by 0 and its length; every other answer is its number, and the value stays. Assumes nothing.
 use mathlib.Core.Path.{refl}
 use Rattle.slice.specs.Answer.{wroteAnswer}
 use Rattle.codes.specs.Codes.{alone}

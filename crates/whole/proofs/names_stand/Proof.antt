@@ -1,4 +1,5 @@
--- `whole::names_stand` meets its contract: the loop keeps `Naming`. The measure is how many entries are left. Assumes nothing.
+-- `whole::names_stand` meets its contract. The loop keeps that the names of the entries passed are well formed, and that the next one begins at `start`, which is in the names
+-- (`Naming`); the measure is how many entries are left. Assumes nothing.
 use borrow.Author.Needs.{needs}
 use Rattle.whole.proofs.Naming.{Naming, naming-start, name-past, name-ill, naming-next, naming-end}
 use Rattle.agrees.proofs.Tests.{no}

@@ -1,5 +1,6 @@
 -- The cycle of calls {put_descr, put_fields}. The measure is twice the table's numbers from the entry on, and one more where fields are handed on: a
--- record's fields stand behind its entry, and that behind its array levels. The loop keeps `Going`. Assumes nothing.
+-- record's fields stand behind its entry, and that behind its array levels. The loop keeps that the fields
+-- left, put behind those that were put, make the whole row (`Going`). Assumes nothing.
 use Prim.Native.Nat.{_+_, _-_, _*_}
 use native.Mathlib.Omega.{arith}
 use mathlib.Core.Path.{_≡_}
