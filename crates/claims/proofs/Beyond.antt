@@ -82,14 +82,14 @@ owed put room a room′ n h e = go put (sym (h .answered) ∙ e) (h .room-after)
         ap (drop n) g ∙ behind-front n content room len
     go (refused k) f g = refused-gives f
 
-printed-rest : (text room : List ℕ) (n : ℕ) → emit.written text room ≡ gives n → drop n (emit.placed text room) ≡ drop n room
-unfolding emit.written emit.placed
+printed-rest : (text room : List ℕ) (n : ℕ) → emit.written text room ≡ gives n → drop n (emit.roomWith text room) ≡ drop n room
+unfolding emit.written emit.roomWith
 printed-rest text room n e = go (leb (length text) (length room)) refl e
   where
-    go : (b : Bool) → leb (length text) (length room) ≡ b → cond b (gives (length text)) (refused 28) ≡ gives n → drop n (emit.placed text room) ≡ drop n room
+    go : (b : Bool) → leb (length text) (length room) ≡ b → cond b (gives (length text)) (refused 28) ≡ gives n → drop n (emit.roomWith text room) ≡ drop n room
     go true f g =
         let len : n ≡ length text = cc in
-        rw (emit.placed, f) (behind-front n text room len)
+        rw (emit.roomWith, f) (behind-front n text room len)
     go false f g = refused-gives g
 
 pub typed-rest : (t : TypeStr) (room : List ℕ) (n : ℕ) → typePrinted t room ≡ gives n → drop n (typePlaced t room) ≡ drop n room

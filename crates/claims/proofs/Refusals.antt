@@ -39,13 +39,13 @@ owed : (put : Outcome (List ℕ)) (room : List ℕ) (a : Outcome ℕ) (room′ :
 owed put room a room′ k h e = h .room-after ∙ by-outcome length (after room) room (λ n. refl) put k (sym (h .answered) ∙ e)
 
 -- a text in lent room
-text-left : (text room : List ℕ) (k : ℕ) → emit.written text room ≡ refused k → emit.placed text room ≡ room
-unfolding emit.written emit.placed
+text-left : (text room : List ℕ) (k : ℕ) → emit.written text room ≡ refused k → emit.roomWith text room ≡ room
+unfolding emit.written emit.roomWith
 text-left text room k e = go (leb (length text) (length room)) refl e
   where
-    go : (b : Bool) → leb (length text) (length room) ≡ b → cond b (gives (length text)) (refused 28) ≡ refused k → emit.placed text room ≡ room
+    go : (b : Bool) → leb (length text) (length room) ≡ b → cond b (gives (length text)) (refused 28) ≡ refused k → emit.roomWith text room ≡ room
     go true f g = refused-gives (sym g)
-    go false f g = rw (emit.placed, f)
+    go false f g = rw (emit.roomWith, f)
 
 pub typed-left : (t : TypeStr) (room : List ℕ) (k : ℕ) → typePrinted t room ≡ refused k → typePlaced t room ≡ room
 unfolding typePrinted typePlaced

@@ -1,5 +1,5 @@
 // The numbers of an order, a version and a type: those that a caller in C gives, and what they name or why they are refused; and a type told in its four. What
-// telling an answer in C is, here and in crates told_read, told_held, told_place, told_element, told_write and told_list, is in specs/Codes.antt. No function here has a
+// telling an answer in C is, here and in crates told_read, told_place, told_element, told_write and told_list, is in specs/Codes.antt. No function here has a
 // `requires`.
 use dtype::Entry;
 use dtype::Order;

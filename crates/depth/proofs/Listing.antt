@@ -10,7 +10,7 @@ use Rattle.counts.proofs.Sides.{lt-or-ge}
 use Rattle.dtype.specs.declared.Entry.{Entry}
 use Rattle.dtype.specs.Dtype.{Dtype, Fields, plain, array, record-of, field-then}
 use Rattle.dtype.specs.Entries.{entriesOf}
-use Rattle.dtype.specs.Flat.{kindOf, entryOf, entry-width, flats}
+use Rattle.dtype.specs.Flat.{kindColumn, entryOf, entry-width, flats}
 use Rattle.dtype.specs.Agrees.{entryAt}
 use Rattle.dtype.proofs.Flat.{some-entry, flat-length}
 use Rattle.dtype.proofs.Stands.{stands-entry, stands-below, stands-after}
@@ -80,7 +80,7 @@ module _ (t : List ℕ) (e r : ℕ) (u : Under t e r) where
   under-some k =
       ⊎-elim (λ (h : e < r). h) (λ (h : r ≤ e). let z : r ≡ e = omega (arith, u .further) in absurd (u .no-level (rw z k))) (lt-or-ge e r)
 
-pub kind-at : (t : List ℕ) (e : ℕ) (d : Dtype) (l : Listed t e d) → entryAt t e .kind ≡ kindOf d
+pub kind-at : (t : List ℕ) (e : ℕ) (d : Dtype) (l : Listed t e d) → entryAt t e .kind ≡ kindColumn d
 kind-at t e d l = ap (λ (a : Entry). a .kind) (listed-entry t e d l)
 
 pub under-innermost : (t : List ℕ) (e r : ℕ) → Under t e r → (d : Dtype) → Listed t e d → Innermost t e d r
@@ -103,7 +103,7 @@ innermost-descr (plain ty) = refl
 innermost-descr (array n d) = innermost-descr d
 innermost-descr (record-of fs) = refl
 
-innermost-kind : (d : Dtype) → kindOf (innermostOf d) ≡ 1 → ⊥
+innermost-kind : (d : Dtype) → kindColumn (innermostOf d) ≡ 1 → ⊥
 innermost-kind (plain ty) k = omega arith
 innermost-kind (array n d) k = innermost-kind d k
 innermost-kind (record-of fs) k = omega arith
@@ -111,5 +111,5 @@ innermost-kind (record-of fs) k = omega arith
 -- the entry behind the levels is no array's
 pub under-record : (t : List ℕ) (e r : ℕ) → ((d : Dtype) → Listed t e d → Innermost t e d r) → (x : Entry) → x ≡ entryAt t r → (d : Dtype) → Listed t e d → x .kind ≡ 1 → ⊥
 under-record t e r under x q d l k =
-    let v : x .kind ≡ kindOf (innermostOf d) = ap (λ (a : Entry). a .kind) (q ∙ listed-entry t r (innermostOf d) (under d l .listed)) in
+    let v : x .kind ≡ kindColumn (innermostOf d) = ap (λ (a : Entry). a .kind) (q ∙ listed-entry t r (innermostOf d) (under d l .listed)) in
     innermost-kind d (omega arith)

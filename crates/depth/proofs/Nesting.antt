@@ -12,7 +12,7 @@ use Rattle.grammar.specs.Print.{Layout, valueOf, valuesOf}
 use Rattle.dtype.specs.declared.Entry.{Entry}
 use Rattle.dtype.specs.Dtype.{Dtype, Fields, plain, array, record-of, end-of-fields, field-then}
 use Rattle.dtype.specs.Entries.{fieldCount, entriesOf}
-use Rattle.dtype.specs.Flat.{entryOf, kindOf}
+use Rattle.dtype.specs.Flat.{entryOf, kindColumn}
 use Rattle.dtype.specs.Agrees.{entryAt}
 use Rattle.dtype.proofs.Flat.{some-entry}
 use Rattle.record.specs.Layout.{dimensionRow, shapeLayout, levelsOf, fieldLayout, descrLayout, fieldRow}
@@ -90,7 +90,7 @@ shape-within j k (n ∷ s) = row-within j k s
 abbrev fieldOf : List ℕ → Dtype → Value
 fieldOf name d = valueOf (fieldLayout name (descrLayout d) (levelsOf d))
 
-field-few : (name : List ℕ) (d : Dtype) (k : ℕ) → k < opens (kindOf d) → within (fieldOf name d) k ≡ false
+field-few : (name : List ℕ) (d : Dtype) (k : ℕ) → k < opens (kindColumn d) → within (fieldOf name d) k ≡ false
 field-few name (plain ty) zero h = refl
 field-few name (plain ty) (suc k) h = absurd (omega arith)
 field-few name (array n d) zero h = refl
@@ -99,7 +99,7 @@ field-few name (array n d) (suc (suc k)) h = absurd (omega arith)
 field-few name (record-of fs) zero h = refl
 field-few name (record-of fs) (suc k) h = absurd (omega arith)
 
-field-as : (name : List ℕ) (d : Dtype) (k : ℕ) → opens (kindOf d) ≤ k → within (fieldOf name d) k ≡ within (valueOf (descrLayout d)) (k - 1)
+field-as : (name : List ℕ) (d : Dtype) (k : ℕ) → opens (kindColumn d) ≤ k → within (fieldOf name d) k ≡ within (valueOf (descrLayout d)) (k - 1)
 field-as name (plain ty) zero h = absurd (omega arith)
 field-as name (plain ty) (suc k) h = refl
 field-as name (array n d) zero h = absurd (omega arith)
@@ -149,14 +149,14 @@ module _ (t : List ℕ) (e k c left : ℕ) (fs : Fields) (g : Passing t e k c le
           → false ≡ allWithin (valuesOf (fieldRow fs)) k
       go end-of-fields n l u = absurd (omega arith)
       go (field-then name d gs) n l u =
-          let z : x .kind ≡ kindOf d = ap (λ (a : Entry). a .kind) (q ∙ listed-entry t c d (listed-first t c name d gs l)) in
+          let z : x .kind ≡ kindColumn d = ap (λ (a : Entry). a .kind) (q ∙ listed-entry t c d (listed-first t c name d gs l)) in
           sym (u ∙ ap (λ (b : Bool). b && allWithin (valuesOf (fieldRow gs)) k) (field-few name d k (rw z at h)))
 
   module _ (enough : opens (x .kind) ≤ k) (r : Bool) (inner : (d : Dtype) → Listed t c d → r ≡ within (valueOf (descrLayout d)) (k - 1)) where
     first-is : (name : List ℕ) (d : Dtype) (gs : Fields) → ListedIn t c (field-then name d gs) → within (fieldOf name d) k ≡ r
     first-is name d gs l =
         let f = listed-first t c name d gs l in
-        let z : x .kind ≡ kindOf d = ap (λ (a : Entry). a .kind) (q ∙ listed-entry t c d f) in
+        let z : x .kind ≡ kindColumn d = ap (λ (a : Entry). a .kind) (q ∙ listed-entry t c d f) in
         field-as name d k (rw z at enough) ∙ sym (inner d f)
 
     pub passing-no : r ≡ false → false ≡ allWithin (valuesOf (fieldRow fs)) k

@@ -5,7 +5,7 @@ use mathlib.Core.Path.{_≡_}
 use mathlib.Core.List.{List, []}
 use Rattle.counts.specs.Outcome.{Outcome, gives, refused, then}
 use Rattle.refusal.specs.Numbers.{numberOf}
-use Rattle.emit.specs.Placed.{written, placed}
+use Rattle.emit.specs.Placed.{written, roomWith}
 use Rattle.dtype.specs.declared.Order.{Order}
 use Rattle.dtype.specs.Record.{Record}
 use Rattle.record.specs.Version.{Version}
@@ -23,13 +23,13 @@ listed v start t ns s o room = then (checkedRecord t ns s o) (λ r. written (lis
 
 -- the room then
 abbrev pub roomBy : Outcome Record → Version → (start : ℕ) (room : List ℕ) → List ℕ
-roomBy (gives r) v start room = placed (listing v start r []) room
+roomBy (gives r) v start room = roomWith (listing v start r []) room
 roomBy (refused n) v start room = room
 
 -- a record that was checked
 pub record ListsOne (v : Version) (start : ℕ) (r : Record) (room : List ℕ) (x : Listed) (room′ : List ℕ) : Type 0 where
   pub answered : answer x ≡ written (listing v start r []) room
-  pub after : room′ ≡ placed (listing v start r []) room
+  pub after : room′ ≡ roomWith (listing v start r []) room
 
 pub record Lists (v : Version) (start : ℕ) (t ns s : List ℕ) (o : Order) (room : List ℕ) (x : Listed) (room′ : List ℕ) : Type 0 where
   pub answered : answer x ≡ listed v start t ns s o room

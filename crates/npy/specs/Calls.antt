@@ -17,7 +17,7 @@ use Rattle.write.specs.Writes.{headerWritten, headerPlaced}
 use Rattle.strings.specs.Rooms.{after}
 use Rattle.codes.specs.Codes.{left, Tells, alone}
 use Rattle.codes.specs.Numbers.{orderFor, typeFor}
-pub use Rattle.told_held.specs.Held.{ReadsHeld}
+pub use Rattle.told_read.specs.Held.{ReadsHeld}
 pub use Rattle.told_list.specs.Lists.{Lists}
 use Rattle.told_read.specs.Values.{textValues, headerValues}
 

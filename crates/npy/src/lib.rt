@@ -44,7 +44,7 @@ pub extern "C" fn npy_read_held(
 ) -> u8
     ensures { λ r. ⌜ ReadsHeld longer (now (file .entry)) (lent (now (table .entry)) (now (names .entry)) (now (shape .entry))) (now (said .entry)) r (lent (now (table .exit)) (now (names .exit)) (now (shape .exit))) (now (said .exit)) ⌝ }
 {
-    told_held::read_held(file, longer, table, names, shape, said)
+    told_read::read_held(file, longer, table, names, shape, said)
 }
 
 // The record of a header's text, of any length; `said` is its order, rank, entries and name bytes.

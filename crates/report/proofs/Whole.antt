@@ -10,7 +10,7 @@ use Rattle.counts.specs.Outcome.{Outcome, gives, refused, then, each, unless}
 use Rattle.refusal.specs.declared.Refusal.{Refusal}
 use Rattle.refusal.specs.Numbers.{numberOf}
 use Rattle.emit.specs.Emits.{Emits}
-use Rattle.emit.specs.Placed.{written, placed}
+use Rattle.emit.specs.Placed.{written, roomWith}
 use Rattle.emit.proofs.Texts.{written-short, written-whole}
 use Rattle.dtype.specs.Flat.{entry-width}
 use Rattle.dtype.specs.Record.{Record}
@@ -71,7 +71,7 @@ room-only k text room e = go (leb (length text) (length room)) e
 
 module _ (v : Version) (start : ℕ) (r : Record) (said : Said) (l : Lent) (room room′ : List ℕ) (h : Holds r said l) where
   text-of : (x : Listed) → lists.Lists v start (tableIn said l) (namesIn said l) (shapeIn said l) (said .order) room x room′
-      → (lists.answer x ≡ written (listing v start r []) room) × (room′ ≡ placed (listing v start r []) room)
+      → (lists.answer x ≡ written (listing v start r []) room) × (room′ ≡ roomWith (listing v start r []) room)
   text-of x w = (
     w .answered ∙ ap (λ (o : Outcome Record). then o (λ z. written (listing v start z []) room)) (h .accepted),
     w .after ∙ ap (λ (o : Outcome Record). lists.roomBy o v start room) (h .accepted),

@@ -8,7 +8,7 @@ use lib.Dec.{ltb}
 use lib.ListN.{length, take, replicate}
 use Rattle.counts.specs.Outcome.{Outcome, gives, refused}
 use Rattle.decimal.specs.Decimal.{printed}
-use Rattle.emit.specs.Placed.{written, placed}
+use Rattle.emit.specs.Placed.{written, roomWith}
 use Rattle.dtype.specs.Flat.{entry-width}
 use Rattle.record.specs.Rooms.{Lent}
 use Rattle.record.specs.Header.{Header}
@@ -41,7 +41,7 @@ answer Reported.OutputRoom = refused 28
 
 pub record Writes (text room : List ℕ) (x : Reported) (room′ : List ℕ) : Type 0 where
   pub answered : answer x ≡ written text room
-  pub after : room′ ≡ placed text room
+  pub after : room′ ≡ roomWith text room
 
 abbrev pub Reports : (file room : List ℕ) → Reported → (room′ : List ℕ) → Type 0
 Reports file room x room′ = Writes (reportOf file) room x room′

@@ -13,7 +13,7 @@ use Rattle.utf8.specs.Decode.{utf8, scan}
 use Rattle.dtype.specs.declared.Entry.{Entry}
 use Rattle.dtype.specs.Dtype.{Dtype, plain, array, record-of}
 use Rattle.dtype.specs.Entries.{entriesOf}
-use Rattle.dtype.specs.Flat.{kindOf, entry-width}
+use Rattle.dtype.specs.Flat.{kindColumn, entry-width}
 use Rattle.dtype.specs.Record.{table, names, unflat, tableOf}
 use Rattle.dtype.specs.Agrees.{entryAt}
 use Rattle.dtype.proofs.Record.{tableOf-right, tableOf-these}
@@ -34,12 +34,12 @@ pub record Passes (t ns : List ℕ) (n : ℕ) : Type 0 where
   pub sound : (e : ℕ) → e < n → Sound t n e
   pub named : Named t ns n
 
-array-kind : (d : Dtype) → isArray d ≡ false → kindOf d ≡ 1 → ⊥
+array-kind : (d : Dtype) → isArray d ≡ false → kindColumn d ≡ 1 → ⊥
 array-kind (plain t) h k = omega arith
 array-kind (array n d) h k = true-false h
 array-kind (record-of fs) h k = omega arith
 
-kind-array : (d : Dtype) → (kindOf d ≡ 1 → ⊥) → isArray d ≡ false
+kind-array : (d : Dtype) → (kindColumn d ≡ 1 → ⊥) → isArray d ≡ false
 kind-array (plain t) h = refl
 kind-array (array n d) h = absurd (h refl)
 kind-array (record-of fs) h = refl
@@ -49,7 +49,7 @@ unfolding scan
 empty-well = refl
 
 module _ (d : Dtype) where
-  first-entry : entryAt (table d) 0 .kind ≡ kindOf d
+  first-entry : entryAt (table d) 0 .kind ≡ kindColumn d
   first-entry = ap (λ (a : Entry). a .kind) (stands-entry d (table d) 0 0 0 [] refl)
 
   listed-passes : isArray d ≡ false → untyped d ≡ false → illNamed d ≡ false → Passes (table d) (names d) (entriesOf d)

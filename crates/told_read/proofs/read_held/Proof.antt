@@ -2,8 +2,8 @@
 use Rattle.counts.proofs.OneOutcome.{told}
 use Rattle.codes.proofs.Named.{retold}
 use borrow.Author.Needs.{needs}
-use Rattle.told_held.proofs.read_held.Statement.{statement}
-use Rattle.told_held.proofs.read_held.Tie as tie
+use Rattle.told_read.proofs.read_held.Statement.{statement}
+use Rattle.told_read.proofs.read_held.Tie as tie
 
 read-held-requires : tie.Need-read-held-requires
 read-held-requires c κs = search needs

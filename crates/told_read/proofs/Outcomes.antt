@@ -5,7 +5,7 @@ use mathlib.Core.Bool.{Bool}
 use mathlib.Core.List.{List}
 use Rattle.counts.specs.OneOutcome.{OneOutcome}
 use Rattle.record.specs.Rooms.{Lent}
-use Rattle.told_held.specs.Held.{ReadsHeld}
+use Rattle.told_read.specs.Held.{ReadsHeld}
 
 three-eq : {m n : ℕ} {k l : Lent} {x y : List ℕ} → m ≡ n → k ≡ l → x ≡ y → _≡_ {A = (ℕ × Lent) × List ℕ} ((m, k), x) ((n, l), y)
 three-eq hm hk hx = cc
