@@ -1,4 +1,4 @@
--- Room beyond what was needed is unchanged (specs/Beyond.antt): what is written stands in front of what is left of the room. Assumes nothing.
+-- Room beyond what was needed is unchanged (specs/Beyond.antt): what is written is followed by the rest of the room.
 use Prim.Native.Nat.{ℕ, _*_}
 use mathlib.Core.Path.{_≡_, refl, sym, ap, _∙_}
 use mathlib.Core.Bool.{Bool, true, false, not, cond}
@@ -8,9 +8,9 @@ use lib.ListN.{length, drop}
 use lib.Seq.{drop-append-seam}
 use Rattle.counts.specs.Outcome.{Outcome, gives, refused, then, each}
 use Rattle.emit.specs.Placed as emit
-use Rattle.scalar.specs.Scalar.{isScalar}
-use Rattle.scalar.specs.Encode.{encode}
-use Rattle.scalar.specs.Answer as scalar
+use Rattle.utf8_scalar.specs.Scalar.{isScalar}
+use Rattle.utf8_scalar.specs.Encode.{encode}
+use Rattle.utf8_scalar.specs.Answer as scalar
 use Rattle.type_str.specs.declared.TypeStr.{TypeStr}
 use Rattle.type_str.specs.Text.{isType, typeText, typePrinted, typePlaced}
 use Rattle.dtype.specs.declared.Order.{Order}
@@ -30,20 +30,20 @@ use Rattle.record.specs.Header as header
 use Rattle.record.specs.File.{fileOf}
 use Rattle.record.specs.Writing.{writing, placed}
 use Rattle.judge.specs.Judged.{reading}
-use Rattle.table.specs.Checked.{checkedRecord}
-use Rattle.fill.specs.declared.Said.{Said}
+use Rattle.check_record.specs.Checked.{checkedRecord}
+use Rattle.header.specs.declared.RecordInfo.{RecordInfo}
 use Rattle.header.specs.declared.Header.{Header}
-use Rattle.header.specs.Answer.{saidOf, Told, told, headerIs, filled, textInto, heldInto}
+use Rattle.header.specs.Reads.{infoOf, HeaderInfo, headerInfo, headerIs, filled, textInto, heldInto}
 use Rattle.write.specs.Writes.{headerWritten, headerPlaced, roomOf}
-use Rattle.lines.specs.Listing.{listing}
-use Rattle.listing.specs.Answer as lists
-use Rattle.report.specs.Report.{reportOf}
-use Rattle.strings.specs.Rooms.{after, Owes}
+use Rattle.list_text.specs.Listing.{listing}
+use Rattle.list_record.specs.Answer as lists
+use Rattle.list_file.specs.Report.{reportOf}
+use Rattle.string_value.specs.Rooms.{after, Owes}
 use Rattle.claims.specs.Beyond.{Same-rest, Rest-unchanged}
-use Rattle.rooms.proofs.Rooms.{table-whole, names-whole}
+use Rattle.read_back.proofs.Rooms.{table-whole, names-whole}
 use Rattle.claims.proofs.RoundTrips.{wrote-length}
 
--- behind what stands at the front
+-- after what was put at the front
 behind : (n : ℕ) (new old : List ℕ) → n ≡ length new → drop n (new ++ drop n old) ≡ drop n old
 behind n new old e = rw e (drop-append-seam new (drop (length new) old))
 
@@ -51,7 +51,7 @@ behind-front : (n : ℕ) (new old : List ℕ) → n ≡ length new → drop n (a
 behind-front n new old e = rw e (drop-append-seam new (drop (length new) old))
 
 -- ---- a reader
-pub holding-rest : (r : Record) (l : Lent) → Same-rest (saidOf r) l (holding r l)
+pub holding-rest : (r : Record) (l : Lent) → Same-rest (infoOf r) l (holding r l)
 holding-rest r l =
     record {
       table-rest = behind-front (entry-width * entriesOf (r .dtype)) (table (r .dtype)) (l .table) (table-whole r);
@@ -59,18 +59,18 @@ holding-rest r l =
       shape-rest = behind-front (length (r .shape)) (r .shape) (l .shape) refl;
     }
 
-rest-by : (r : Record) (l l′ : Lent) (said : Said) → said ≡ saidOf r → l′ ≡ holding r l → Same-rest said l l′
-rest-by r l l′ said p q = rw (p, q) (holding-rest r l)
+rest-by : (r : Record) (l l′ : Lent) (info : RecordInfo) → info ≡ infoOf r → l′ ≡ holding r l → Same-rest info l l′
+rest-by r l l′ info p q = rw (p, q) (holding-rest r l)
 
-header-rest : (h : Header) (l l′ : Lent) (o : Outcome header.Header) → gives (headerIs h) ≡ each told o → l′ ≡ header.filled o l → Same-rest (h .said) l l′
+header-rest : (h : Header) (l l′ : Lent) (o : Outcome header.Header) → gives (headerIs h) ≡ each headerInfo o → l′ ≡ header.filled o l → Same-rest (h .info) l l′
 header-rest h l l′ (gives k) a b =
-    let same : headerIs h ≡ told k = cc in
-    rest-by (k .says) l l′ (h .said) (ap (λ (t : Told). t .said) same) b
+    let same : headerIs h ≡ headerInfo k = cc in
+    rest-by (k .says) l l′ (h .info) (ap (λ (t : HeaderInfo). t .info) same) b
 header-rest h l l′ (refused n) a b = refused-gives (sym a)
 
-text-rest : (said : Said) (l l′ : Lent) (o : Outcome Record) → gives said ≡ each saidOf o → l′ ≡ filled o l → Same-rest said l l′
-text-rest said l l′ (gives r) a b = rest-by r l l′ said (cc) b
-text-rest said l l′ (refused n) a b = refused-gives (sym a)
+text-rest : (info : RecordInfo) (l l′ : Lent) (o : Outcome Record) → gives info ≡ each infoOf o → l′ ≡ filled o l → Same-rest info l l′
+text-rest info l l′ (gives r) a b = rest-by r l l′ info (cc) b
+text-rest info l l′ (refused n) a b = refused-gives (sym a)
 
 -- ---- one room
 pub owed : (put : Outcome (List ℕ)) (room : List ℕ) (a : Outcome ℕ) (room′ : List ℕ) (n : ℕ) → Owes put room a room′ → a ≡ gives n → drop n room′ ≡ drop n room
@@ -123,7 +123,7 @@ encoded-rest : (c : ℕ) (room : List ℕ) (n : ℕ) → scalar.encoding c (leng
 encoded-rest c room n e =
     ap (λ (x : Outcome ℕ). drop n (scalar.after x c room)) e ∙ behind n (encode c) room (holds-of (λ k. k ≡ length (encode c)) e (encoding-length c (length room)))
 
-pub strides-rest : (o : Order) (s out : List ℕ) (n : ℕ) (c : Outcome ℕ) → c ≡ gives n → drop (length s) (strides.left c (shape.strides o s) out) ≡ drop (length s) out
+pub strides-rest : (o : Order) (s out : List ℕ) (n : ℕ) (c : Outcome ℕ) → c ≡ gives n → drop (length s) (strides.stridesAfter c (shape.strides o s) out) ≡ drop (length s) out
 strides-rest o s out n (gives k) e = behind-front (length s) (shape.strides o s) out (sym (strides-length o s))
 strides-rest o s out n (refused k) e = refused-gives e
 
@@ -132,7 +132,7 @@ rest-unchanged =
     record {
       read = λ file l l′ h x. header-rest h l l′ (header.headerInto reading file l) (x .answered) (x .after);
       read-held = λ longer file l l′ h x. header-rest h l l′ (heldInto longer file l) (x .answered) (x .after);
-      read-text = λ text l l′ said x. text-rest said l l′ (textInto text l) (x .answered) (x .after);
+      read-text = λ text l l′ info x. text-rest info l l′ (textInto text l) (x .answered) (x .after);
       write-header = λ t ns s o room w room′ n h e. ap (drop n) (h .room-after) ∙ header-placed-rest t ns s o room n (sym (h .answered) ∙ e);
       list = λ v start t ns s o room x room′ n h e. ap (drop n) (h .after) ∙ listed-rest v start room n (checkedRecord t ns s o) (sym (h .answered) ∙ e);
       report = λ file room x room′ n h e. ap (drop n) (h .after) ∙ printed-rest (reportOf file) room n (sym (h .answered) ∙ e);
@@ -142,8 +142,6 @@ rest-unchanged =
       write-points = λ t value room x room′ n h e. owed _ room _ room′ n h e;
       element-bytes = λ file start t ns s o x p room y room′ n h e. owed _ room _ room′ n h e;
       element-points = λ file start t ns s o x p room y room′ n h e. owed _ room _ room′ n h e;
-      bytes-at = λ file place room y room′ n h e. owed _ room _ room′ n h e;
-      points-at = λ file place room y room′ n h e. owed _ room _ room′ n h e;
       print = λ t room x room′ n h e. ap (drop n) (h .room-after) ∙ typed-rest t room n (sym (h .answered) ∙ e);
       encode = λ value room x room′ n h e. ap (drop n) (h .room-after) ∙ encoded-rest value room n (sym (h .answered) ∙ e);
       strides = λ o s out x out′ n h e. ap (drop (length s)) (h .out-after) ∙ strides-rest o s out n (strides.stridesCount o s (length out)) (sym (h .answered) ∙ e);

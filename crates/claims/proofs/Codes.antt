@@ -1,4 +1,4 @@
--- The C interface (specs/Codes.antt): the numbers are those of Numbers.antt, and what a refusal leaves is what the functions below leave. Assumes nothing.
+-- The C interface (specs/Codes.antt): the numbers are those of Numbers.antt, and what a refusal leaves is what the functions below leave.
 use Prim.Native.Nat.{ℕ}
 use native.Mathlib.Omega.{arith}
 use mathlib.Core.Path.{_≡_, refl, sym, ap, _∙_}
@@ -19,19 +19,18 @@ use Rattle.record.specs.Version.{versionOf}
 use Rattle.record.specs.Rooms.{Lent, holding}
 use Rattle.record.specs.Header as record-of-file
 use Rattle.judge.specs.Judged.{reading}
-use Rattle.table.specs.Answer.{summary}
-use Rattle.table.specs.Checked.{checkedRecord}
-use Rattle.items.specs.Item.{itemOf}
-use Rattle.places.specs.Place.{placeOf}
-use Rattle.fill.specs.declared.Said.{Said}
-use Rattle.header.specs.Answer as header
+use Rattle.check_record.specs.Answer.{summary}
+use Rattle.check_record.specs.Checked.{checkedRecord}
+use Rattle.place_item.specs.Item.{itemOf}
+use Rattle.place.specs.Place.{placeOf}
+use Rattle.header.specs.declared.RecordInfo.{RecordInfo}
+use Rattle.header.specs.Reads as header
 use Rattle.write.specs.Writes.{headerWritten, headerPlaced}
-use Rattle.listing.specs.Answer.{listed, roomBy}
-use Rattle.strings.specs.Rooms.{after}
-use Rattle.codes.specs.Codes.{code, left, Tells, alone}
-use Rattle.codes.specs.Numbers.{orderFor, typeFor, typeValues}
-use Rattle.told_read.specs.Values.{textValues, headerValues}
-use Rattle.told_place.specs.Values.{summaryValues, runValues}
+use Rattle.list_record.specs.Answer.{listed, roomBy}
+use Rattle.string_value.specs.Rooms.{after}
+use Rattle.npy_codes.specs.Codes.{code, left, Tells, alone}
+use Rattle.npy_codes.specs.Numbers.{orderFor, typeFor}
+use Rattle.npy_codes.specs.Values.{typeValues, textValues, headerValues, summaryValues, runValues}
 use Rattle.npy.specs.Calls.{Puts}
 use Rattle.claims.specs.Beyond.{Same-rest}
 use Rattle.claims.specs.Codes.{Tells-alone, Coded, Zero-answers, Rest-in-C}
@@ -87,7 +86,7 @@ told-coded : {A : Type 0} (values : A → List ℕ) (o : Outcome A) (said : List
     → Coded values o said r said′ said′
 told-coded values o said r said′ h t = coded values o h t (λ n e s. s)
 
--- a room and what is said beside it
+-- a room and the values together
 beside : {A M : Type 0} (values : A → List ℕ) (o : Outcome A) (l l′ : M) (said said′ : List ℕ) (r : ℕ) → Numbered o → Tells values o said r said′
     → ((n : ℕ) → o ≡ refused n → l′ ≡ l) → Coded {M = M × List ℕ} values o (l, said) r (l′, said′) said′
 beside values o l l′ said said′ r h t k = coded values o h t (λ n e s. pair-of (k n e) s)
@@ -108,14 +107,14 @@ pub zero-answers : Zero-answers
 zero-answers =
     record {
       npy-read = λ file l said r new told c.
-          beside headerValues _ l new said told r (each-numbered header.told _ (header-numbered file l)) (c .told)
-          (λ n e. c .rooms ∙ by-outcome header.told (λ o. record-of-file.filled o l) l (λ k. refl) (record-of-file.headerInto reading file l) n e);
+          beside headerValues _ l new said told r (each-numbered header.headerInfo _ (header-numbered file l)) (c .told)
+          (λ n e. c .rooms ∙ by-outcome header.headerInfo (λ o. record-of-file.filled o l) l (λ k. refl) (record-of-file.headerInto reading file l) n e);
       npy-read-held = λ longer file l said r new told c.
-          beside headerValues _ l new said told r (each-numbered header.told _ (held-header-numbered longer file l)) (c .told)
-          (λ n e. c .rooms ∙ by-outcome header.told (λ o. record-of-file.filled o l) l (λ k. refl) (header.heldInto longer file l) n e);
+          beside headerValues _ l new said told r (each-numbered header.headerInfo _ (held-header-numbered longer file l)) (c .told)
+          (λ n e. c .rooms ∙ by-outcome header.headerInfo (λ o. record-of-file.filled o l) l (λ k. refl) (header.heldInto longer file l) n e);
       npy-read-text = λ text l said r new told c.
-          beside textValues _ l new said told r (each-numbered header.saidOf _ (text-numbered text l)) (c .told)
-          (λ n e. c .rooms ∙ by-outcome header.saidOf (λ o. header.filled o l) l (λ k. refl) (header.textInto text l) n e);
+          beside textValues _ l new said told r (each-numbered header.infoOf _ (text-numbered text l)) (c .told)
+          (λ n e. c .rooms ∙ by-outcome header.infoOf (λ o. header.filled o l) l (λ k. refl) (header.textInto text l) n e);
       npy-check = λ t ns s order said r x c.
           told-coded summaryValues _ said r x
           (then-numbered (orderFor order) (λ o. each summary (checkedRecord t ns s o)) (for-numbered order) (λ o. each-numbered summary _ (record-checked-numbered t ns s o))) c;
@@ -136,7 +135,7 @@ zero-answers =
           beside alone _ room new count told r
           (then-numbered (orderFor order) (λ o. shape.stridesCount o s (length room)) (for-numbered order) (λ o. strides-numbered o s (length room))) (c .told)
           (λ n e. c .room-after
-          ∙ given-left _ (λ o. shape.left (shape.stridesCount o s (length room)) (strides o s) room) room (orderFor order)
+          ∙ given-left _ (λ o. shape.stridesAfter (shape.stridesCount o s (length room)) (strides o s) room) room (orderFor order)
           (λ o k f. strides-left (strides o s) room k (shape.stridesCount o s (length room)) f) n e);
       npy-item-number = λ s order index item r x c.
           told-coded alone _ item r x (then-numbered (orderFor order) (λ o. itemOf o s index) (for-numbered order) (λ o. item-numbered o s index)) c;
@@ -167,7 +166,7 @@ zero-answers =
     }
 
 -- ---- what was not needed
-rest-for : (r : Record) (said : Said) (l l′ : Lent) → said .entries ≡ entriesOf (r .dtype) → said .names ≡ nameBytes (r .dtype) → said .rank ≡ length (r .shape)
+rest-for : (r : Record) (said : RecordInfo) (l l′ : Lent) → said .entries ≡ entriesOf (r .dtype) → said .names ≡ nameBytes (r .dtype) → said .rank ≡ length (r .shape)
     → l′ ≡ holding r l → Same-rest said l l′
 rest-for r said l l′ e n k q =
     record {
@@ -176,17 +175,17 @@ rest-for r said l l′ e n k q =
       shape-rest = rw (k, q) (holding-rest r l .shape-rest);
     }
 
-same-left : (said : Said) (l l′ : Lent) → l′ ≡ l → Same-rest said l l′
+same-left : (said : RecordInfo) (l l′ : Lent) → l′ ≡ l → Same-rest said l l′
 same-left said l l′ q = record { table-rest = rw q refl; names-rest = rw q refl; shape-rest = rw q refl }
 
-header-rest-told : (t : header.Told) (said : List ℕ) (l l′ : Lent) (o : Outcome record-of-file.Header)
-    → headerValues t ≡ left headerValues (each header.told o) said → l′ ≡ record-of-file.filled o l → Same-rest (t .said) l l′
+header-rest-told : (t : header.HeaderInfo) (said : List ℕ) (l l′ : Lent) (o : Outcome record-of-file.Header)
+    → headerValues t ≡ left headerValues (each header.headerInfo o) said → l′ ≡ record-of-file.filled o l → Same-rest (t .info) l l′
 header-rest-told t said l l′ (gives h) e q =
-    rest-for (h .says) (t .said) l l′ (ap (λ x. getD x 3 0) e) (ap (λ x. getD x 4 0) e) (ap (λ x. getD x 2 0) e) q
-header-rest-told t said l l′ (refused n) e q = same-left (t .said) l l′ q
+    rest-for (h .says) (t .info) l l′ (ap (λ x. getD x 3 0) e) (ap (λ x. getD x 4 0) e) (ap (λ x. getD x 2 0) e) q
+header-rest-told t said l l′ (refused n) e q = same-left (t .info) l l′ q
 
-text-rest-told : (t : Said) (said : List ℕ) (l l′ : Lent) (o : Outcome Record)
-    → textValues t ≡ left textValues (each header.saidOf o) said → l′ ≡ header.filled o l → Same-rest t l l′
+text-rest-told : (t : RecordInfo) (said : List ℕ) (l l′ : Lent) (o : Outcome Record)
+    → textValues t ≡ left textValues (each header.infoOf o) said → l′ ≡ header.filled o l → Same-rest t l l′
 text-rest-told t said l l′ (gives r) e q = rest-for r t l l′ (ap (λ x. getD x 2 0) e) (ap (λ x. getD x 3 0) e) (ap (λ x. getD x 1 0) e) q
 text-rest-told t said l l′ (refused n) e q = same-left t l l′ q
 
@@ -202,12 +201,12 @@ module _ {A : Type 0} (next : A → Outcome ℕ) (put : A → List ℕ) (room : 
   given-rest (gives a) h n e = h a n e
   given-rest (refused k) h n e = refl
 
-strides-behind : (o : Order) (s out : List ℕ) (c : Outcome ℕ) → drop (length s) (shape.left c (strides o s) out) ≡ drop (length s) out
+strides-behind : (o : Order) (s out : List ℕ) (c : Outcome ℕ) → drop (length s) (shape.stridesAfter c (strides o s) out) ≡ drop (length s) out
 strides-behind o s out (gives n) = strides-rest o s out n (gives n) refl
 strides-behind o s out (refused n) = refl
 
 strides-given : (s room : List ℕ) (given : Outcome Order)
-    → drop (length s) (left (λ o. shape.left (shape.stridesCount o s (length room)) (strides o s) room) given room) ≡ drop (length s) room
+    → drop (length s) (left (λ o. shape.stridesAfter (shape.stridesCount o s (length room)) (strides o s) room) given room) ≡ drop (length s) room
 strides-given s room (gives o) = strides-behind o s room (shape.stridesCount o s (length room))
 strides-given s room (refused n) = refl
 

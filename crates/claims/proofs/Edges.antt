@@ -1,10 +1,10 @@
--- The table of the cases marked P (specs/Edges.antt): its two parts are computed where their definitions are, and that the last case's text is that record is
--- computed here. Assumes nothing.
+-- The table of the cases marked P (specs/Edges.antt): its two parts are computed where their definitions are; that the last case's text gives that record is
+-- computed here.
 use mathlib.Core.Path.{refl}
 use Rattle.decimal.specs.Decimal.{isDigit, digitsOf, decimalFrom}
-use Rattle.byte_orders.specs.Spelling.{orderOf}
-use Rattle.letters.specs.Spelling.{letterOf}
-use Rattle.units.specs.Units.{unitsOf}
+use Rattle.type_letters.specs.Orders.{orderOf}
+use Rattle.type_letters.specs.Letters.{letterOf}
+use Rattle.type_units.specs.Units.{unitsOf}
 use Rattle.type_str.specs.TypeString.{sized, syntax, validated, checked, typeString}
 use Rattle.type_read.proofs.Edges as types
 use Rattle.dtype.proofs.Edges as dtypes

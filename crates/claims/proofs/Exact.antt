@@ -1,6 +1,6 @@
--- What is accepted is exactly what document 01 defines (specs/Exact.antt). The contracts are equations with rows of checks; a row that gives something has passed each
--- of its checks, and one whose checks all pass gives it. Of a text one outcome keeps the grammar's promise, so that the value which the rules give is the one
--- that is read. Assumes nothing.
+-- What is accepted is exactly what document 01 defines (specs/Exact.antt). The contracts are equations with sequences of checks; a sequence that gives a value has passed
+-- each check, and one whose checks all pass gives it. For each text one outcome keeps the grammar's promise, so the value given by the rules is the one
+-- that is read.
 use Prim.Native.Nat.{ℕ, _+_, _≤_}
 use mathlib.Core.Path.{_≡_, refl, sym, ap, subst, _∙_}
 use mathlib.Core.Bool.{false, not}
@@ -8,14 +8,15 @@ use mathlib.Core.List.{List, _++_}
 use lib.Dec.{ltb}
 use lib.ListN.{length, drop}
 use borrow.Author.Tests.{le-ltb, ltb-false, not-false}
+use Rattle.refusal.specs.Answers.{bytesAnswer}
 use Rattle.counts.specs.Outcome.{Outcome, gives, then, each}
 use Rattle.counts.specs.Front.{atFront}
 use Rattle.counts.proofs.Apart.{refused-gives}
 use Rattle.counts.proofs.Holds.{unless-back, then-back, each-back}
-use Rattle.grammar.specs.Value.{Value}
-use Rattle.grammar.specs.Nesting.{most-open}
-use Rattle.grammar.specs.Promise.{Got, got, fault, deep, PromiseAt, GivesIn}
-use Rattle.grammar.proofs.Kept.{one-outcome-at}
+use Rattle.literal_grammar.specs.Value.{Value}
+use Rattle.literal_grammar.specs.Nesting.{most-open}
+use Rattle.literal_grammar.specs.Promise.{Got, got, fault, deep, PromiseAt, GivesIn}
+use Rattle.literal_grammar.proofs.Kept.{one-outcome-at}
 use Rattle.utf8.specs.Decode.{utf8}
 use Rattle.utf8.proofs.Outcomes.{accepted-exactly}
 use Rattle.type_str.specs.declared.TypeStr.{TypeStr}
@@ -35,25 +36,24 @@ use Rattle.record.specs.File.{textLength, fileOf, headerLength}
 use Rattle.record.specs.Writing.{tooDeep, writing, placed, roomAfter}
 use Rattle.record.proofs.Files.{record-in-by, header-by}
 use Rattle.record.proofs.RoundTrips.{file-whole}
-use Rattle.table.specs.Checked.{checkedRecord}
-use Rattle.items.proofs.Sums.{range-of}
+use Rattle.check_record.specs.Checked.{checkedRecord}
+use Rattle.place_item.proofs.Sums.{range-of}
 use Rattle.judge.specs.Judged.{reading}
 use Rattle.judge.proofs.Top.{reading-keeps}
 use Rattle.header.specs.declared.Header.{Header}
 use Rattle.header.specs.declared.HeaderRead.{HeaderRead}
-use Rattle.header.specs.Answer.{Told, told, headerIs, answer, Reads}
-use Rattle.write.specs.declared.Written.{Written}
-use Rattle.write.specs.Answer as written
-use Rattle.write.specs.Writes.{headerWritten, roomOf, headerPlaced, Writes}
+use Rattle.header.specs.Reads.{HeaderInfo, headerInfo, headerIs, answer, Reads}
+use Rattle.refusal.specs.declared.BytesAnswer.{BytesAnswer}
+use Rattle.write.specs.Writes.{headerWritten, roomOf, headerPlaced, WritesHeader}
 use Rattle.write.proofs.Outcomes.{write-header-one}
-use Rattle.area.specs.declared.Run.{Run}
-use Rattle.places.specs.declared.Placed.{Placed}
-use Rattle.places.specs.Answer as places
-use Rattle.places.specs.Place as place
-use Rattle.places.proofs.Placing.{place-given}
-use Rattle.places.proofs.Outcomes.{place-one}
-use Rattle.strings.specs.Rooms.{roomed, after, Owes}
-use Rattle.placed.specs.Bytes.{bytesOf}
+use Rattle.place_area.specs.declared.Run.{Run}
+use Rattle.place.specs.declared.Placed.{Placed}
+use Rattle.place.specs.Answer as places
+use Rattle.place.specs.Place as place
+use Rattle.place.proofs.Placing.{place-given}
+use Rattle.place.proofs.Outcomes.{place-one}
+use Rattle.string_value.specs.Rooms.{roomed, after, Owes}
+use Rattle.element.specs.Bytes.{runBytes}
 use Rattle.element.proofs.Typed.{bytes-after, points-after}
 use Rattle.claims.specs.Exact.{Says, Read-as, Reads-exactly, Writable, Writes-exactly, Named, Places-exactly, Element, Takes-exactly, Exact}
 use Rattle.claims.proofs.Exactly.{valid-limits}
@@ -64,23 +64,23 @@ header-of p r = record { version = p .version; says = r; data-start = dataStart 
 
 module _ (file : List ℕ) (l : Lent) where
   given : (p : Prefix) (r : Record) → Says file p r → tooSmall (roomsOf l) (needs r) ≡ false → header.headerInto reading file l ≡ gives (header-of p r)
-  unfolding header.housed
+  unfolding header.stored
   given p r s fits =
       let well = accepted-exactly (s .text) .1 (s .well-formed) in
       let is-read : reading (s .text) ≡ got (s .value) (length (s .text)) =
       one-outcome-at most-open (s .text) (reading (s .text)) (got (s .value) (length (s .text))) (reading-keeps (s .text)) (refl, s .literal) in
       header-by reading file (roomsOf l) p (s .text) r (s .begins) (s .whole) (record-in-by reading (s .text) (s .value) (length (s .text)) r well is-read (s .is-record))
-      ∙ rw (header.housed, fits)
+      ∙ rw (header.stored, fits)
 
-  read-as : (p : Prefix) (r : Record) (x : HeaderRead) (l′ : Lent) → answer x ≡ gives (told (header-of p r)) → l′ ≡ holding r l → Read-as p r l x l′
+  read-as : (p : Prefix) (r : Record) (x : HeaderRead) (l′ : Lent) → answer x ≡ gives (headerInfo (header-of p r)) → l′ ≡ holding r l → Read-as p r l x l′
   read-as p r (HeaderRead.Read h) l′ a b =
-      let same : headerIs h ≡ told (header-of p r) = cc in
+      let same : headerIs h ≡ headerInfo (header-of p r) = cc in
       record {
         header = h;
         is = refl;
-        versioned = ap (λ (t : Told). t .version) same;
-        says = ap (λ (t : Told). t .said) same;
-        starts = ap (λ (t : Told). t .data-start) same;
+        versioned = ap (λ (t : HeaderInfo). t .version) same;
+        says = ap (λ (t : HeaderInfo). t .info) same;
+        starts = ap (λ (t : HeaderInfo). t .data-start) same;
         held = b;
       }
   read-as p r (HeaderRead.Refused f) l′ a b = refused-gives a
@@ -92,11 +92,11 @@ module _ (file : List ℕ) (l : Lent) where
 
   said-by : (h : header.Header) → header.headerInto reading file l ≡ gives h
       → (p : Prefix) × (r : Record) × Says file p r × (tooSmall (roomsOf l) (needs r) ≡ false)
-  unfolding header.headerBy header.recordIn header.housed
+  unfolding header.headerBy header.recordIn header.stored
   said-by h e =
       let (p, begins, behind) = then-back (prefix file) _ h e in
       let (text, whole, of-text) = then-back (textOf p file) _ h behind in
-      let (r, is, housed) = then-back (header.recordIn reading text) _ h of-text in
+      let (r, is, stored) = then-back (header.recordIn reading text) _ h of-text in
       let (u, well, of-value) = then-back (utf8 text) _ r is in
       let (v, read, is-record) = then-back (header.valueRead (reading text)) recordOf r of-value in
       let says : Says file p r =
@@ -109,16 +109,16 @@ module _ (file : List ℕ) (l : Lent) where
         literal = value-given text (reading text) (reading-keeps text) v read;
         is-record = is-record;
       } in
-      (p, r, says, unless-back (tooSmall (roomsOf l) (needs r)) 23 _ h housed .0)
+      (p, r, says, unless-back (tooSmall (roomsOf l) (needs r)) 23 _ h stored .0)
 
   reads-exactly : (x : HeaderRead) (l′ : Lent) → Reads file l x l′ → Reads-exactly file l x l′
   reads-exactly x l′ h =
       let accepts : (p : Prefix) (r : Record) → Says file p r → tooSmall (roomsOf l) (needs r) ≡ false → Read-as p r l x l′ =
-      λ p r s fits. read-as p r x l′ (h .answered ∙ ap (each told) (given p r s fits)) (h .after ∙ ap (λ (y : Outcome header.Header). header.filled y l) (given p r s fits)) in
+      λ p r s fits. read-as p r x l′ (h .answered ∙ ap (each headerInfo) (given p r s fits)) (h .after ∙ ap (λ (y : Outcome header.Header). header.filled y l) (given p r s fits)) in
       record {
         all = accepts;
         only = λ f e.
-            let (g, is, _) = each-back told (header.headerInto reading file l) (headerIs f) (sym (h .answered) ∙ ap answer e) in
+            let (g, is, _) = each-back headerInfo (header.headerInto reading file l) (headerIs f) (sym (h .answered) ∙ ap answer e) in
             let (p, r, s, fits) = said-by g is in
             (p, r, s, accepts p r s fits);
       }
@@ -132,7 +132,7 @@ module _ (t ns s : List ℕ) (o : Order) (room : List ℕ) where
   room-holds : (r : Record) → writing r room ≡ gives (headerLength r) → atFront (fileOf r) room ≡ roomAfter r room
   room-holds r e = ap (λ (k : ℕ). fileOf r ++ drop k room) (file-whole r) ∙ sym (ap (λ (y : Outcome ℕ). placed y r room) e)
 
-  writes-so : (r : Record) → Writable t ns s o room r → Writes t ns s o room (Written.Count (headerLength r)) (atFront (fileOf r) room)
+  writes-so : (r : Record) → Writable t ns s o room r → WritesHeader t ns s o room (BytesAnswer.Is (record { 0 = headerLength r })) (atFront (fileOf r) room)
   unfolding headerWritten headerPlaced
   writes-so r w =
       let e = writes r w in
@@ -151,13 +151,13 @@ module _ (t ns s : List ℕ) (o : Order) (room : List ℕ) where
       let (fits, _) = unless-back (ltb (length room) (headerLength r)) 28 _ n room-asked in
       (r, record { accepted = accepted; shallow = shallow; short = ltb-false _ _ few; fits = ltb-false _ _ fits })
 
-  writes-exactly : (w : Written) (room′ : List ℕ) → Writes t ns s o room w room′ → Writes-exactly t ns s o room w room′
+  writes-exactly : (w : BytesAnswer) (room′ : List ℕ) → WritesHeader t ns s o room w room′ → Writes-exactly t ns s o room w room′
   writes-exactly w room′ h =
       record {
         all = λ r x.
-            let same = write-header-one t ns s o room (w, room′) (Written.Count (headerLength r), atFront (fileOf r) room) h (writes-so r x) in
-            (ap (λ (y : Written × List ℕ). y .0) same, ap (λ (y : Written × List ℕ). y .1) same);
-        only = λ n e. writable-by n (sym (h .answered) ∙ ap written.answer e);
+            let same = write-header-one t ns s o room (w, room′) (BytesAnswer.Is (record { 0 = headerLength r }), atFront (fileOf r) room) h (writes-so r x) in
+            (ap (λ (y : BytesAnswer × List ℕ). y .0) same, ap (λ (y : BytesAnswer × List ℕ). y .1) same);
+        only = λ n e. writable-by n (sym (h .answered) ∙ ap bytesAnswer e);
       }
 
 -- ---- places
@@ -197,7 +197,7 @@ module _ (file start : ℕ) (t ns s : List ℕ) (o : Order) (x p : List ℕ) whe
 -- ---- elements
 module _ (within : TypeStr → List ℕ → Outcome (List ℕ)) (at : Outcome Run) (file room : List ℕ) where
   abbrev put : Outcome (List ℕ)
-  put = then at (λ u. then (within (u .kind) (bytesOf file u)) (roomed 23 room))
+  put = then at (λ u. then (within (u .kind) (runBytes file u)) (roomed 23 room))
 
   put-given : (content : List ℕ) → Element within at file room content → put ≡ gives content
   unfolding roomed
@@ -207,7 +207,7 @@ module _ (within : TypeStr → List ℕ → Outcome (List ℕ)) (at : Outcome Ru
   unfolding roomed
   element-by content e =
       let (u, placed-at, of-run) = then-back at _ content e in
-      let (c, stands, kept) = then-back (within (u .kind) (bytesOf file u)) _ content of-run in
+      let (c, stands, kept) = then-back (within (u .kind) (runBytes file u)) _ content of-run in
       let (fits, is) = unless-back (ltb (length room) (length c)) 23 (gives c) content kept in
       let same : c ≡ content = cc in
       record { run = u; placed = placed-at; stands = stands ∙ ap gives same; fits = subst (λ (y : List ℕ). length y ≤ length room) same (ltb-false _ _ fits) }

@@ -1,5 +1,5 @@
--- The check accepts exactly what some file is read as (specs/Accepted.antt). What was read is accepted, by Accepted.antt. What is accepted is sound, and so its own
--- header's bytes are read as it, into rooms as long as it is. Assumes nothing.
+-- The check accepts exactly the records that some file is read as (specs/Accepted.antt). What was read is accepted, by Accepted.antt. What is accepted is sound, so the
+-- bytes of its own header are read as it, into rooms as long as it is.
 use Prim.Native.Nat.{ℕ}
 use native.Mathlib.Omega.{arith}
 use mathlib.Core.Path.{_≡_, refl, sym, ap, subst, _∙_}
@@ -18,18 +18,18 @@ use Rattle.record.specs.File.{fileOf, headerLength}
 use Rattle.record.specs.Writing.{writing}
 use Rattle.record.specs.Sound.{Small, Sound}
 use Rattle.record.proofs.RoundTrips.{headerFor, file-whole, file-all-bytes, written-read}
-use Rattle.table.specs.Checked.{checkedRecord}
-use Rattle.table.specs.Valid.{made}
-use Rattle.table.proofs.Accepts.{accepts-valid}
-use Rattle.prefix.specs.declared.Version.{Version}
-use Rattle.prefix.specs.Answer.{versionIs}
+use Rattle.check_record.specs.Checked.{checkedRecord}
+use Rattle.check_record.specs.Valid.{made}
+use Rattle.check_record.proofs.Accepts.{accepts-valid}
+use Rattle.header_prefix.specs.declared.Version.{Version}
+use Rattle.header_prefix.specs.Answer.{versionIs}
 use Rattle.judge.specs.Judged.{reading}
 use Rattle.judge.proofs.Top.{reading-keeps}
 use Rattle.header.specs.declared.Header.{Header}
-use Rattle.header.specs.Answer.{lent, saidOf, Told, told}
+use Rattle.header.specs.Reads.{lent, infoOf, HeaderInfo, headerInfo}
 use Rattle.claims.specs.Accepted.{Some-file, Printable, Accepts-exactly}
-use Rattle.rooms.proofs.Accepted.{valid-sound}
-use Rattle.rooms.proofs.Rooms.{read-found, stands-by}
+use Rattle.read_back.proofs.Accepted.{valid-sound}
+use Rattle.read_back.proofs.Rooms.{read-found, stands-by}
 use Rattle.claims.proofs.Roomy.{roomy-fits}
 use Rattle.claims.proofs.Places.{found-accepted}
 
@@ -71,10 +71,10 @@ declared-is version.two-zero = refl
 declared-is version.three-zero = refl
 
 abbrev answered : Record → Header
-answered r = record { version = declared (headerFor r .version); said = saidOf r; start = record { 0 = headerLength r } }
+answered r = record { version = declared (headerFor r .version); info = infoOf r; start = record { 0 = headerLength r } }
 
 told-eq : {v w : version.Version} (r : Record) → v ≡ w
-    → _≡_ {A = Told} (record { version = v; said = saidOf r; data-start = headerLength r }) (record { version = w; said = saidOf r; data-start = headerLength r })
+    → _≡_ {A = HeaderInfo} (record { version = v; info = infoOf r; data-start = headerLength r }) (record { version = w; info = infoOf r; data-start = headerLength r })
 told-eq r e = cc
 
 own-file : (r : Record) → Sound r → limited r ≡ gives r → Printable r → Some-file (table (r .dtype)) (names (r .dtype)) (r .shape) (r .order)
@@ -91,10 +91,10 @@ own-file r sound limits p =
       header = answered r;
       reads =
           record {
-            answered = ap gives (told-eq r (declared-is (headerFor r .version))) ∙ sym (ap (each told) given);
+            answered = ap gives (told-eq r (declared-is (headerFor r .version))) ∙ sym (ap (each headerInfo) given);
             after = sym (ap (λ (o : Outcome header.Header). header.filled o l) given);
           };
-      stands = stands-by r l (holding r l) (saidOf r) refl refl;
+      stands = stands-by r l (holding r l) (infoOf r) refl refl;
     }
 
 file-moved : (t t′ ns ns′ s : List ℕ) (o : Order) → t ≡ t′ → ns ≡ ns′ → Some-file t′ ns′ s o → Some-file t ns s o

@@ -1,4 +1,4 @@
--- What is read does not rest on the reading that the contracts name (specs/Grammar.antt): of each text one outcome keeps the promise. Assumes nothing.
+-- What is read does not depend on the reading that the contracts are stated with (specs/Grammar.antt): for each text one outcome keeps the promise.
 use Prim.Native.Nat.{ℕ}
 use mathlib.Core.Path.{_≡_, ap, _∙_}
 use mathlib.Core.Bool.{Bool}
@@ -7,11 +7,11 @@ use Rattle.counts.specs.Outcome.{then, each}
 use Rattle.counts.proofs.Holds.{then-alike}
 use Rattle.record.specs.Prefix.{prefix}
 use Rattle.record.specs.Rooms.{Lent, roomsOf}
-use Rattle.record.specs.Header.{Reading, Keeps, recordIn, housed, filled}
+use Rattle.record.specs.Header.{Reading, Keeps, recordIn, stored, filled}
 use Rattle.record.proofs.OneHeader.{record-in-same}
 use Rattle.judge.specs.Judged.{reading}
 use Rattle.judge.proofs.Top.{reading-keeps}
-use Rattle.header.specs.Answer as header
+use Rattle.header.specs.Reads as header
 use Rattle.header.proofs.Outcomes.{any-reading}
 use Rattle.claims.specs.Grammar.{By-the-grammar}
 
@@ -21,20 +21,20 @@ module _ (other : Reading) (keeps : Keeps other) where
 
   held-same : (longer : Bool) (file : List ℕ) (l : Lent) → header.heldInto longer file l ≡ header.heldBy other longer file l
   held-same longer file l =
-      then-alike (prefix file) (λ p. header.behind longer file p l) _
-      (λ p. then-alike (header.textHeld longer p file) (λ text. then (recordIn reading text) (housed (roomsOf l) p)) _
-      (λ text. ap (λ r. then r (housed (roomsOf l) p)) (record-in-same reading other reading-keeps keeps text)))
+      then-alike (prefix file) (λ p. header.afterPrefix longer file p l) _
+      (λ p. then-alike (header.textHeld longer p file) (λ text. then (recordIn reading text) (stored (roomsOf l) p)) _
+      (λ text. ap (λ r. then r (stored (roomsOf l) p)) (record-in-same reading other reading-keeps keeps text)))
 
 pub by-the-grammar : By-the-grammar
 by-the-grammar other keeps =
     record {
       read = λ file l x l′ h.
           let same = any-reading other keeps file (roomsOf l) in
-          (h .answered ∙ ap (each header.told) same, h .after ∙ ap (λ o. filled o l) same);
+          (h .answered ∙ ap (each header.headerInfo) same, h .after ∙ ap (λ o. filled o l) same);
       read-held = λ longer file l x l′ h.
           let same = held-same other keeps longer file l in
-          (h .answered ∙ ap (each header.told) same, h .after ∙ ap (λ o. filled o l) same);
+          (h .answered ∙ ap (each header.headerInfo) same, h .after ∙ ap (λ o. filled o l) same);
       read-text = λ text l x l′ h.
           let same = text-same other keeps text l in
-          (h .answered ∙ ap (each header.saidOf) same, h .after ∙ ap (λ o. header.filled o l) same);
+          (h .answered ∙ ap (each header.infoOf) same, h .after ∙ ap (λ o. header.filled o l) same);
     }

@@ -1,5 +1,5 @@
--- The first bytes of a file are enough (specs/Held.antt): the prefix of a part is the file's, the text behind it is the same where it ends within the part, and by crate
--- record the header is then the file's. Assumes nothing.
+-- The first bytes of a file are enough (specs/Held.antt): the prefix of a part is the file's, the text after it is the same if it ends within the part, and by crate
+-- record the header is then the file's.
 use Prim.Native.Nat.{ℕ, _<_, _≤_}
 use native.Mathlib.Omega.{arith}
 use mathlib.Core.Path.{_≡_, sym, ap, _∙_}
@@ -15,7 +15,7 @@ use Rattle.record.specs.Rooms.{Lent, roomsOf}
 use Rattle.record.specs.Header as header
 use Rattle.record.proofs.Fronts.{prefix-front, front-enough}
 use Rattle.judge.specs.Judged.{reading}
-use Rattle.header.specs.Answer.{told, textHeld, behind, heldInto}
+use Rattle.header.specs.Reads.{headerInfo, textHeld, afterPrefix, heldInto}
 use Rattle.claims.specs.Held.{Held-enough}
 use Rattle.claims.proofs.RoundTrips.{refused-by}
 
@@ -28,13 +28,13 @@ module _ (part : List ℕ) (l : Lent) where
   held-same : Holds (λ p. dataStart p ≤ length part) (prefix part) → heldInto true part l ≡ header.headerInto reading part l
   unfolding header.headerBy
   held-same h =
-      then-alike-held (λ p. dataStart p ≤ length part) (prefix part) (λ p. behind true part p l)
-      (λ p. then (textOf p part) (λ s. then (header.recordIn reading s) (header.housed (roomsOf l) p))) h
-      (λ p e. ap (λ t. then t (λ s. then (header.recordIn reading s) (header.housed (roomsOf l) p))) (text-same p e))
+      then-alike-held (λ p. dataStart p ≤ length part) (prefix part) (λ p. afterPrefix true part p l)
+      (λ p. then (textOf p part) (λ s. then (header.recordIn reading s) (header.stored (roomsOf l) p))) h
+      (λ p e. ap (λ t. then t (λ s. then (header.recordIn reading s) (header.stored (roomsOf l) p))) (text-same p e))
 
   held-past : (p : Prefix) → prefix part ≡ gives p → length part < dataStart p → heldInto true part l ≡ refused 23
   held-past p e h =
-      ap (λ (o : Outcome Prefix). then o (λ q. behind true part q l)) e
+      ap (λ (o : Outcome Prefix). then o (λ q. afterPrefix true part q l)) e
       ∙ rw (lt-ltb (length part) (dataStart p) h)
 
 module _ (k : ℕ) (file : List ℕ) (twelve : 12 ≤ k) (longer : k < length file) where
@@ -57,9 +57,9 @@ held-enough k file l l′ x twelve longer h =
       within =
           λ ends.
           let same = front-within k file twelve longer ends l in
-          record { answered = h .answered ∙ ap (each told) same; after = h .after ∙ ap (λ (o : Outcome header.Header). header.filled o l) same };
+          record { answered = h .answered ∙ ap (each headerInfo) same; after = h .after ∙ ap (λ (o : Outcome header.Header). header.filled o l) same };
       past =
           λ p e ends.
           let same = front-past k file twelve longer p e ends l in
-          (refused-by x (h .answered ∙ ap (each told) same), h .after ∙ ap (λ (o : Outcome header.Header). header.filled o l) same);
+          (refused-by x (h .answered ∙ ap (each headerInfo) same), h .after ∙ ap (λ (o : Outcome header.Header). header.filled o l) same);
     }

@@ -1,5 +1,4 @@
--- The numbers of all refusals are document 01's, 1 to 30: each definition is followed as it is composed, by one law for each way of composing outcomes. Assumes
--- nothing.
+-- The numbers of all refusals are document 01's, 1 to 30: along the composition of each definition, by one law for each way of composing outcomes.
 use Prim.Native.Nat.{ℕ, zero, suc, _+_, _^_}
 use mathlib.Core.Path.{_≡_, refl}
 use mathlib.Core.Bool.{Bool, true, false, cond, not, _&&_, _||_}
@@ -10,16 +9,16 @@ use lib.ListN.{length, getD, take, drop}
 use Rattle.counts.specs.Outcome.{Outcome, gives, refused, then, each, unless}
 use Rattle.counts.specs.Same.{same}
 use Rattle.emit.specs.Placed.{written}
-use Rattle.scalar.specs.Scalar.{isScalar}
+use Rattle.utf8_scalar.specs.Scalar.{isScalar}
 use Rattle.utf8.specs.Decode.{unlessIll, firstIll, utf8}
 use Rattle.decimal.specs.Decimal.{digitsOf, afterDigits, decimal}
-use Rattle.byte_orders.specs.Spelling.{orders, orderByte, orderOf}
-use Rattle.letters.specs.Spelling.{letters, letterByte, letterOf}
-use Rattle.spelling.specs.Spelling.{firstOf}
-use Rattle.byte_orders.specs.declared.Endianness.{Endianness}
-use Rattle.letters.specs.declared.TypeChar.{TypeChar}
-use Rattle.units.specs.Units.{units, unitText, unitsOf}
-use Rattle.rules.specs.Rules.{allows}
+use Rattle.type_letters.specs.Orders.{orders, orderByte, orderOf}
+use Rattle.type_letters.specs.Letters.{letters, letterByte, letterOf}
+use Rattle.type_letters.specs.Spelling.{firstOf}
+use Rattle.type_letters.specs.declared.Endianness.{Endianness}
+use Rattle.type_letters.specs.declared.TypeChar.{TypeChar}
+use Rattle.type_units.specs.Units.{units, unitText, unitsOf}
+use Rattle.type_str.specs.Rules.{allows}
 use Rattle.type_str.specs.declared.TypeStr.{TypeStr}
 use Rattle.type_str.specs.TypeString.{sizeStands, sized, sizedBy, syntax, lacksOrder, misplacesUnits, validated, checked, typeString}
 use Rattle.type_str.specs.Text.{isType, typeText, typePrinted}
@@ -33,9 +32,9 @@ use Rattle.dtype.specs.Limits.{over, overDimensions, overLevels, overEntries, o
 use Rattle.dtype.specs.Places.{dataBytes, place}
 use Rattle.dtype.specs.Paths.{plainAt, plainOf}
 use Rattle.shape.specs.Count.{itemCount, stridesCount}
-use Rattle.grammar.specs.Value.{Value, Values, Items, string, integer, True, False, None, list, tuple, dict, end-of-values, value-then, end-of-items, item-then}
-use Rattle.grammar.specs.Print.{valueOf}
-use Rattle.grammar.specs.Promise.{Got, got, fault, deep}
+use Rattle.literal_grammar.specs.Value.{Value, Values, Items, string, integer, True, False, None, list, tuple, dict, end-of-values, value-then, end-of-items, item-then}
+use Rattle.literal_grammar.specs.Print.{valueOf}
+use Rattle.literal_grammar.specs.Promise.{Got, got, fault, deep}
 use Rattle.record.specs.Parts.{stringOr, membersOr, itemsOr}
 use Rattle.record.specs.Dict.{isThe, allStrings, lastOf, needed, key-order, key-shape, key-descr}
 use Rattle.record.specs.Dimensions.{signed, dimension, dimensions, subShape, ranked, shapeOf}
@@ -49,24 +48,24 @@ use Rattle.record.specs.Layout.{headerLayout}
 use Rattle.record.specs.Within.{within}
 use Rattle.record.specs.File.{textLength, headerLength}
 use Rattle.record.specs.Writing.{writing}
-use Rattle.entries.specs.EntryType.{unitsFor, in-record, typed, typeOf}
-use Rattle.whole.specs.Reading.{unread, readDtype}
-use Rattle.table.specs.Checked.{checkedRecord}
-use Rattle.items.specs.Item.{itemOf}
-use Rattle.places.specs.Place.{runFrom, placed, placeOf}
-use Rattle.numbers.specs.Numbers.{little, inOrder}
-use Rattle.strings.specs.declared.Kind.{Kind}
-use Rattle.strings.specs.Elements.{kindOf, trimmed, bytesIn, scalar, points, pointsIn}
-use Rattle.strings.specs.Runs.{filled, bytesOut, allScalars, pointBytes, pointsOut}
-use Rattle.strings.specs.Rooms.{roomed, readBytes, readPoints, writeBytes, writePoints}
-use Rattle.placed.specs.Bytes.{bytesOf}
+use Rattle.table_entry.specs.EntryType.{unitsFor, in-record, typed, typeOf}
+use Rattle.check_table.specs.Reading.{unread, readDtype}
+use Rattle.check_record.specs.Checked.{checkedRecord}
+use Rattle.place_item.specs.Item.{itemOf}
+use Rattle.place.specs.Place.{runFrom, placed, placeOf}
+use Rattle.number_bytes.specs.Numbers.{little, inOrder}
+use Rattle.string_value.specs.declared.StringKind.{StringKind}
+use Rattle.string_value.specs.Elements.{kindOf, trimmed, bytesIn, scalar, points, pointsIn}
+use Rattle.string_value.specs.Runs.{zeroFilled, bytesOut, allScalars, pointBytes, pointsOut}
+use Rattle.string_value.specs.Rooms.{roomed, readBytes, readPoints, writeBytes, writePoints}
+use Rattle.element.specs.Bytes.{runBytes}
 use Rattle.element.specs.Element.{elementBytes, elementPoints}
 use Rattle.judge.specs.Judged.{reading}
-use Rattle.header.specs.Answer.{textHeld, behind, heldInto, textInto}
+use Rattle.header.specs.Reads.{textHeld, afterPrefix, heldInto, textInto}
 use Rattle.write.specs.Writes.{headerWritten}
-use Rattle.lines.specs.Listing.{listing}
-use Rattle.listing.specs.Answer.{listed}
-use Rattle.codes.specs.Numbers.{orderFor, typeFor}
+use Rattle.list_text.specs.Listing.{listing}
+use Rattle.list_record.specs.Answer.{listed}
+use Rattle.npy_codes.specs.Numbers.{orderFor, typeFor}
 
 abbrev pub Number : ℕ → Type 0
 Number n = (leb 1 n ≡ true) × (leb n 30 ≡ true)
@@ -254,7 +253,7 @@ mutual
       then-numbered (descrOf v) (λ d. each (λ ns. arrays ns d) (perhaps vs)) (descr-numbered v)
       (λ d. each-numbered (λ ns. arrays ns d) (perhaps vs) (perhaps-numbered vs))
 
-order-numbered : (v : Value) → Numbered (from-value.orderOf v)
+order-numbered : (v : Value) → Numbered (from-value.declaredOrder v)
 order-numbered (string w) = a-number (refl, refl)
 order-numbered (integer minus n) = a-number (refl, refl)
 order-numbered True = an-answer Fortran
@@ -274,7 +273,7 @@ limited-numbered r =
 from-numbered : (es : Items) → Numbered (from-value.recordFrom es)
 unfolding from-value.recordFrom
 from-numbered es =
-    then-numbered (then (needed key-order es) from-value.orderOf) _ (then-numbered (needed key-order es) from-value.orderOf (needed-numbered key-order es) order-numbered)
+    then-numbered (then (needed key-order es) from-value.declaredOrder) _ (then-numbered (needed key-order es) from-value.declaredOrder (needed-numbered key-order es) order-numbered)
     (λ o. then-numbered (then (needed key-shape es) shapeOf) _ (then-numbered (needed key-shape es) shapeOf (needed-numbered key-shape es) shape-numbered)
     (λ s. then-numbered (then (needed key-descr es) descrOf) _ (then-numbered (needed key-descr es) descrOf (needed-numbered key-descr es) descr-numbered) (λ d. limited-numbered (record { dtype = d; shape = s; order = o }))))
 
@@ -315,9 +314,9 @@ prefix-numbered file =
     unless-numbered (ltb (length file) 8 || not (same (take 6 file) magic)) 1 (refl, refl)
     (then-numbered (versionOf (getD file 6 0) (getD file 7 0)) (λ v. lengthRead v file) (version-numbered (getD file 6 0) (getD file 7 0)) (λ v. length-numbered v file))
 
-housed-numbered : (rooms : Rooms) (p : Prefix) (r : Record) → Numbered (header.housed rooms p r)
-unfolding header.housed
-housed-numbered rooms p r =
+stored-numbered : (rooms : Rooms) (p : Prefix) (r : Record) → Numbered (header.stored rooms p r)
+unfolding header.stored
+stored-numbered rooms p r =
     unless-numbered (tooSmall rooms (needs r)) 23 (refl, refl) (an-answer (record { version = p .version; says = r; data-start = dataStart p }))
 
 -- the text, or the number of one that is missing
@@ -329,8 +328,8 @@ held-numbered : (longer : Bool) (p : Prefix) (file : List ℕ) → Numbered (tex
 held-numbered true p file = part-numbered 23 p file (refl, refl)
 held-numbered false p file = part-numbered 3 p file (refl, refl)
 
-behind-numbered : (text : List ℕ) (l : Lent) (p : Prefix) → Numbered (then (header.recordIn reading text) (header.housed (roomsOf l) p))
-behind-numbered text l p = then-numbered (header.recordIn reading text) (header.housed (roomsOf l) p) (in-numbered text) (housed-numbered (roomsOf l) p)
+behind-numbered : (text : List ℕ) (l : Lent) (p : Prefix) → Numbered (then (header.recordIn reading text) (header.stored (roomsOf l) p))
+behind-numbered text l p = then-numbered (header.recordIn reading text) (header.stored (roomsOf l) p) (in-numbered text) (stored-numbered (roomsOf l) p)
 
 pub header-numbered : (file : List ℕ) (l : Lent) → Numbered (header.headerInto reading file l)
 unfolding header.headerBy textOf
@@ -340,7 +339,7 @@ header-numbered file l =
 
 pub held-header-numbered : (longer : Bool) (file : List ℕ) (l : Lent) → Numbered (heldInto longer file l)
 held-header-numbered longer file l =
-    then-numbered (prefix file) (λ p. behind longer file p l) (prefix-numbered file)
+    then-numbered (prefix file) (λ p. afterPrefix longer file p l) (prefix-numbered file)
     (λ p. then-numbered (textHeld longer p file) _ (held-numbered longer p file) (λ text. behind-numbered text l p))
 
 pub text-numbered : (text : List ℕ) (l : Lent) → Numbered (textInto text l)
@@ -458,33 +457,33 @@ points-numbered order (a ∷ b ∷ c ∷ d ∷ run) =
     then-numbered (scalar first) (λ p. each (λ ps. p ∷ ps) (points order run)) (scalar-numbered first)
     (λ p. each-numbered (λ ps. p ∷ ps) (points order run) (points-numbered order run))
 
-bytes-in-numbered : (k : Kind) (run : List ℕ) → Numbered (bytesIn k run)
-bytes-in-numbered Kind.ByteStr run = an-answer (trimmed run)
-bytes-in-numbered Kind.UnicodeStr run = a-number (refl, refl)
-bytes-in-numbered Kind.RawData run = an-answer run
-bytes-in-numbered Kind.Other run = a-number (refl, refl)
+bytes-in-numbered : (k : StringKind) (run : List ℕ) → Numbered (bytesIn k run)
+bytes-in-numbered StringKind.ByteStr run = an-answer (trimmed run)
+bytes-in-numbered StringKind.UnicodeStr run = a-number (refl, refl)
+bytes-in-numbered StringKind.RawData run = an-answer run
+bytes-in-numbered StringKind.Other run = a-number (refl, refl)
 
-points-in-numbered : (k : Kind) (order : Endianness) (run : List ℕ) → Numbered (pointsIn k order run)
-points-in-numbered Kind.ByteStr order run = a-number (refl, refl)
-points-in-numbered Kind.UnicodeStr order run = each-numbered trimmed (points order run) (points-numbered order run)
-points-in-numbered Kind.RawData order run = a-number (refl, refl)
-points-in-numbered Kind.Other order run = a-number (refl, refl)
+points-in-numbered : (k : StringKind) (order : Endianness) (run : List ℕ) → Numbered (pointsIn k order run)
+points-in-numbered StringKind.ByteStr order run = a-number (refl, refl)
+points-in-numbered StringKind.UnicodeStr order run = each-numbered trimmed (points order run) (points-numbered order run)
+points-in-numbered StringKind.RawData order run = a-number (refl, refl)
+points-in-numbered StringKind.Other order run = a-number (refl, refl)
 
-bytes-out-numbered : (k : Kind) (size : ℕ) (value : List ℕ) → Numbered (bytesOut k size value)
+bytes-out-numbered : (k : StringKind) (size : ℕ) (value : List ℕ) → Numbered (bytesOut k size value)
 unfolding bytesOut
-bytes-out-numbered Kind.ByteStr size value = unless-numbered (ltb size (length value)) 30 (refl, refl) (an-answer (filled size value))
-bytes-out-numbered Kind.UnicodeStr size value = a-number (refl, refl)
-bytes-out-numbered Kind.RawData size value = unless-numbered (not (eqb size (length value))) 30 (refl, refl) (an-answer value)
-bytes-out-numbered Kind.Other size value = a-number (refl, refl)
+bytes-out-numbered StringKind.ByteStr size value = unless-numbered (ltb size (length value)) 30 (refl, refl) (an-answer (zeroFilled size value))
+bytes-out-numbered StringKind.UnicodeStr size value = a-number (refl, refl)
+bytes-out-numbered StringKind.RawData size value = unless-numbered (not (eqb size (length value))) 30 (refl, refl) (an-answer value)
+bytes-out-numbered StringKind.Other size value = a-number (refl, refl)
 
-points-out-numbered : (k : Kind) (order : Endianness) (size : ℕ) (value : List ℕ) → Numbered (pointsOut k order size value)
+points-out-numbered : (k : StringKind) (order : Endianness) (size : ℕ) (value : List ℕ) → Numbered (pointsOut k order size value)
 unfolding pointsOut
-points-out-numbered Kind.ByteStr order size value = a-number (refl, refl)
-points-out-numbered Kind.UnicodeStr order size value =
+points-out-numbered StringKind.ByteStr order size value = a-number (refl, refl)
+points-out-numbered StringKind.UnicodeStr order size value =
     unless-numbered (not (allScalars value)) 29 (refl, refl)
-    (unless-numbered (ltb size (length value)) 30 (refl, refl) (an-answer (pointBytes order (filled size value) [])))
-points-out-numbered Kind.RawData order size value = a-number (refl, refl)
-points-out-numbered Kind.Other order size value = a-number (refl, refl)
+    (unless-numbered (ltb size (length value)) 30 (refl, refl) (an-answer (pointBytes order (zeroFilled size value) [])))
+points-out-numbered StringKind.RawData order size value = a-number (refl, refl)
+points-out-numbered StringKind.Other order size value = a-number (refl, refl)
 
 pub read-bytes-numbered : (t : TypeStr) (run room : List ℕ) → Numbered (readBytes t run room)
 unfolding readBytes
@@ -513,9 +512,9 @@ write-points-numbered t value room =
 pub element-bytes-numbered : (file : List ℕ) (start : ℕ) (t ns s : List ℕ) (o : Order) (x p room : List ℕ) → Numbered (elementBytes file start t ns s o x p room)
 unfolding elementBytes
 element-bytes-numbered file start t ns s o x p room =
-    then-numbered (placeOf (length file) start t ns s o x p) _ (place-numbered (length file) start t ns s o x p) (λ u. read-bytes-numbered (u .kind) (bytesOf file u) room)
+    then-numbered (placeOf (length file) start t ns s o x p) _ (place-numbered (length file) start t ns s o x p) (λ u. read-bytes-numbered (u .kind) (runBytes file u) room)
 
 pub element-points-numbered : (file : List ℕ) (start : ℕ) (t ns s : List ℕ) (o : Order) (x p room : List ℕ) → Numbered (elementPoints file start t ns s o x p room)
 unfolding elementPoints
 element-points-numbered file start t ns s o x p room =
-    then-numbered (placeOf (length file) start t ns s o x p) _ (place-numbered (length file) start t ns s o x p) (λ u. read-points-numbered (u .kind) (bytesOf file u) room)
+    then-numbered (placeOf (length file) start t ns s o x p) _ (place-numbered (length file) start t ns s o x p) (λ u. read-points-numbered (u .kind) (runBytes file u) room)

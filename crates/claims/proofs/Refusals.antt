@@ -1,5 +1,4 @@
--- Demand 1 (specs/Refusals.antt): each contract says by one outcome what is answered and what the memory then holds, and where the outcome is a refusal that is what
--- it held. Assumes nothing.
+-- Demand 1 (specs/Refusals.antt): in each contract one outcome determines both the result and the memory afterwards, and for a refusal that is the memory before.
 use Prim.Native.Nat.{ℕ}
 use mathlib.Core.Path.{_≡_, refl, sym, _∙_}
 use mathlib.Core.Bool.{Bool, true, false, cond}
@@ -9,7 +8,7 @@ use lib.ListN.{length}
 use Rattle.counts.specs.Outcome.{Outcome, gives, refused, then, each}
 use Rattle.counts.proofs.Apart.{refused-gives}
 use Rattle.emit.specs.Placed as emit
-use Rattle.scalar.specs.Answer as scalar
+use Rattle.utf8_scalar.specs.Answer as scalar
 use Rattle.type_str.specs.declared.TypeStr.{TypeStr}
 use Rattle.type_str.specs.Text.{isType, typeText, typePrinted, typePlaced}
 use Rattle.dtype.specs.declared.Order.{Order}
@@ -20,16 +19,16 @@ use Rattle.record.specs.Version.{Version}
 use Rattle.record.specs.Header as record-of-file
 use Rattle.record.specs.Writing.{writing, placed}
 use Rattle.judge.specs.Judged.{reading}
-use Rattle.table.specs.Checked.{checkedRecord}
-use Rattle.header.specs.Answer as header
+use Rattle.check_record.specs.Checked.{checkedRecord}
+use Rattle.header.specs.Reads as header
 use Rattle.write.specs.Writes.{headerWritten, headerPlaced, roomOf}
-use Rattle.lines.specs.Listing.{listing}
-use Rattle.listing.specs.Answer as lists
-use Rattle.report.specs.Report.{reportOf}
-use Rattle.strings.specs.Rooms.{after, Owes}
+use Rattle.list_text.specs.Listing.{listing}
+use Rattle.list_record.specs.Answer as lists
+use Rattle.list_file.specs.Report.{reportOf}
+use Rattle.string_value.specs.Rooms.{after, Owes}
 use Rattle.claims.specs.Refusals.{Unchanged}
 
--- one outcome for the answer and the memory
+-- one outcome for the result and the memory
 pub by-outcome : {A B M : Type 0} (f : A → B) (memory : Outcome A → M) (before : M) → ((n : ℕ) → memory (refused n) ≡ before) → (o : Outcome A) (k : ℕ)
     → each f o ≡ refused k → memory o ≡ before
 by-outcome f memory before h (gives a) k e = refused-gives (sym e)
@@ -75,7 +74,7 @@ listed-left v start room k (gives r) e = text-left (listing v start r []) room k
 listed-left v start room k (refused n) e = refl
 
 -- strides, and a scalar value
-pub strides-left : (new old : List ℕ) (k : ℕ) (o : Outcome ℕ) → o ≡ refused k → strides.left o new old ≡ old
+pub strides-left : (new old : List ℕ) (k : ℕ) (o : Outcome ℕ) → o ≡ refused k → strides.stridesAfter o new old ≡ old
 strides-left new old k (gives n) e = refused-gives (sym e)
 strides-left new old k (refused n) e = refl
 
@@ -86,9 +85,9 @@ encoded-left value room k (refused n) e = refl
 pub unchanged : Unchanged
 unchanged =
     record {
-      read = λ file l x l′ k h e. h .after ∙ by-outcome header.told (λ o. record-of-file.filled o l) l (λ n. refl) (record-of-file.headerInto reading file l) k (sym (h .answered) ∙ e);
-      read-held = λ longer file l x l′ k h e. h .after ∙ by-outcome header.told (λ o. record-of-file.filled o l) l (λ n. refl) (header.heldInto longer file l) k (sym (h .answered) ∙ e);
-      read-text = λ text l x l′ k h e. h .after ∙ by-outcome header.saidOf (λ o. header.filled o l) l (λ n. refl) (header.textInto text l) k (sym (h .answered) ∙ e);
+      read = λ file l x l′ k h e. h .after ∙ by-outcome header.headerInfo (λ o. record-of-file.filled o l) l (λ n. refl) (record-of-file.headerInto reading file l) k (sym (h .answered) ∙ e);
+      read-held = λ longer file l x l′ k h e. h .after ∙ by-outcome header.headerInfo (λ o. record-of-file.filled o l) l (λ n. refl) (header.heldInto longer file l) k (sym (h .answered) ∙ e);
+      read-text = λ text l x l′ k h e. h .after ∙ by-outcome header.infoOf (λ o. header.filled o l) l (λ n. refl) (header.textInto text l) k (sym (h .answered) ∙ e);
       write-header = λ t ns s o room w room′ k h e. h .room-after ∙ header-left t ns s o room k (sym (h .answered) ∙ e);
       list = λ v start t ns s o room x room′ k h e. h .after ∙ listed-left v start room k (checkedRecord t ns s o) (sym (h .answered) ∙ e);
       report = λ file room x room′ k h e. h .after ∙ text-left (reportOf file) room k (sym (h .answered) ∙ e);
@@ -98,8 +97,6 @@ unchanged =
       write-points = λ t value room x room′ k h e. owed _ room _ room′ k h e;
       element-bytes = λ file start t ns s o x p room y room′ k h e. owed _ room _ room′ k h e;
       element-points = λ file start t ns s o x p room y room′ k h e. owed _ room _ room′ k h e;
-      bytes-at = λ file place room y room′ k h e. owed _ room _ room′ k h e;
-      points-at = λ file place room y room′ k h e. owed _ room _ room′ k h e;
       print = λ t room x room′ k h e. h .room-after ∙ typed-left t room k (sym (h .answered) ∙ e);
       strides = λ o s out x out′ k h e. h .out-after ∙ strides-left (shape.strides o s) out k (strides.stridesCount o s (length out)) (sym (h .answered) ∙ e);
       encode = λ value room x room′ k h e. h .room-after ∙ encoded-left value room k (scalar.encoding value (length room)) (sym (h .answered) ∙ e);

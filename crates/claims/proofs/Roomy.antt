@@ -1,4 +1,4 @@
--- A record is refused by 23 exactly where a room is too short for it. Assumes nothing.
+-- A record is refused with 23 exactly if a room is too short for it.
 use Prim.Native.Nat.{_/_}
 use native.Mathlib.Omega.{arith}
 use mathlib.Core.Path.{_≡_}
@@ -12,7 +12,7 @@ use Rattle.dtype.specs.Names.{nameBytes}
 use Rattle.dtype.specs.Record.{Record, table, names}
 use Rattle.dtype.proofs.Seen.{or-left, or-right}
 use Rattle.record.specs.Rooms.{needs, tooSmall, Lent, roomsOf}
-use Rattle.rooms.proofs.Rooms.{table-whole, names-whole}
+use Rattle.read_back.proofs.Rooms.{table-whole, names-whole}
 use Rattle.claims.specs.Roomy.{Roomy}
 
 pub roomy-fits : (r : Record) (l : Lent) → Roomy (table (r .dtype)) (names (r .dtype)) (r .shape) l → tooSmall (roomsOf l) (needs r) ≡ false

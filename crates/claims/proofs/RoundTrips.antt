@@ -1,6 +1,6 @@
--- Both round trips of demand 2 (specs/RoundTrips.antt), of whatever satisfies the contracts of `write_header` and `read`. What was written is the header of the record
--- that the check accepted, which is sound (Accepted.antt); and of sound records crate record shows that their bytes are read back. What was read is sound, and the
--- check accepts it: so it is written, 4 and 28 aside, and the same holds of its bytes. Assumes nothing.
+-- Both round trips of demand 2 (specs/RoundTrips.antt), for whatever satisfies the contracts of `write_header` and `read`. What was written is the header of the record
+-- that the check accepted, which is sound (Accepted.antt); and crate record shows that the bytes of a sound record are read back. What was read is sound, and the
+-- check accepts it: so it is written, apart from 4 and 28, and the same holds for its bytes.
 use Prim.Native.Nat.{ℕ}
 use native.Mathlib.Omega.{arith}
 use mathlib.Core.Path.{_≡_, refl, sym, ap, subst, _∙_}
@@ -10,11 +10,12 @@ use mathlib.Core.Logic.{_⊎_, inl, inr}
 use lib.Dec.{ltb}
 use lib.ListN.{length, take, drop}
 use lib.Seq.{take-append-seam}
+use Rattle.refusal.specs.Answers.{bytesAnswer}
 use Rattle.counts.specs.Outcome.{Outcome, gives, refused, then, each, unless}
 use Rattle.counts.proofs.Holds.{Holds, then-any, unless-holds, holds-of}
 use Rattle.refusal.specs.declared.Refusal.{Refusal}
 use Rattle.refusal.proofs.Names.{number-apart}
-use Rattle.grammar.specs.Print.{valueOf}
+use Rattle.literal_grammar.specs.Print.{valueOf}
 use Rattle.dtype.specs.declared.Order.{Order}
 use Rattle.dtype.specs.Limits.{limited}
 use Rattle.dtype.specs.Record.{Record, table, names}
@@ -27,21 +28,20 @@ use Rattle.record.specs.File.{textLength, fileOf, headerLength}
 use Rattle.record.specs.Writing.{writing, placed, roomAfter}
 use Rattle.record.specs.Sound.{Sound}
 use Rattle.record.proofs.RoundTrips.{headerFor, file-whole, written-read, read-readable, read-written}
-use Rattle.table.specs.Checked.{checkedRecord}
-use Rattle.table.proofs.Accepts.{accepts-valid}
+use Rattle.check_record.specs.Checked.{checkedRecord}
+use Rattle.check_record.proofs.Accepts.{accepts-valid}
 use Rattle.judge.specs.Judged.{reading}
 use Rattle.judge.proofs.Top.{reading-keeps}
 use Rattle.header.specs.declared.Header.{Header}
 use Rattle.header.specs.declared.HeaderRead.{HeaderRead}
-use Rattle.header.specs.Answer.{Told, told, headerIs, answer, Reads}
-use Rattle.write.specs.declared.Written.{Written}
-use Rattle.write.specs.Answer as written
-use Rattle.write.specs.Writes.{headerWritten, roomOf, headerPlaced, Writes}
+use Rattle.header.specs.Reads.{HeaderInfo, headerInfo, headerIs, answer, Reads}
+use Rattle.refusal.specs.declared.BytesAnswer.{BytesAnswer}
+use Rattle.write.specs.Writes.{headerWritten, roomOf, headerPlaced, WritesHeader}
 use Rattle.write.proofs.Outcomes.{write-header-one}
-use Rattle.rooms.specs.Rooms.{tableIn, namesIn, shapeIn}
+use Rattle.read_back.specs.Rooms.{tableIn, namesIn, shapeIn}
 use Rattle.claims.specs.RoundTrips.{Gives, Comes-back, Written-read, Read-written}
-use Rattle.rooms.proofs.Accepted.{valid-sound}
-use Rattle.rooms.proofs.Rooms.{stands-by, read-found}
+use Rattle.read_back.proofs.Accepted.{valid-sound}
+use Rattle.read_back.proofs.Rooms.{stands-by, read-found}
 use Rattle.claims.proofs.Roomy.{roomy-fits, fits-roomy}
 use Rattle.claims.proofs.Places.{found-accepted}
 
@@ -69,7 +69,7 @@ wrote-bytes r room room′ n e p =
     let all : room′ ≡ fileOf r ++ drop n room = p ∙ ap (λ (x : Outcome ℕ). placed x r room) e in
     ap (take n) all ∙ ap (λ (k : ℕ). take k (fileOf r ++ drop n room)) whole ∙ take-append-seam (fileOf r) (drop n room)
 
-wrote : (t ns s : List ℕ) (o : Order) (room : List ℕ) (n : ℕ) (room′ : List ℕ) → Writes t ns s o room (Written.Count n) room′ → Wrote t ns s o room n room′
+wrote : (t ns s : List ℕ) (o : Order) (room : List ℕ) (n : ℕ) (room′ : List ℕ) → WritesHeader t ns s o room (BytesAnswer.Is (record { 0 = n })) room′ → Wrote t ns s o room n room′
 unfolding headerWritten headerPlaced
 wrote t ns s o room n room′ w = go (checkedRecord t ns s o) refl (w .answered) (w .room-after)
   where
@@ -77,27 +77,27 @@ wrote t ns s o room n room′ w = go (checkedRecord t ns s o) refl (w .answered)
     go (gives r) e a b = record { says = r; accepted = e; writes = sym a; bytes = wrote-bytes r room room′ n (sym a) b }
     go (refused k) e a b = absurd (let z : _≡_ {A = ℕ} 0 1 = cc in omega arith)
 
--- ---- an answer by what it stands for
+-- ---- a result from its outcome
 pub refused-by : (x : HeaderRead) → answer x ≡ refused 23 → x ≡ HeaderRead.Refused Refusal.Room
 refused-by (HeaderRead.Read h) a = absurd (let z : _≡_ {A = ℕ} 0 1 = cc in omega arith)
 refused-by (HeaderRead.Refused f) a = ap HeaderRead.Refused (number-apart f Refusal.Room cc)
 
 module _ (r : Record) (n : ℕ) (l l′ : Lent) (x : HeaderRead) (start : headerLength r ≡ n) where
-  given-by : answer x ≡ gives (told (headerFor r)) → l′ ≡ holding r l → Gives (table (r .dtype)) (names (r .dtype)) (r .shape) (r .order) n x l′
+  given-by : answer x ≡ gives (headerInfo (headerFor r)) → l′ ≡ holding r l → Gives (table (r .dtype)) (names (r .dtype)) (r .shape) (r .order) n x l′
   given-by = go x refl
     where
-      go : (y : HeaderRead) → x ≡ y → answer y ≡ gives (told (headerFor r)) → l′ ≡ holding r l → Gives (table (r .dtype)) (names (r .dtype)) (r .shape) (r .order) n x l′
+      go : (y : HeaderRead) → x ≡ y → answer y ≡ gives (headerInfo (headerFor r)) → l′ ≡ holding r l → Gives (table (r .dtype)) (names (r .dtype)) (r .shape) (r .order) n x l′
       go (HeaderRead.Read h) e a b =
-          let same : headerIs h ≡ told (headerFor r) = cc in
+          let same : headerIs h ≡ headerInfo (headerFor r) = cc in
           record {
             header = h;
             is = e;
-            starts = ap (λ (t : Told). t .data-start) same ∙ start;
-            stands = stands-by r l l′ (h .said) (ap (λ (t : Told). t .said) same) b;
+            starts = ap (λ (t : HeaderInfo). t .data-start) same ∙ start;
+            stands = stands-by r l l′ (h .info) (ap (λ (t : HeaderInfo). t .info) same) b;
           }
       go (HeaderRead.Refused f) e a b = absurd (let z : _≡_ {A = ℕ} 0 1 = cc in omega arith)
 
-  by-room : (o : Outcome header.Header) → o ≡ unless (tooSmall (roomsOf l) (needs r)) 23 (gives (headerFor r)) → answer x ≡ each told o → l′ ≡ header.filled o l
+  by-room : (o : Outcome header.Header) → o ≡ unless (tooSmall (roomsOf l) (needs r)) 23 (gives (headerFor r)) → answer x ≡ each headerInfo o → l′ ≡ header.filled o l
       → Comes-back (table (r .dtype)) (names (r .dtype)) (r .shape) (r .order) n l x l′
   by-room o e a b = go (tooSmall (roomsOf l) (needs r)) refl e
     where
@@ -106,11 +106,11 @@ module _ (r : Record) (n : ℕ) (l l′ : Lent) (x : HeaderRead) (start : header
       go true small k =
           record {
             roomy = λ h. absurd (let y = sym small ∙ roomy-fits r l h in let z : _≡_ {A = ℕ} 0 1 = cc in omega arith);
-            no-room = λ h. (refused-by x (a ∙ ap (each told) k), b ∙ ap (λ (y : Outcome header.Header). header.filled y l) k);
+            no-room = λ h. (refused-by x (a ∙ ap (each headerInfo) k), b ∙ ap (λ (y : Outcome header.Header). header.filled y l) k);
           }
       go false fits k =
           record {
-            roomy = λ h. given-by (a ∙ ap (each told) k) (b ∙ ap (λ (y : Outcome header.Header). header.filled y l) k);
+            roomy = λ h. given-by (a ∙ ap (each headerInfo) k) (b ∙ ap (λ (y : Outcome header.Header). header.filled y l) k);
             no-room = λ h. absurd (h (fits-roomy r l fits));
           }
 
@@ -139,17 +139,17 @@ written-back t ns s room room′ rest o n l l′ x small-t small-s w reads =
     (ap (λ (r : Record). r .order) (sym is)) reads
 
 -- ---- what was read
-module _ (t ns s : List ℕ) (o : Order) (room : List ℕ) (w : Written) (room′ : List ℕ) (v : Writes t ns s o room w room′) where
-  told-as : (u : Written) → headerWritten t ns s o room ≡ written.answer u → w ≡ u
+module _ (t ns s : List ℕ) (o : Order) (room : List ℕ) (w : BytesAnswer) (room′ : List ℕ) (v : WritesHeader t ns s o room w room′) where
+  told-as : (u : BytesAnswer) → headerWritten t ns s o room ≡ bytesAnswer u → w ≡ u
   told-as u e =
-      ap (λ (y : Written × List ℕ). y .0)
+      ap (λ (y : BytesAnswer × List ℕ). y .0)
       (write-header-one t ns s o room (w, room′) (u, headerPlaced t ns s o room) v (record { answered = sym e; room-after = refl }))
 
   one-of : (a b : Bool) (k : ℕ) → headerWritten t ns s o room ≡ unless a 4 (unless b 28 (gives k))
-      → (w ≡ Written.Long) ⊎ ((w ≡ Written.OutputRoom) ⊎ ((n : ℕ) × (w ≡ Written.Count n)))
-  one-of true b k e = inl (told-as Written.Long e)
-  one-of false true k e = inr (inl (told-as Written.OutputRoom e))
-  one-of false false k e = inr (inr (k, told-as (Written.Count k) e))
+      → (w ≡ BytesAnswer.Refused Refusal.LongText) ⊎ ((w ≡ BytesAnswer.Refused Refusal.OutputRoom) ⊎ ((n : ℕ) × (w ≡ BytesAnswer.Is (record { 0 = n }))))
+  one-of true b k e = inl (told-as (BytesAnswer.Refused Refusal.LongText) e)
+  one-of false true k e = inr (inl (told-as (BytesAnswer.Refused Refusal.OutputRoom) e))
+  one-of false false k e = inr (inr (k, told-as (BytesAnswer.Is (record { 0 = k })) e))
 
   written-as : (r : Record) → checkedRecord t ns s o ≡ gives r → headerWritten t ns s o room ≡ writing r room
   unfolding headerWritten
@@ -157,9 +157,9 @@ module _ (t ns s : List ℕ) (o : Order) (room : List ℕ) (w : Written) (room�
 
   -- a record that is accepted and sound, written and read
   back-again : (r : Record) → checkedRecord t ns s o ≡ gives r → Sound r → t ≡ table (r .dtype) → ns ≡ names (r .dtype) → s ≡ r .shape → o ≡ r .order
-      → (n : ℕ) → w ≡ Written.Count n → (rest : List ℕ) (l l′ : Lent) (x : HeaderRead) → Reads (take n room′ ++ rest) l x l′ → Comes-back t ns s o n l x l′
+      → (n : ℕ) → w ≡ BytesAnswer.Is (record { 0 = n }) → (rest : List ℕ) (l l′ : Lent) (x : HeaderRead) → Reads (take n room′ ++ rest) l x l′ → Comes-back t ns s o n l x l′
   back-again r e sound et en es eo n is rest l l′ x reads =
-      let y = wrote t ns s o room n room′ (subst (λ (u : Written). Writes t ns s o room u room′) is v) in
+      let y = wrote t ns s o room n room′ (subst (λ (u : BytesAnswer). WritesHeader t ns s o room u room′) is v) in
       let same : r ≡ y .says = cc (e, y .accepted) in
       caller-back t ns s room room′ rest o n l l′ x y (subst Sound same sound) (et ∙ ap (λ (q : Record). table (q .dtype)) same) (en ∙ ap (λ (q : Record). names (q .dtype)) same)
       (es ∙ ap (λ (q : Record). q .shape) same) (eo ∙ ap (λ (q : Record). q .order) same) reads
@@ -169,10 +169,10 @@ pub read-back : Read-written
 read-back file room room′ l l′ h w x v =
     let f = read-found file l h l′ x in
     let r = f .header-is .says in
-    let t = tableIn (h .said) l′ in
-    let ns = namesIn (h .said) l′ in
-    let s = shapeIn (h .said) l′ in
-    let o = h .said .order in
+    let t = tableIn (h .info) l′ in
+    let ns = namesIn (h .info) l′ in
+    let s = shapeIn (h .info) l′ in
+    let o = h .info .order in
     let accepted = found-accepted file l h l′ f in
     let sound = read-readable reading reading-keeps file (roomsOf l) (f .header-is) (f .given) .writable .sound in
     let only = read-written reading reading-keeps file (roomsOf l) (f .header-is) (f .given) room .refused-only in

@@ -1,25 +1,27 @@
--- Document 01, "What counts as an answer": "The cases marked P form one proved table under a single claim"; the cases are those of "Both sides of each edge (P: proved)". Type
--- strings, and sizes, strides, shapes and places. Definitions only. Assumes nothing.
+-- Document 01, "What counts as an answer": "The cases marked P form one proved table under a single claim". They are the lines marked P of "Both sides of each edge (P:
+-- proved)": those about type strings, and those about sizes, strides, shapes and places.
 use mathlib.Core.Path.{_≡_}
 use mathlib.Core.Bool.{false}
 use mathlib.Core.List.{[], _∷_}
 use Rattle.counts.specs.Outcome.{gives}
-use Rattle.grammar.specs.Value.{Value, string, integer, list, tuple, end-of-values, value-then}
+use Rattle.literal_grammar.specs.Value.{Value, string, integer, list, tuple, end-of-values, value-then}
 use Rattle.record.specs.Descr.{descrOf}
 use Rattle.type_read.specs.Edges as types
 use Rattle.dtype.specs.Edges as dtypes
 
--- the values of `('a', '<i2')` and `('b', '<U3', (2,))`
+-- the value of `('a', '<i2')`: `a` is 97, `<` 60, `i` 105, `2` 50
 abbrev pub field-a : Value
 field-a = tuple (value-then (string (97 ∷ [])) (value-then (string (60 ∷ 105 ∷ 50 ∷ [])) end-of-values))
 
+-- the value of `('b', '<U3', (2,))`: `b` is 98, `U` 85, `3` 51
 abbrev pub field-b : Value
 field-b = tuple (value-then (string (98 ∷ [])) (value-then (string (60 ∷ 85 ∷ 51 ∷ [])) (value-then (tuple (value-then (integer false 2) end-of-values)) end-of-values)))
 
+-- the claim
 pub record Edges : Type 0 where
   -- `|i1`, `<i08`, `>U0`; `|O4`: 15, `>i` and 30 nines: 16, `|i9`: 17, `>i9`: 18, `>m8`: 19
   pub type-strings : types.Edges
   -- (2,3), rank 0, (0, 2^40, 2^40), 2^32 by 2^32, and the record of 26 bytes
   pub records : dtypes.Edges
-  -- `[('a', '<i2'), ('b', '<U3', (2,))]` is read as that record
+  -- `[('a', '<i2'), ('b', '<U3', (2,))]` is read as that record of 26 bytes
   pub a-and-b-read : descrOf (list (value-then field-a (value-then field-b end-of-values))) ≡ gives dtypes.a-and-b

@@ -1,1 +1,1 @@
-// The customer's demands have no code of their own: specs/ states them of the public functions' own contracts, proofs/ proves them.
+// The customer's demands, stated in specs/ about the contracts of the public functions, and proved in proofs/. There is no code here.

@@ -1,4 +1,4 @@
--- The totals of a dtype are made of those of its parts: of fields one behind the other, of a record's own entry and its fields, of a sub-shape and its
+-- The totals of a dtype are made of those of its parts: of fields one after the other, of a record's own entry and its fields, of a sub-shape and its
 -- type, of a name and a type. So are the verdicts, where a refusal of the first part comes first. By recursion on nothing: each law is one step of the
 -- definitions. Assumes nothing.
 use Prim.Native.Nat.{ℕ, zero, suc, _+_, _*_, _^_, _≤_}
@@ -13,7 +13,7 @@ use borrow.Author.Tests.{leb-true}
 use Rattle.counts.specs.Outcome.{Outcome, gives, refused, then, each, unless}
 use Rattle.counts.specs.declared.Number.{Number}
 use Rattle.counts.proofs.Alike.{false-true}
-use Rattle.grammar.specs.Value.{Value, Values, string, integer, True, False, None, list, tuple, dict, end-of-values, value-then}
+use Rattle.literal_grammar.specs.Value.{Value, Values, string, integer, True, False, None, list, tuple, dict, end-of-values, value-then}
 use Rattle.type_str.specs.declared.TypeStr.{TypeStr}
 use Rattle.type_str.specs.TypeString.{typeString}
 use Rattle.dtype.specs.Dtype.{Dtype, Fields, plain, record-of, field-then, sizeOf, sizesOf}
@@ -23,13 +23,13 @@ use Rattle.record.specs.Parts.{stringOr}
 use Rattle.record.specs.Dimensions.{subShape}
 use Rattle.record.specs.Descr.{Field, arrays, descrOf, fieldsOf, fieldOf, twoOrThree, namedOf}
 use Rattle.record.proofs.Levels.{arrays-entries, arrays-name-bytes}
-use Rattle.products.specs.Outline.{hasZero, behindZero, outlineOf, isOver, largestIn}
-use Rattle.products.proofs.Levels.{largest-is, arrays-outline, arrays-over, arrays-wide, arrays-object}
-use Rattle.sums.specs.declared.Totals.{Totals}
-use Rattle.sums.specs.Totals.{atMost, largest, heldNumber, nothing, oneEntry, nameTotals, totalsOf, totalsIn, fieldTotals, together, arrayed}
-use Rattle.sums.specs.Verdict.{both}
-use Rattle.sums.proofs.Sums.{totals-eq, over-never, over-not, over-more, over-number, held-number, cap-front}
-use Rattle.sums.proofs.Limits.{own-over}
+use Rattle.shape_verdict.specs.Outline.{hasZero, behindZero, outlineOf, isOver, largestIn}
+use Rattle.shape_verdict.proofs.Levels.{largest-is, arrays-outline, arrays-over, arrays-wide, arrays-object}
+use Rattle.descr_totals.specs.declared.Totals.{Totals}
+use Rattle.descr_totals.specs.Totals.{atMost, largest, heldNumber, nothing, oneEntry, nameTotals, totalsOf, totalsIn, fieldTotals, together, arrayed}
+use Rattle.descr_totals.specs.Verdict.{both}
+use Rattle.descr_totals.proofs.Sums.{totals-eq, over-never, over-not, over-more, over-number, held-number, cap-front}
+use Rattle.descr_totals.proofs.Limits.{own-over}
 
 over-front : (n : ℕ) → over (0 + atMost largest n) ≡ false
 over-front n = over-never (0 + atMost largest n) (omega arith)
@@ -194,7 +194,7 @@ nameBy v = each (λ w. nameTotals (length w)) (stringOr 14 v)
 abbrev pub descrBy : Value → Outcome Totals
 descrBy v = each totalsOf (descrOf v)
 
--- what stands behind a field's inner descr, by the verdicts on its name and on that descr: nothing more, or its sub-shape
+-- what is after a field's inner descr, by the verdicts on its name and on that descr: nothing more, or its sub-shape
 abbrev pub behindBy : Outcome Totals → Outcome Totals → Values → Outcome Totals
 behindBy x y end-of-values = both x y
 behindBy x y (value-then v end-of-values) = both x (then y (λ t. each (λ o. arrayed o t) (each outlineOf (subShape v))))

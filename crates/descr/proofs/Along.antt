@@ -1,5 +1,5 @@
 -- Walks over the items of a bracket, one item after the other. `Turn` is what the loop over fields keeps: all end as those that are left do, and the verdict
--- on the fields so far and those that are left give the verdict on all. Every law speaks of whichever row stands there, so that no reading is inverted.
+-- on the fields so far and those that are left give the verdict on all. Every law speaks of whichever row is there, so that no reading is inverted.
 -- Assumes nothing.
 use Prim.Native.Nat.{ℕ}
 use mathlib.Core.Path.{_≡_, refl, sym, ap, subst, _∙_}
@@ -8,32 +8,32 @@ use lib.Dec.{lit<}
 use denote.Enum.Declared.{tagOf}
 use types.Run.{OneOf}
 use Rattle.counts.specs.Outcome.{Outcome, gives, refused, each}
-use Rattle.grammar.specs.Value.{Values, end-of-values, value-then}
-use Rattle.tokens.specs.Node.{Node, nodes}
-use Rattle.classes.specs.Got.{pos}
+use Rattle.literal_grammar.specs.Value.{Values, end-of-values, value-then}
+use Rattle.literal_tokens.specs.Node.{Node, nodes}
+use Rattle.literal_bytes.specs.Got.{pos}
 use Rattle.literal.specs.Literal.{value}
-use Rattle.gaps.specs.Gaps.{gapAt, thenAt, endedAt}
+use Rattle.literal_bytes.specs.Gaps.{gapAt, thenAt, endedAt}
 use Rattle.literal.specs.Rows.{Row}
 use Rattle.literal.specs.Forget.{forget, forgetAll}
-use Rattle.gaps.specs.declared.Gap.{Gap}
-use Rattle.gaps.specs.declared.Gap.the-variants.{Item}
-use Rattle.gaps.proofs.Gap.{the-type}
-use Rattle.classes.specs.declared.Parsed.the-variants.{Value}
-use Rattle.classes.proofs.Ends.{Stops}
-use Rattle.sums.specs.declared.Totals.{Totals}
-use Rattle.sums.specs.declared.Verdict.{Verdict}
-use Rattle.parts.specs.declared.Judged.{Judged}
+use Rattle.literal_bytes.specs.declared.Gap.{Gap}
+use Rattle.literal_bytes.specs.declared.Gap.the-variants.{Item}
+use Rattle.literal_bytes.proofs.Gap.{the-type}
+use Rattle.literal_bytes.specs.declared.Parsed.the-variants.{Value}
+use Rattle.literal_bytes.proofs.Ends.{Stops}
+use Rattle.descr_totals.specs.declared.Totals.{Totals}
+use Rattle.descr_totals.specs.declared.DescrVerdict.{DescrVerdict}
+use Rattle.descr_field.specs.declared.DescrJudged.{DescrJudged}
 use Rattle.record.specs.Dimensions.{subShape}
-use Rattle.products.specs.Outline.{outlineOf}
-use Rattle.products.specs.declared.Outline.{Outline}
-use Rattle.sums.specs.Totals.{nothing}
-use Rattle.sums.specs.Verdict.{verdict, both}
-use Rattle.behind.specs.Behind.{itemsFrom}
-use Rattle.parts.specs.Parts.{levelsOver}
-use Rattle.descr.specs.Judges.{Judges, JudgesFrom}
-use Rattle.sums.proofs.Sums.{both-assoc, both-nothing}
+use Rattle.shape_verdict.specs.Outline.{outlineOf}
+use Rattle.shape_verdict.specs.declared.Outline.{Outline}
+use Rattle.descr_totals.specs.Totals.{nothing}
+use Rattle.descr_totals.specs.Verdict.{verdict, both}
+use Rattle.descr_field.specs.Behind.{itemsFrom}
+use Rattle.descr_field.specs.Parts.{levelsOver}
+use Rattle.descr.specs.Judges.{JudgesDescr, JudgesFrom}
+use Rattle.descr_totals.proofs.Sums.{both-assoc, both-nothing}
 use Rattle.descr.proofs.Adds.{fieldsBy, fieldBy, nameBy, descrBy, behindBy, itemsBy, fields-step, fields-start, two-items, three-items}
-use Rattle.behind.proofs.Reach.{inside, from-end, from-stop, from-more, row-over, row-behind, row-stops}
+use Rattle.descr_field.proofs.Reach.{inside, from-end, from-stop, from-more, row-over, row-behind, row-stops}
 
 abbrev pub valuesOf : List Node → Values
 valuesOf ns = forgetAll (nodes ns)
@@ -48,13 +48,13 @@ values-more n ns = refl
 
 -- ---- the loop over fields
 module _ (k : ℕ) (s : List ℕ) (from : ℕ) where
-  pub record Turn (g : Gap) (so-far : Verdict) : Type 0 where
+  pub record Turn (g : Gap) (so-far : DescrVerdict) : Type 0 where
     pub reach : pos (itemsFrom k s 93 (gapAt s from 93)) ≡ pos (itemsFrom k s 93 g)
     pub goes : (ns : List Node) (e : ℕ) → Row (value k s) s 93 ns (gapAt s from 93) e
         → (us : List Node) × Row (value k s) s 93 us g e × (fieldsBy (valuesOf ns) ≡ both (verdict so-far) (fieldsBy (valuesOf us)))
     pub tidy : both (verdict so-far) (gives nothing) ≡ verdict so-far
 
-  pub turn-start : (g : Gap) (v : Verdict) → g ≡ gapAt s from 93 → verdict v ≡ gives nothing → Turn g v
+  pub turn-start : (g : Gap) (v : DescrVerdict) → g ≡ gapAt s from 93 → verdict v ≡ gives nothing → Turn g v
   turn-start g v hg hv =
       record {
         reach = ap (λ (x : Gap). pos (itemsFrom k s 93 x)) (sym hg);
@@ -62,15 +62,15 @@ module _ (k : ℕ) (s : List ℕ) (from : ℕ) where
         tidy = ap (λ (x : Outcome Totals). both x (gives nothing)) hv ∙ (fields-start end-of-values ∙ sym hv);
       }
 
-  module _ (g : Gap) (v : Verdict) (p : ℕ) (t : Turn g v) (hg : g ≡ Item p) (j : Judged) (hj : Judges k s p fieldBy j) where
-    pub turn-stop : (r : Judged) → Stops (j .ended) → r .ended ≡ j .ended → JudgesFrom k s 93 (gapAt s from 93) fieldsBy r
+  module _ (g : Gap) (v : DescrVerdict) (p : ℕ) (t : Turn g v) (hg : g ≡ Item p) (j : DescrJudged) (hj : JudgesDescr k s p fieldBy j) where
+    pub turn-stop : (r : DescrJudged) → Stops (j .ended) → r .ended ≡ j .ended → JudgesFrom k s 93 (gapAt s from 93) fieldsBy r
     turn-stop r st he =
         record {
           ends = he ∙ (from-stop k s 93 g p (j .ended) hg (hj .ends) st ∙ sym (t .reach));
           of-row = λ ns e h. let o = t .goes ns e h in row-stops k s 93 (o .0) g p e (j .ended) hg (hj .ends) st (o .1);
         }
 
-    pub turn-more : (g′ : Gap) (v′ : Verdict) (q : ℕ) → j .ended ≡ Value q → g′ ≡ thenAt s q 93 → verdict v′ ≡ both (verdict v) (verdict (j .verdict)) → Turn g′ v′
+    pub turn-more : (g′ : Gap) (v′ : DescrVerdict) (q : ℕ) → j .ended ≡ Value q → g′ ≡ thenAt s q 93 → verdict v′ ≡ both (verdict v) (verdict (j .verdict)) → Turn g′ v′
     turn-more g′ v′ q hq hg′ hv =
         record {
           reach = t .reach ∙ from-more k s 93 (lit< tt) g g′ p q (j .ended) hg hq (hj .ends) hg′;
@@ -87,7 +87,7 @@ module _ (k : ℕ) (s : List ℕ) (from : ℕ) where
           tidy = ap (λ (z : Outcome Totals). both z (gives nothing)) hv ∙ (both-nothing (verdict v) (verdict (j .verdict)) ∙ sym hv);
         }
 
-  pub turn-end : (g : Gap) (v : Verdict) (r : Judged) → Turn g v → OneOf (0 ∷ 2 ∷ []) (tagOf the-type g) → r .ended ≡ endedAt g → r .verdict ≡ v → JudgesFrom k s 93 (gapAt s from 93) fieldsBy r
+  pub turn-end : (g : Gap) (v : DescrVerdict) (r : DescrJudged) → Turn g v → OneOf (0 ∷ 2 ∷ []) (tagOf the-type g) → r .ended ≡ endedAt g → r .verdict ≡ v → JudgesFrom k s 93 (gapAt s from 93) fieldsBy r
   turn-end g v r t o he hv =
       record {
         ends = he ∙ (from-end k s 93 g o ∙ sym (t .reach));
@@ -99,8 +99,8 @@ module _ (k : ℕ) (s : List ℕ) (from : ℕ) where
       }
 
 -- ---- a field's items, as they were judged
--- what is owed for those that begin at `from`, behind the opening bracket
-pub record JudgesInside (k : ℕ) (s : List ℕ) (from close : ℕ) (r : Judged) : Type 0 where
+-- the statement on those that begin at `from`, after the opening bracket
+pub record JudgesInside (k : ℕ) (s : List ℕ) (from close : ℕ) (r : DescrJudged) : Type 0 where
   pub ends : r .ended ≡ pos (inside k s from close)
   pub of-row : (ns : List Node) (e : ℕ) → Row (value k s) s close ns (gapAt s from close) e → verdict (r .verdict) ≡ itemsBy (valuesOf ns)
 
@@ -127,7 +127,7 @@ items-three a b c x y w z hx hy hz hw =
     let e : w ≡ levelsOver (descrBy (forget b)) (each outlineOf (subShape (forget c))) = hw ∙ (ap (λ (u : Outcome Totals). levelsOver u z) hy ∙ ap (λ (u : Outcome Outline). levelsOver (descrBy (forget b)) u) hz) in
     ap (λ (u : Outcome Totals). both u w) hx ∙ (ap (λ (u : Outcome Totals). both (nameBy (forget a)) u) e ∙ three-items (forget a) (forget b) (forget c))
 
--- what stands behind a field's name and inner descr
+-- what is after a field's name and inner descr
 pub items-behind : (a b : Node) (ns : List Node) (x y : Outcome Totals) → x ≡ nameBy (forget a) → y ≡ descrBy (forget b) → behindBy x y (valuesOf ns) ≡ itemsBy (valuesOf (a ∷ b ∷ ns))
 unfolding forgetAll
 items-behind a b [] x y hx hy = items-two a b x y hx hy

@@ -1,4 +1,4 @@
--- The items of a field on plain values, item by item, whichever row stands there: the gap before each says whether it is there, how it ends says whether
+-- The items of a field on plain values, item by item, whichever row is there: the gap before each says whether it is there, how it ends says whether
 -- the walk goes on, and what is judged of it is what the definition asks. Assumes nothing.
 use Prim.Native.Nat.{ℕ, _<_}
 use mathlib.Core.Path.{_≡_, refl, sym, ap, subst, _∙_}
@@ -6,32 +6,32 @@ use mathlib.Core.List.{List, [], _∷_}
 use denote.Enum.Declared.{tagOf}
 use types.Run.{OneOf}
 use Rattle.counts.specs.Outcome.{Outcome, refused, each}
-use Rattle.tokens.specs.Node.{Node}
-use Rattle.classes.specs.Got.{got, pos}
+use Rattle.literal_tokens.specs.Node.{Node}
+use Rattle.literal_bytes.specs.Got.{got, pos}
 use Rattle.literal.specs.Literal.{value}
-use Rattle.gaps.specs.Gaps.{gapAt, thenAt, endedAt}
+use Rattle.literal_bytes.specs.Gaps.{gapAt, thenAt, endedAt}
 use Rattle.literal.specs.Rows.{Row}
 use Rattle.literal.specs.Forget.{forget, forgetAll}
-use Rattle.classes.specs.declared.Parsed.the-variants.{Value}
-use Rattle.gaps.specs.declared.Gap.{Gap}
-use Rattle.gaps.specs.declared.Gap.the-variants.{Shut, Item, Stray}
-use Rattle.gaps.proofs.Gap.{the-type}
-use Rattle.classes.proofs.Ends.{Stops}
+use Rattle.literal_bytes.specs.declared.Parsed.the-variants.{Value}
+use Rattle.literal_bytes.specs.declared.Gap.{Gap}
+use Rattle.literal_bytes.specs.declared.Gap.the-variants.{Shut, Item, Stray}
+use Rattle.literal_bytes.proofs.Gap.{the-type}
+use Rattle.literal_bytes.proofs.Ends.{Stops}
 use Rattle.literal.proofs.Rows.{row-shut, row-stray}
 use Rattle.record.specs.Dimensions.{subShape}
-use Rattle.products.specs.Outline.{outlineOf}
-use Rattle.sums.specs.declared.Totals.{Totals}
-use Rattle.sums.specs.Verdict.{verdict, both}
-use Rattle.behind.specs.Behind.{itemsFrom, secondAt}
-use Rattle.parts.specs.Parts.{nameAt, levelsOver, lastBy, shapeBy, behindAt}
-use Rattle.parts.specs.declared.Judged.{Judged}
-use Rattle.descr.specs.Judges.{Judges}
+use Rattle.shape_verdict.specs.Outline.{outlineOf}
+use Rattle.descr_totals.specs.declared.Totals.{Totals}
+use Rattle.descr_totals.specs.Verdict.{verdict, both}
+use Rattle.descr_field.specs.Behind.{itemsFrom, secondAt}
+use Rattle.descr_field.specs.Parts.{nameAt, levelsOver, lastBy, shapeBy, behindAt}
+use Rattle.descr_field.specs.declared.DescrJudged.{DescrJudged}
+use Rattle.descr.specs.Judges.{JudgesDescr}
 use Rattle.descr.proofs.Adds.{descrBy, behindBy, itemsBy}
-use Rattle.behind.proofs.Reach.{inside, from-end, from-stop, from-more, inside-end, inside-stop, inside-more, row-over, row-next, row-behind, row-stops, second-over, second-item}
+use Rattle.descr_field.proofs.Reach.{inside, from-end, from-stop, from-more, inside-end, inside-stop, inside-more, row-over, row-next, row-behind, row-stops, second-over, second-item}
 use Rattle.descr.proofs.Along.{JudgesInside, valuesOf, items-none, items-one, items-behind}
 use Rattle.descr.proofs.Nodes.{name-says}
 
--- ---- behind the inner descr: x is the verdict on the name, y that on the descr
+-- ---- after the inner descr: x is the verdict on the name, y that on the descr
 module _ (k : ℕ) (s : List ℕ) (close : ℕ) (x y : Outcome Totals) where
   last-row : (n : Node) (us : List Node) (g : Gap) (e : ℕ) → Row (value k s) s close us g e
       → lastBy (both x (levelsOver y (each outlineOf (subShape (forget n))))) g ≡ behindBy x y (valuesOf (n ∷ us))
@@ -40,7 +40,7 @@ module _ (k : ℕ) (s : List ℕ) (close : ℕ) (x y : Outcome Totals) where
   last-row n us (Stray p) e h = absurd (row-stray (value k s) s close us p e h)
   last-row n us (Item p) e h = sym (ap (λ (l : List Node). behindBy x y (valuesOf (n ∷ l))) (row-next k s close us (Item p) p e refl h .3))
 
-  -- whichever row stands there
+  -- whichever row is there
   behind-row : (ns : List Node) (g : Gap) (e : ℕ) → Row (value k s) s close ns g e → behindAt k s close x y g ≡ behindBy x y (valuesOf ns)
   unfolding forgetAll
   behind-row ns (Shut p) e h = sym (ap (λ (l : List Node). behindBy x y (valuesOf l)) (row-shut (value k s) s close ns p e h .0))
@@ -54,15 +54,15 @@ module _ (k : ℕ) (s : List ℕ) (from close : ℕ) (g1 : Gap) (h1 : g1 ≡ gap
   row-first : (ns : List Node) (e : ℕ) → Row (value k s) s close ns (gapAt s from close) e → Row (value k s) s close ns g1 e
   row-first ns e h = subst (λ (x : Gap). Row (value k s) s close ns x e) (sym h1) h
 
-  pub items-empty : (r : Judged) → OneOf (0 ∷ 2 ∷ []) (tagOf the-type g1) → r .ended ≡ endedAt g1 → verdict (r .verdict) ≡ refused 14 → JudgesInside k s from close r
+  pub items-empty : (r : DescrJudged) → OneOf (0 ∷ 2 ∷ []) (tagOf the-type g1) → r .ended ≡ endedAt g1 → verdict (r .verdict) ≡ refused 14 → JudgesInside k s from close r
   items-empty r o he hv =
       record {
         ends = he ∙ inside-end k s from close g1 h1 o;
         of-row = λ ns e h. hv ∙ (items-none ∙ sym (ap (λ (l : List Node). itemsBy (valuesOf l)) (row-over k s close ns g1 e o (row-first ns e h))));
       }
 
-  module _ (p1 : ℕ) (i1 : g1 ≡ Item p1) (name : Judged) (hn : (name .ended ≡ pos (value k s p1)) × (verdict (name .verdict) ≡ nameAt s p1)) where
-    pub items-unread : (r : Judged) → Stops (name .ended) → r .ended ≡ name .ended → JudgesInside k s from close r
+  module _ (p1 : ℕ) (i1 : g1 ≡ Item p1) (name : DescrJudged) (hn : (name .ended ≡ pos (value k s p1)) × (verdict (name .verdict) ≡ nameAt s p1)) where
+    pub items-unread : (r : DescrJudged) → Stops (name .ended) → r .ended ≡ name .ended → JudgesInside k s from close r
     items-unread r st he =
         record {
           ends = he ∙ inside-stop k s from close g1 h1 p1 i1 (name .ended) (hn .0) st;
@@ -70,16 +70,16 @@ module _ (k : ℕ) (s : List ℕ) (from close : ℕ) (g1 : Gap) (h1 : g1 ≡ gap
         }
 
     module _ (small : close < 256) (q1 : ℕ) (e1 : name .ended ≡ Value q1) (g2 : Gap) (h2 : g2 ≡ secondAt s q1 close) where
-      -- all end as those behind the name do
+      -- all end as those after the name do
       second-ends : pos (inside k s from close) ≡ pos (itemsFrom k s close g2)
       second-ends = inside-more k s from close g1 h1 p1 i1 (name .ended) (hn .0) small q1 e1 g2 h2
 
-      -- the name, and the row behind it
+      -- the name, and the row after it
       first : (ns : List Node) (e : ℕ) → Row (value k s) s close ns (gapAt s from close) e
           → (n : Node) × (us : List Node) × (ns ≡ n ∷ us) × (value k s p1 ≡ got n q1) × Row (value k s) s close us (thenAt s q1 close) e
       first ns e h = row-behind k s close ns g1 p1 q1 e (name .ended) i1 e1 (hn .0) (row-first ns e h)
 
-      pub items-alone : (r : Judged) → OneOf (0 ∷ 2 ∷ []) (tagOf the-type g2) → r .ended ≡ endedAt g2 → verdict (r .verdict) ≡ refused 14 → JudgesInside k s from close r
+      pub items-alone : (r : DescrJudged) → OneOf (0 ∷ 2 ∷ []) (tagOf the-type g2) → r .ended ≡ endedAt g2 → verdict (r .verdict) ≡ refused 14 → JudgesInside k s from close r
       items-alone r o he hv =
           record {
             ends = he ∙ (from-end k s close g2 o ∙ sym second-ends);
@@ -89,19 +89,19 @@ module _ (k : ℕ) (s : List ℕ) (from close : ℕ) (g1 : Gap) (h1 : g1 ≡ gap
                 hv ∙ (items-one (w .0) ∙ sym (ap (λ (l : List Node). itemsBy (valuesOf l)) (w .2 ∙ ap (λ (l : List Node). w .0 ∷ l) z)));
           }
 
-      module _ (p2 : ℕ) (i2 : g2 ≡ Item p2) (inner : Judged) (hj : Judges k s p2 descrBy inner) where
+      module _ (p2 : ℕ) (i2 : g2 ≡ Item p2) (inner : DescrJudged) (hj : JudgesDescr k s p2 descrBy inner) where
         -- the row from the inner descr on
         second : (us : List Node) (e : ℕ) → Row (value k s) s close us (thenAt s q1 close) e → Row (value k s) s close us g2 e
         second us e h = subst (λ (x : Gap). Row (value k s) s close us x e) (second-item k s close q1 g2 h2 p2 i2 ∙ sym i2) h
 
-        pub items-broken : (r : Judged) → Stops (inner .ended) → r .ended ≡ inner .ended → JudgesInside k s from close r
+        pub items-broken : (r : DescrJudged) → Stops (inner .ended) → r .ended ≡ inner .ended → JudgesInside k s from close r
         items-broken r st he =
             record {
               ends = he ∙ (from-stop k s close g2 p2 (inner .ended) i2 (hj .ends) st ∙ sym second-ends);
               of-row = λ ns e h. let w = first ns e h in row-stops k s close (w .1) g2 p2 e (inner .ended) i2 (hj .ends) st (second (w .1) e (w .4));
             }
 
-        pub items-whole : (q2 : ℕ) → inner .ended ≡ Value q2 → (g3 : Gap) → g3 ≡ thenAt s q2 close → (r : Judged)
+        pub items-whole : (q2 : ℕ) → inner .ended ≡ Value q2 → (g3 : Gap) → g3 ≡ thenAt s q2 close → (r : DescrJudged)
             → (r .ended ≡ pos (itemsFrom k s close g3)) × (verdict (r .verdict) ≡ behindAt k s close (verdict (name .verdict)) (verdict (inner .verdict)) g3)
             → JudgesInside k s from close r
         items-whole q2 e2 g3 h3 r b =

@@ -15,37 +15,37 @@ use Rattle.type_str.specs.declared.TypeStr.{TypeStr}
 use Rattle.type_str.specs.TypeString.{typeString}
 use Rattle.dtype.specs.Dtype.{plain}
 use Rattle.decimal.specs.Decimal.{isDigit}
-use Rattle.grammar.specs.Bytes.{isOpen, isQuote}
-use Rattle.grammar.specs.Value as value
-use Rattle.member.specs.Members.{closingOf}
-use Rattle.tokens.specs.Node.{Node, string, integer, True, False, None, list, tuple, dict}
-use Rattle.classes.specs.Got.{Got, got, deep, pos}
-use Rattle.classes.specs.Text.{byteAt, kindOf}
-use Rattle.classes.proofs.Positions.{open-in, open-square, open-round}
-use Rattle.escapes.specs.Strings.{spelled}
+use Rattle.literal_grammar.specs.Bytes.{isOpen, isQuote}
+use Rattle.literal_grammar.specs.Value as value
+use Rattle.shape_text.specs.Members.{closingOf}
+use Rattle.literal_tokens.specs.Node.{Node, string, integer, True, False, None, list, tuple, dict}
+use Rattle.literal_bytes.specs.Got.{Got, got, deep, pos}
+use Rattle.literal_bytes.specs.Text.{byteAt, kindOf}
+use Rattle.literal_bytes.proofs.Positions.{open-in, open-square, open-round}
+use Rattle.literal_escapes.specs.Strings.{spelled}
 use Rattle.literal.specs.Literal.{value as valueOf}
-use Rattle.gaps.specs.Gaps.{gapAt}
+use Rattle.literal_bytes.specs.Gaps.{gapAt}
 use Rattle.literal.specs.Rows.{Row, kindOfNode}
 use Rattle.literal.specs.Forget.{forget}
-use Rattle.classes.specs.declared.Parsed.the-variants.{Deep}
-use Rattle.classes.specs.declared.Kind.{Kind}
-use Rattle.classes.specs.declared.Kind.the-variants.{Square, Round, Curly, Quote, Minus, Digit, TrueWord, FalseWord, NoneWord, Other}
+use Rattle.literal_bytes.specs.declared.Parsed.the-variants.{Deep}
+use Rattle.literal_bytes.specs.declared.ValueKind.{ValueKind}
+use Rattle.literal_bytes.specs.declared.ValueKind.the-variants.{Square, Round, Curly, Quote, Minus, Digit, TrueWord, FalseWord, NoneWord, Other}
 use Rattle.literal.proofs.Steps.{value-deep, value-list, value-tuple}
 use Rattle.literal.proofs.View.{view, value-kind}
-use Rattle.sums.specs.declared.Totals.{Totals}
-use Rattle.sums.specs.Totals.{totalsOf, oneEntry, nameTotals}
-use Rattle.sums.specs.Verdict.{verdict, both}
-use Rattle.field.specs.Begins.{isString}
-use Rattle.field.proofs.Begins.{string-kind}
-use Rattle.parts.specs.Parts.{nameAt}
-use Rattle.parts.proofs.Names.{string-ends}
-use Rattle.parts.specs.declared.Judged.{Judged}
-use Rattle.descr.specs.Judges.{Judges, JudgesFrom, typedAt}
+use Rattle.descr_totals.specs.declared.Totals.{Totals}
+use Rattle.descr_totals.specs.Totals.{totalsOf, oneEntry, nameTotals}
+use Rattle.descr_totals.specs.Verdict.{verdict, both}
+use Rattle.descr_field.specs.Begins.{isString}
+use Rattle.descr_field.proofs.Begins.{string-kind}
+use Rattle.descr_field.specs.Parts.{nameAt}
+use Rattle.descr_field.proofs.Names.{string-ends}
+use Rattle.descr_field.specs.declared.DescrJudged.{DescrJudged}
+use Rattle.descr.specs.Judges.{JudgesDescr, JudgesFrom, typedAt}
 use Rattle.descr.proofs.Adds.{fieldsBy, fieldBy, nameBy, descrBy, itemsBy, record-step}
-use Rattle.behind.proofs.Reach.{inside, list-from}
+use Rattle.descr_field.proofs.Reach.{inside, list-from}
 use Rattle.descr.proofs.Along.{JudgesInside, valuesOf}
 
-square-kind : (k : Kind) → closingOf k ≡ 93 → k ≡ Square
+square-kind : (k : ValueKind) → closingOf k ≡ 93 → k ≡ Square
 square-kind Square h = refl
 square-kind Round h = absurd (omega arith)
 square-kind Curly h = absurd (omega arith)
@@ -124,7 +124,7 @@ module _ (s : List ℕ) (at : ℕ) where
         go true t = sym (ap nameBy (string-is t))
         go false t = sym (name-other t)
 
-    -- a list, and what stands in it
+    -- a list, and what is in it
     record-is : closingOf (kindOf (byteAt s at)) ≡ 93
         → (0 < k) × (ns : List Node) × (descrBy (forget n) ≡ both (gives oneEntry) (fieldsBy (valuesOf ns))) × Row (valueOf (k - 1) s) s 93 ns (gapAt s (at + 1) 93) e
     unfolding forget
@@ -132,13 +132,13 @@ module _ (s : List ℕ) (at : ℕ) where
         let v = view k s at h (square-kind (kindOf (byteAt s at)) c) in
         (v .0, v .1, ap (λ (m : Node). descrBy (forget m)) (v .2) ∙ record-step (valuesOf (v .1)), v .3)
 
-    -- a list or a tuple, and what stands in it
+    -- a list or a tuple, and what is in it
     field-is : (closingOf (kindOf (byteAt s at)) ≡ 0 → ⊥) → (close : ℕ) → close ≡ closingOf (kindOf (byteAt s at))
         → (0 < k) × (ns : List Node) × (fieldBy (forget n) ≡ itemsBy (valuesOf ns)) × Row (valueOf (k - 1) s) s close ns (gapAt s (at + 1) close) e
     unfolding forget
     field-is c close hc = go (kindOf (byteAt s at)) refl c hc
       where
-        go : (d : Kind) → kindOf (byteAt s at) ≡ d → (closingOf d ≡ 0 → ⊥) → close ≡ closingOf d
+        go : (d : ValueKind) → kindOf (byteAt s at) ≡ d → (closingOf d ≡ 0 → ⊥) → close ≡ closingOf d
             → (0 < k) × (ns : List Node) × (fieldBy (forget n) ≡ itemsBy (valuesOf ns)) × Row (valueOf (k - 1) s) s close ns (gapAt s (at + 1) close) e
         go Square hd c hc =
             let v = view k s at h hd in
@@ -184,18 +184,18 @@ opening-byte b close hc some = go (eqb b 91) (eqb b 40) refl refl (hc ∙ closin
     go false true ht hu h = inr (eqb-true b 40 hu, h)
     go false false ht hu h = absurd (some h)
 
--- ---- what the walk owes for the value at `at`, by what stands there
+-- ---- the walk over the value at `at`, by what is there
 module _ (k : ℕ) (s : List ℕ) (at : ℕ) where
   -- a string, scanned once
-  pub type-judged : (r : Judged) → isString (kindOf (byteAt s at)) ≡ true → r .ended ≡ spelled (byteAt s at) s (at + 1) .ended → verdict (r .verdict) ≡ typedAt s at → Judges k s at descrBy r
+  pub type-judged : (r : DescrJudged) → isString (kindOf (byteAt s at)) ≡ true → r .ended ≡ spelled (byteAt s at) s (at + 1) .ended → verdict (r .verdict) ≡ typedAt s at → JudgesDescr k s at descrBy r
   type-judged r t he hv = record { ends = string-ends s at k (r .ended) t he; of-value = λ n e h. hv ∙ sym (text-says s at k n e h t) }
 
   -- a value of another form
-  module _ (r : Judged) (he : r .ended ≡ pos (valueOf k s at)) (hv : verdict (r .verdict) ≡ refused 14) where
-    pub descr-misfit : isString (kindOf (byteAt s at)) ≡ false → (closingOf (kindOf (byteAt s at)) ≡ 93 → ⊥) → Judges k s at descrBy r
+  module _ (r : DescrJudged) (he : r .ended ≡ pos (valueOf k s at)) (hv : verdict (r .verdict) ≡ refused 14) where
+    pub descr-misfit : isString (kindOf (byteAt s at)) ≡ false → (closingOf (kindOf (byteAt s at)) ≡ 93 → ⊥) → JudgesDescr k s at descrBy r
     descr-misfit a b = record { ends = he; of-value = λ n e h. hv ∙ sym (descr-other s at k n e h a b) }
 
-    pub field-misfit : closingOf (kindOf (byteAt s at)) ≡ 0 → Judges k s at fieldBy r
+    pub field-misfit : closingOf (kindOf (byteAt s at)) ≡ 0 → JudgesDescr k s at fieldBy r
     field-misfit a = record { ends = he; of-value = λ n e h. hv ∙ sym (field-other s at k n e h a) }
 
   -- a list or tuple
@@ -210,7 +210,7 @@ module _ (k : ℕ) (s : List ℕ) (at : ℕ) where
     bracket-small = ⊎-elim (λ z. omega (arith, z .1)) (λ z. omega (arith, z .1)) (opening-byte (byteAt s at) close hc some)
 
     -- which may not open
-    pub too-deep : (f : value.Value → Outcome Totals) (r : Judged) → k ≡ 0 → r .ended ≡ Deep at → Judges k s at f r
+    pub too-deep : (f : value.Value → Outcome Totals) (r : DescrJudged) → k ≡ 0 → r .ended ≡ Deep at → JudgesDescr k s at f r
     too-deep f r z he =
         let d : deep at ≡ valueOf k s at = value-deep s at k z opens in
         record { ends = he ∙ ap (λ (g : Got Node). pos g) d; of-value = λ n e h. absurd (let w : deep at ≡ got n e = d ∙ h in let y : _≡_ {A = ℕ} 0 1 = cc in omega arith) }
@@ -225,7 +225,7 @@ module _ (k : ℕ) (s : List ℕ) (at : ℕ) where
           round : (byteAt s at ≡ 40) × (close ≡ 41) → pos (inside (k - 1) s (at + 1) close) ≡ pos (valueOf k s at)
           round z = ap (λ (c : ℕ). pos (inside (k - 1) s (at + 1) c)) (z .1) ∙ value-tuple s at opens k room (λ y. absurd (omega (arith, z .0))) (z .0)
 
-      pub field-judged : (r : Judged) → JudgesInside (k - 1) s (at + 1) close r → Judges k s at fieldBy r
+      pub field-judged : (r : DescrJudged) → JudgesInside (k - 1) s (at + 1) close r → JudgesDescr k s at fieldBy r
       field-judged r j =
           record {
             ends = j .ends ∙ inside-ends;
@@ -234,7 +234,7 @@ module _ (k : ℕ) (s : List ℕ) (at : ℕ) where
                 j .of-row (i .1) e (i .3) ∙ sym (i .2);
           }
 
-      pub record-judged : close ≡ 93 → (j r : Judged) → JudgesFrom (k - 1) s 93 (gapAt s (at + 1) 93) fieldsBy j → r .ended ≡ j .ended → verdict (r .verdict) ≡ both (gives oneEntry) (verdict (j .verdict)) → Judges k s at descrBy r
+      pub record-judged : close ≡ 93 → (j r : DescrJudged) → JudgesFrom (k - 1) s 93 (gapAt s (at + 1) 93) fieldsBy j → r .ended ≡ j .ended → verdict (r .verdict) ≡ both (gives oneEntry) (verdict (j .verdict)) → JudgesDescr k s at descrBy r
       record-judged h93 j r hj he hv =
           record {
             ends = he ∙ (hj .ends ∙ (ap (λ (y : Got (List Node)). pos y) (list-from (k - 1) s (at + 1) 93) ∙ (sym (ap (λ (c : ℕ). pos (inside (k - 1) s (at + 1) c)) h93) ∙ inside-ends)));

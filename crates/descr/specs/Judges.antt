@@ -1,40 +1,40 @@
--- What a walk over a value, or over the items of a bracket, owes: how they end, as crate literal reads them, and the verdict on whichever value or items
--- stand there, by the definitions of crate record. Definitions only. Assumes nothing.
+-- The statements of a walk over a value, and over the items of a bracket: how they end, as crate literal reads them, and the verdict on whichever value or items are there, by
+-- the definitions of crate record.
 use Prim.Native.Nat.{ℕ, _+_}
 use mathlib.Core.Path.{_≡_}
 use mathlib.Core.List.{List}
 use Rattle.counts.specs.Outcome.{Outcome, then, each}
-use Rattle.grammar.specs.Value.{Value, Values}
+use Rattle.literal_grammar.specs.Value.{Value, Values}
 use Rattle.type_str.specs.TypeString.{typeString}
 use Rattle.dtype.specs.Dtype.{plain}
 use Rattle.record.specs.Descr.{descrOf}
-use Rattle.tokens.specs.Node.{Node, nodes}
-use Rattle.classes.specs.Got.{Got, got, pos}
-use Rattle.classes.specs.Text.{byteAt}
-use Rattle.escapes.specs.Strings.{spelled}
+use Rattle.literal_tokens.specs.Node.{Node, nodes}
+use Rattle.literal_bytes.specs.Got.{Got, got, pos}
+use Rattle.literal_bytes.specs.Text.{byteAt}
+use Rattle.literal_escapes.specs.Strings.{spelled}
 use Rattle.literal.specs.Literal.{value}
 use Rattle.literal.specs.Rows.{Row}
 use Rattle.literal.specs.Forget.{forget, forgetAll}
-use Rattle.gaps.specs.declared.Gap.{Gap}
-use Rattle.sums.specs.declared.Totals.{Totals}
-use Rattle.dims.specs.Answer.{valueOr}
-use Rattle.sums.specs.Totals.{totalsOf}
-use Rattle.sums.specs.Verdict.{verdict}
-use Rattle.behind.specs.Behind.{itemsFrom}
-use Rattle.parts.specs.declared.Judged.{Judged}
+use Rattle.literal_bytes.specs.declared.Gap.{Gap}
+use Rattle.descr_totals.specs.declared.Totals.{Totals}
+use Rattle.shape_text.specs.Answer.{valueOr}
+use Rattle.descr_totals.specs.Totals.{totalsOf}
+use Rattle.descr_totals.specs.Verdict.{verdict}
+use Rattle.descr_field.specs.Behind.{itemsFrom}
+use Rattle.descr_field.specs.declared.DescrJudged.{DescrJudged}
 
--- of what was read, as a descr. Where no value stands the verdict is as for one of another form
-pub record JudgesAt (g : Got Node) (r : Judged) : Type 0 where
+-- of what was read, as a descr. Where there is no value the verdict is as for one of another form
+pub record JudgesAt (g : Got Node) (r : DescrJudged) : Type 0 where
   pub ends : r .ended ≡ pos g
   pub says : verdict (r .verdict) ≡ then (valueOr 14 g) (λ v. each totalsOf (descrOf v))
 
 -- of the value at `at`, where k brackets more may open
-pub record Judges (k : ℕ) (s : List ℕ) (at : ℕ) (f : Value → Outcome Totals) (r : Judged) : Type 0 where
+pub record JudgesDescr (k : ℕ) (s : List ℕ) (at : ℕ) (f : Value → Outcome Totals) (r : DescrJudged) : Type 0 where
   pub ends : r .ended ≡ pos (value k s at)
   pub of-value : (n : Node) (e : ℕ) → value k s at ≡ got n e → verdict (r .verdict) ≡ f (forget n)
 
 -- of the items from the gap on
-pub record JudgesFrom (k : ℕ) (s : List ℕ) (close : ℕ) (g : Gap) (f : Values → Outcome Totals) (r : Judged) : Type 0 where
+pub record JudgesFrom (k : ℕ) (s : List ℕ) (close : ℕ) (g : Gap) (f : Values → Outcome Totals) (r : DescrJudged) : Type 0 where
   pub ends : r .ended ≡ pos (itemsFrom k s close g)
   pub of-row : (ns : List Node) (e : ℕ) → Row (value k s) s close ns g e → verdict (r .verdict) ≡ f (forgetAll (nodes ns))
 

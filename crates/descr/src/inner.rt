@@ -1,82 +1,82 @@
-// The walk over a descr, which reads the text and judges it at once. `judge`, `fields`, `field` and `inner_at` call each other in a cycle; each bracket that
-// opens leaves one fewer. No walk stops at what it refuses, so that a wrong item count can come before what stands inside; only a fault of the literal
-// ends it. What is judged of a text with such a fault is not told: its caller looks at the end first.
-use behind::second_at;
-use classes::Parsed;
-use field::closing_at;
-use field::string_at;
-use field::typed_at;
-use gaps::Gap;
-use gaps::ended;
-use gaps::gap_at;
-use gaps::then_at;
+// The walk over a descr, which reads the text and judges it at once. `judge`, `fields`, `field` and `inner_at` call each other in a cycle; each bracket that opens leaves one
+// fewer. A refusal ends no walk, so that a wrong item count can come before what is refused inside; only a fault of the literal does. The verdict on a text with such a fault
+// means nothing: the caller looks at the end first.
+use descr_field::DescrJudged;
+use descr_field::closing_at;
+use descr_field::misfit;
+use descr_field::name_at;
+use descr_field::second_at;
+use descr_field::string_at;
+use descr_field::sub_shape;
+use descr_field::typed_at;
+use descr_totals::DescrVerdict;
+use descr_totals::Totals;
+use descr_totals::join;
+use descr_totals::typed;
 use literal::value;
-use parts::Judged;
-use parts::misfit;
-use parts::name_at;
-use parts::sub_shape;
-use sums::Totals;
-use sums::Verdict;
-use sums::join;
-use sums::typed;
+use literal_bytes::Gap;
+use literal_bytes::Parsed;
+use literal_bytes::ended;
+use literal_bytes::gap_at;
+use literal_bytes::then_at;
 ghost use mathlib.Core.Path.{_≡_};
 ghost use Prim.Native.Nat.{_+_, _<_};
 ghost use lib.ListN.{length};
 ghost use Rattle.counts.specs.Outcome.{each};
 ghost use Rattle.record.specs.Descr.{descrOf, fieldsOf, fieldOf};
-ghost use Rattle.escapes.specs.Strings.{spelled};
-ghost use Rattle.classes.specs.Text.{byteAt};
-ghost use Rattle.gaps.specs.Gaps.{gapAt};
-ghost use Rattle.sums.specs.Totals.{totalsOf, totalsIn, fieldTotals};
-ghost use Rattle.sums.specs.Verdict.{verdict};
-ghost use Rattle.descr.specs.Judges.{Judges, JudgesFrom, typedAt};
+ghost use Rattle.literal_escapes.specs.Strings.{spelled};
+ghost use Rattle.literal_bytes.specs.Text.{byteAt};
+ghost use Rattle.literal_bytes.specs.Gaps.{gapAt};
+ghost use Rattle.descr_totals.specs.Totals.{totalsOf, totalsIn, fieldTotals};
+ghost use Rattle.descr_totals.specs.Verdict.{verdict};
+ghost use Rattle.descr.specs.Judges.{JudgesDescr, JudgesFrom, typedAt};
 
-// A value that is a descr: a type string, or a list of fields.
-pub(crate) fn judge(text: &[u8], at: usize, room: usize) -> Judged
-    ensures { λ r. ⌜ Judges room (now (text .entry)) at (λ v. each totalsOf (descrOf v)) r ⌝ }
+// The verdict on a value as a descr: a type string, or a list of fields.
+pub(crate) fn judge(text: &[u8], at: usize, room: usize) -> DescrJudged
+    ensures { λ r. ⌜ JudgesDescr room (now (text .entry)) at (λ v. each totalsOf (descrOf v)) r ⌝ }
 {
     if string_at(text, at) {
         return plain_at(text, at);
     }
-    if closing_at(text, at) != 93 {
+    if closing_at(text, at) != b']' {
         return misfit(value(text, at, room));
     }
     if room == 0 {
         return misfit(Parsed::Deep(at));
     }
-    let one = Verdict::Fits(Totals {
+    let one = DescrVerdict::Fits(Totals {
         entries: 1,
         names: 0,
         object: false,
-        wide: false,
+        over_levels: false,
         over: false,
         size: 0,
     });
     let r = fields(text, at + 1, room - 1);
     let end = r.ended;
     let v = r.verdict;
-    Judged {
+    DescrJudged {
         ended: end,
         verdict: join(one, v),
     }
 }
 
-// The fields of a record, up to its closing bracket.
-fn fields(text: &[u8], from: usize, room: usize) -> Judged
+// The verdict on the fields of a record, up to its closing bracket.
+fn fields(text: &[u8], from: usize, room: usize) -> DescrJudged
     ensures { λ r. ⌜ JudgesFrom room (now (text .entry)) 93 (gapAt (now (text .entry)) from 93) (λ vs. each totalsIn (fieldsOf vs)) r ⌝ }
 {
-    let mut g = gap_at(text, from, 93);
-    let mut verdict = Verdict::Fits(Totals {
+    let mut g = gap_at(text, from, b']');
+    let mut verdict = DescrVerdict::Fits(Totals {
         entries: 0,
         names: 0,
         object: false,
-        wide: false,
+        over_levels: false,
         over: false,
         size: 0,
     });
     loop {
         let Gap::Item(p) = g else {
-            return Judged {
+            return DescrJudged {
                 ended: ended(g),
                 verdict: verdict,
             };
@@ -88,13 +88,13 @@ fn fields(text: &[u8], from: usize, room: usize) -> Judged
             return misfit(end);
         };
         verdict = join(verdict, v);
-        g = then_at(text, q, 93);
+        g = then_at(text, q, b']');
     }
 }
 
-// A field: a list or tuple of 2 or 3 items: its name, its inner descr, perhaps its sub-shape. Where there are fewer or more, nothing of them is judged.
-fn field(text: &[u8], at: usize, room: usize) -> Judged
-    ensures { λ r. ⌜ Judges room (now (text .entry)) at (λ v. each fieldTotals (fieldOf v)) r ⌝ }
+// The verdict on a field, a list or tuple of 2 or 3 items: its name, its inner descr, perhaps its sub-shape. Fewer or more items are 14, whatever they are.
+fn field(text: &[u8], at: usize, room: usize) -> DescrJudged
+    ensures { λ r. ⌜ JudgesDescr room (now (text .entry)) at (λ v. each fieldTotals (fieldOf v)) r ⌝ }
 {
     let close = closing_at(text, at);
     if close == 0 {
@@ -128,9 +128,9 @@ fn field(text: &[u8], at: usize, room: usize) -> Judged
     sub_shape(text, g3, close, left, called, of)
 }
 
-// The inner descr of a field: as `judge`, but nearly every one is a type string, which is read without a call in the cycle.
-fn inner_at(text: &[u8], at: usize, room: usize) -> Judged
-    ensures { λ r. ⌜ Judges room (now (text .entry)) at (λ v. each totalsOf (descrOf v)) r ⌝ }
+// The verdict on the inner descr of a field: as `judge`, but nearly every one is a type string, which is read without a call in the cycle.
+fn inner_at(text: &[u8], at: usize, room: usize) -> DescrJudged
+    ensures { λ r. ⌜ JudgesDescr room (now (text .entry)) at (λ v. each totalsOf (descrOf v)) r ⌝ }
 {
     if string_at(text, at) {
         return plain_at(text, at);
@@ -138,8 +138,8 @@ fn inner_at(text: &[u8], at: usize, room: usize) -> Judged
     judge(text, at, room)
 }
 
-// The string whose quote stands at `at`, as a type string.
-fn plain_at(text: &[u8], at: usize) -> Judged
+// The verdict on the string whose quote is at `at`, as a type string.
+fn plain_at(text: &[u8], at: usize) -> DescrJudged
     requires { ⌜ at < length (now text) ⌝ }
     ensures { λ r. ⌜ r .ended ≡ spelled (byteAt (now (text .entry)) at) (now (text .entry)) (at + 1) .ended ⌝ }
     ensures { λ r. ⌜ verdict (r .verdict) ≡ typedAt (now (text .entry)) at ⌝ }
@@ -147,7 +147,7 @@ fn plain_at(text: &[u8], at: usize) -> Judged
     let t = typed_at(text, at + 1, text[at]);
     let end = t.ended;
     let read = t.read;
-    Judged {
+    DescrJudged {
         ended: end,
         verdict: typed(read),
     }

@@ -1,3 +1,3 @@
-pub mod Whole
-pub mod Typed
+pub mod Placed
 pub mod Outcomes
+pub mod Typed

@@ -1,65 +1,45 @@
--- A place that is given has a type that readings give: its record was checked, and no plain type of it is another. So behind its place an element's reading never has
--- a 27 of its own, and document 01's "A string element is read after its place: 29, 23" is all that is left (26 for another type aside). Assumes nothing.
-use Prim.Native.Nat.{ℕ, zero, suc, _+_}
+-- A place that is given has a type that readings give: its record was checked, and no plain type of it is another. So after its place an element's reading never has
+-- a 27 of its own, and document 01's "A string element is read after its place: 29, 23" is all that is left (26 for another type aside).
+use Prim.Native.Nat.{ℕ, _+_}
 use mathlib.Core.Path.{_≡_, refl, ap, _∙_}
 use mathlib.Core.Bool.{Bool, true, false, not}
-use mathlib.Core.List.{List, [], _∷_}
-use lib.Dec.{ltb, leb}
+use mathlib.Core.List.{List}
+use lib.Dec.{ltb}
 use lib.ListN.{length}
-use borrow.Author.Tests.{not-false}
 use Rattle.counts.specs.Outcome.{Outcome, gives, refused, then, each, unless}
 use Rattle.counts.proofs.Apart.{refused-gives, gives-apart}
 use Rattle.type_str.specs.Text.{isType}
 use Rattle.type_str.specs.declared.TypeStr.{TypeStr}
 use Rattle.dtype.specs.declared.Order.{Order}
-use Rattle.dtype.specs.Dtype.{Dtype, Fields, plain, array, record-of, end-of-fields, field-then}
-use Rattle.dtype.specs.Entries.{someEntry, someEntryIn, plainOnly, hasObject}
+use Rattle.dtype.specs.Entries.{hasObject}
 use Rattle.dtype.specs.Shape.{inRange}
 use Rattle.dtype.specs.Record.{Record}
-use Rattle.dtype.specs.Paths.{plainAt, plainOf}
+use Rattle.dtype.specs.Paths.{plainAt}
 use Rattle.dtype.specs.Places.{dataBytes, place}
-use Rattle.dtype.proofs.Seen.{or-left, or-right}
-use Rattle.table.specs.Checked.{checkedRecord}
-use Rattle.table.proofs.Accepts.{accepts-valid}
-use Rattle.area.specs.declared.Run.{Run}
-use Rattle.places.specs.Place.{runFrom, placed, placeOf}
-use Rattle.strings.specs.Elements.{kindOf, bytesIn, pointsIn}
-use Rattle.strings.specs.Rooms.{roomed, readBytes, readPoints}
-use Rattle.placed.specs.Bytes.{bytesOf}
+use Rattle.check_table.specs.Reading.{untyped}
+use Rattle.check_record.specs.Checked.{checkedRecord}
+use Rattle.check_record.proofs.Accepts.{accepts-valid}
+use Rattle.place_area.specs.declared.Run.{Run}
+use Rattle.place.specs.Place.{runFrom, placed, placeOf}
+use Rattle.place.proofs.Walks.{plain-typed}
+use Rattle.string_value.specs.Elements.{kindOf, bytesIn, pointsIn}
+use Rattle.string_value.specs.Rooms.{roomed, readBytes, readPoints}
+use Rattle.element.specs.Bytes.{runBytes}
 use Rattle.element.specs.Element.{elementBytes, elementPoints}
 
 passed : {A : Type 0} {a : A} (b : Bool) (n : ℕ) (o : Outcome A) → unless b n o ≡ gives a → o ≡ gives a
 passed true n o e = refused-gives e
 passed false n o e = e
 
--- what no plain type of a dtype is, no path leads to
-module _ (test : TypeStr → Bool) where
-  mutual
-    none-at : (d : Dtype) (p : List ℕ) (ty : TypeStr) → someEntry (plainOnly test) d ≡ false → plainAt d p ≡ gives ty → test ty ≡ false
-    none-at (plain t) [] ty n e = let z : t ≡ ty = cc in rw (← z) n
-    none-at (plain t) (i ∷ p) ty n e = refused-gives e
-    none-at (array k d) [] ty n e = refused-gives e
-    none-at (array k d) (i ∷ p) ty n e = none-at d p ty n (passed (leb k i) 26 (plainAt d p) e)
-    none-at (record-of fs) [] ty n e = refused-gives e
-    none-at (record-of fs) (i ∷ p) ty n e = none-of fs i p ty n e
-
-    none-of : (fs : Fields) (i : ℕ) (p : List ℕ) (ty : TypeStr) → someEntryIn (plainOnly test) fs ≡ false → plainOf fs i p ≡ gives ty → test ty ≡ false
-    none-of end-of-fields i p ty n e = refused-gives e
-    none-of (field-then name d fs) zero p ty n e = none-at d p ty (or-left (someEntry (plainOnly test) d) (someEntryIn (plainOnly test) fs) n) e
-    none-of (field-then name d fs) (suc i) p ty n e = none-of fs i p ty (or-right (someEntry (plainOnly test) d) (someEntryIn (plainOnly test) fs) n) e
-
-abbrev untyped : TypeStr → Bool
-untyped t = not (isType t)
-
 module _ (file start : ℕ) (x p : List ℕ) (u : Run) where
-  run-typed : (r : Record) → someEntry (plainOnly untyped) (r .dtype) ≡ false → (c : Outcome TypeStr) → plainAt (r .dtype) p ≡ c
+  run-typed : (r : Record) → untyped (r .dtype) ≡ false → (c : Outcome TypeStr) → plainAt (r .dtype) p ≡ c
       → each (λ ty. runFrom (place start r x p) ty) c ≡ gives u → isType (u .kind) ≡ true
   run-typed r n (gives ty) e k =
       let z : ty ≡ u .kind = ap (λ (v : Run). v .kind) (gives-apart k) in
-      not-false (isType (u .kind)) (none-at untyped (r .dtype) p (u .kind) n (e ∙ ap gives z))
+      plain-typed (r .dtype) p (u .kind) n (e ∙ ap gives z)
   run-typed r n (refused m) e k = refused-gives k
 
-  in-record-typed : (r : Record) → someEntry (plainOnly untyped) (r .dtype) ≡ false → placed file start r x p ≡ gives u → isType (u .kind) ≡ true
+  in-record-typed : (r : Record) → untyped (r .dtype) ≡ false → placed file start r x p ≡ gives u → isType (u .kind) ≡ true
   unfolding placed
   in-record-typed r n h =
       run-typed r n (plainAt (r .dtype) p) refl
@@ -72,7 +52,7 @@ module _ (file start : ℕ) (x p : List ℕ) (u : Run) where
       go : (c : Outcome Record) → checkedRecord t ns s o ≡ c → then c (λ r. placed file start r x p) ≡ gives u → isType (u .kind) ≡ true
       go (gives r) e k =
           let v = accepts-valid t ns s o r e in
-          in-record-typed r (ap (λ (y : Record). someEntry (plainOnly untyped) (y .dtype)) (v .1) ∙ v .2 .typed) k
+          in-record-typed r (ap (λ (y : Record). untyped (y .dtype)) (v .1) ∙ v .2 .typed) k
       go (refused n) e k = refused-gives k
 
 -- ---- so of an element
@@ -82,11 +62,11 @@ then-same (refused n) f g h = refl
 
 module _ (file : List ℕ) (start : ℕ) (t ns s : List ℕ) (o : Order) (x p room : List ℕ) where
   pub bytes-after : elementBytes file start t ns s o x p room
-      ≡ then (placeOf (length file) start t ns s o x p) (λ u. then (bytesIn (kindOf (u .kind .letter)) (bytesOf file u)) (roomed 23 room))
+      ≡ then (placeOf (length file) start t ns s o x p) (λ u. then (bytesIn (kindOf (u .kind .letter)) (runBytes file u)) (roomed 23 room))
   unfolding elementBytes readBytes
   bytes-after = then-same (placeOf (length file) start t ns s o x p) _ _ (λ u e. rw (readBytes, place-typed (length file) start x p u t ns s o e))
 
   pub points-after : elementPoints file start t ns s o x p room
-      ≡ then (placeOf (length file) start t ns s o x p) (λ u. then (pointsIn (kindOf (u .kind .letter)) (u .kind .order) (bytesOf file u)) (roomed 23 room))
+      ≡ then (placeOf (length file) start t ns s o x p) (λ u. then (pointsIn (kindOf (u .kind .letter)) (u .kind .order) (runBytes file u)) (roomed 23 room))
   unfolding elementPoints readPoints
   points-after = then-same (placeOf (length file) start t ns s o x p) _ _ (λ u e. rw (readPoints, place-typed (length file) start x p u t ns s o e))

@@ -1,21 +1,21 @@
 -- Document 01, "The refusal numbers": "A string element is read after its place: 29, 23." The element's bytes are those of its place; what they stand for, 26 for
--- another type, 29 and 23 are Rooms.antt of the crate strings, and all refusals before them Place.antt of the crate places. The 27 of Rooms.antt is none of an element:
--- a place has a type that readings give (proofs/Typed.antt). Definitions only. Assumes nothing.
+-- another type, 29 and 23 are string_value/specs/Rooms.antt, and all refusals before them place/specs/Place.antt. No element has the 27 of Rooms.antt: a place has a type
+-- that readings give (proofs/Typed.antt).
 use Prim.Native.Nat.{ℕ}
 use mathlib.Core.List.{List}
 use lib.ListN.{length}
 use Rattle.counts.specs.Outcome.{Outcome, then}
 use Rattle.dtype.specs.declared.Order.{Order}
-use Rattle.places.specs.Place.{placeOf}
-use Rattle.strings.specs.Rooms.{readBytes, readPoints}
-use Rattle.placed.specs.Bytes.{bytesOf}
+use Rattle.place.specs.Place.{placeOf}
+use Rattle.string_value.specs.Rooms.{readBytes, readPoints}
+use Rattle.element.specs.Bytes.{runBytes}
 
 -- ---- what goes to the room, or the first refusal
 
 -- of an element of S or V
 unfoldable pub elementBytes : (file : List ℕ) (start : ℕ) (table names shape : List ℕ) → Order → (index path room : List ℕ) → Outcome (List ℕ)
-elementBytes file start t ns s o x p room = then (placeOf (length file) start t ns s o x p) (λ u. readBytes (u .kind) (bytesOf file u) room)
+elementBytes file start t ns s o x p room = then (placeOf (length file) start t ns s o x p) (λ u. readBytes (u .kind) (runBytes file u) room)
 
 -- of an element of U
 unfoldable pub elementPoints : (file : List ℕ) (start : ℕ) (table names shape : List ℕ) → Order → (index path room : List ℕ) → Outcome (List ℕ)
-elementPoints file start t ns s o x p room = then (placeOf (length file) start t ns s o x p) (λ u. readPoints (u .kind) (bytesOf file u) room)
+elementPoints file start t ns s o x p room = then (placeOf (length file) start t ns s o x p) (λ u. readPoints (u .kind) (runBytes file u) room)

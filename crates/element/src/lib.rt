@@ -1,15 +1,15 @@
-// String elements at their places (document 01, "String elements"): a file, where its data starts, its record, an index and a path in; what the element there stands
-// for out to lent room. The place is judged first, then the element. What goes to the room is specs/Element.antt, what each answer stands for Answer.antt of the crate
-// placed. No function here has a `requires`.
+// String elements at their places (document 01, "String elements"): a file, where its data starts, its record, an index and a path in; what the element there stands for out to
+// lent room, or the place's refusal, then 26 for another type, 29, 23. A refusal leaves the room as it was. Called by the C interface.
 use counts::Bytes;
 use dtype::Order;
-use placed::BytesElement;
-use placed::PointsElement;
-ghost use Rattle.strings.specs.Rooms.{Owes};
-ghost use Rattle.placed.specs.Answer.{bytesAnswer, pointsAnswer};
+use place::Placed;
+use refusal::BytesAnswer;
+use refusal::PointsAnswer;
+ghost use Rattle.refusal.specs.Answers.{bytesAnswer, pointsAnswer};
+ghost use Rattle.string_value.specs.Rooms.{Owes};
 ghost use Rattle.element.specs.Element.{elementBytes, elementPoints};
 
-// Reads the element of S or V that an index and a path name. The room is counted in bytes.
+// Reads the element of S or V that an index and a path name, and returns how many bytes were written.
 pub fn read_bytes(
     file: &[u8],
     start: Bytes,
@@ -20,18 +20,20 @@ pub fn read_bytes(
     index: &[u64],
     path: &[u64],
     out: &mut [u8],
-) -> BytesElement
+) -> BytesAnswer
     ensures { λ r. ⌜ Owes (elementBytes (now (file .entry)) (start .0) (now (table .entry)) (now (names .entry)) (now (shape .entry)) order (now (index .entry)) (now (path .entry)) (now (out .entry))) (now (out .entry)) (bytesAnswer r) (now (out .exit)) ⌝ }
 {
     let length = Bytes(file.len() as u64);
-    placed::bytes_at(
-        file,
-        places::place(length, start, table, names, shape, order, index, path),
-        out,
-    )
+    match place::place(length, start, table, names, shape, order, index, path) {
+        Placed::At(run) => {
+            let kind = run.kind;
+            string_element::read_bytes(place_area::part(file, run), kind, out)
+        }
+        Placed::Refused(why) => BytesAnswer::Refused(why),
+    }
 }
 
-// Reads the element of U that an index and a path name. The room is counted in code points.
+// Reads the element of U that an index and a path name, and returns how many code points were written.
 pub fn read_points(
     file: &[u8],
     start: Bytes,
@@ -42,13 +44,15 @@ pub fn read_points(
     index: &[u64],
     path: &[u64],
     out: &mut [u32],
-) -> PointsElement
+) -> PointsAnswer
     ensures { λ r. ⌜ Owes (elementPoints (now (file .entry)) (start .0) (now (table .entry)) (now (names .entry)) (now (shape .entry)) order (now (index .entry)) (now (path .entry)) (now (out .entry))) (now (out .entry)) (pointsAnswer r) (now (out .exit)) ⌝ }
 {
     let length = Bytes(file.len() as u64);
-    placed::points_at(
-        file,
-        places::place(length, start, table, names, shape, order, index, path),
-        out,
-    )
+    match place::place(length, start, table, names, shape, order, index, path) {
+        Placed::At(run) => {
+            let kind = run.kind;
+            string_element::read_points(place_area::part(file, run), kind, out)
+        }
+        Placed::Refused(why) => PointsAnswer::Refused(why),
+    }
 }

@@ -1,2 +1,6 @@
-pub mod Whole
+pub mod FieldParts
+pub mod Filling
+pub mod Storing
+pub mod Text
+pub mod File
 pub mod Outcomes

@@ -1,50 +1,49 @@
 -- No second outcome satisfies the statements of `read`, `read_held` and `read_text`: an outcome is the answer and what the three rooms then hold. And which reading of
--- literals is meant does not matter, if it keeps the promise of crate grammar. Assumes nothing.
-use Prim.Native.Nat.{ℕ}
-use mathlib.Core.Path.{_≡_, sym, ap, _∙_}
+-- literals is meant does not matter, if it keeps the promise of crate literal_grammar. Assumes nothing.
+use mathlib.Core.Path.{_≡_, refl, sym, ap, _∙_}
 use mathlib.Core.List.{List}
 use mathlib.Core.Bool.{Bool}
+use Prim.Native.Nat.{ℕ}
+use Rattle.counts.specs.Outcome.{Outcome}
 use Rattle.counts.specs.OneOutcome.{OneOutcome}
 use Rattle.counts.proofs.OneOutcome.{pair-of}
-use Rattle.counts.proofs.Apart.{gives-apart, refused-gives, refused-apart, gives-refused}
-use Rattle.refusal.proofs.Names.{number-apart}
+use Rattle.refusal.proofs.Names.{refusal-back}
+use Rattle.refusal.proofs.Answers.{answerFor, answer-one}
 use Rattle.record.specs.Rooms.{Rooms, Lent}
 use Rattle.record.specs.Header.{Reading, Keeps, headerBy}
 use Rattle.record.proofs.OneHeader.{header-same}
-use Rattle.prefix.specs.declared.Version.{Version}
-use Rattle.prefix.proofs.Outcomes.{version-apart}
+use Rattle.header_prefix.specs.declared.Version.{Version}
+use Rattle.header_prefix.proofs.Outcomes.{versionBack, version-back}
 use Rattle.judge.specs.Judged.{reading}
 use Rattle.judge.proofs.Top.{reading-keeps}
-use Rattle.fill.specs.declared.Said.{Said}
-use Rattle.fill.specs.declared.TextRead.{TextRead}
-use Rattle.fill.proofs.Reading as text
-use Rattle.header.specs.declared.Header.{Header}
+use Rattle.header.specs.declared.TextRead.{TextRead}
 use Rattle.header.specs.declared.HeaderRead.{HeaderRead}
-use Rattle.header.specs.Answer.{ReadsText, Told, headerIs, answer, ReadsHeld, Reads}
+use Rattle.header.specs.Reads.{textAnswer, ReadsText, HeaderInfo, answer, ReadsHeld, Reads}
 
--- ---- no two answers stand for the same
-header-eq : {v w : Version} {s u : Said} {a b : ℕ} → v ≡ w → s ≡ u → a ≡ b → _≡_ {A = Header} (record { version = v; said = s; start = record { 0 = a } }) (record { version = w; said = u; start = record { 0 = b } })
-header-eq hv hs ha = cc
+-- ---- an answer can be found again from what it stands for
+text-same : (a : TextRead) → answerFor TextRead.Read TextRead.Refused (textAnswer a) ≡ a
+text-same (TextRead.Read info) = refl
+text-same (TextRead.Refused why) = ap TextRead.Refused (refusal-back why)
 
-header-apart : (h k : Header) → headerIs h ≡ headerIs k → h ≡ k
-header-apart h k e =
-    header-eq (version-apart (h .version) (k .version) (ap (λ (t : Told). t .version) e)) (ap (λ (t : Told). t .said) e) (ap (λ (t : Told). t .data-start) e)
+abbrev readFor : HeaderInfo → HeaderRead
+readFor h = HeaderRead.Read (record { version = versionBack (h .version); info = h .info; start = record { 0 = h .data-start } })
 
-apart : (x y : HeaderRead) → answer x ≡ answer y → x ≡ y
-apart (HeaderRead.Read h) (HeaderRead.Read k) e = ap HeaderRead.Read (header-apart h k (gives-apart e))
-apart (HeaderRead.Read h) (HeaderRead.Refused g) e = gives-refused e
-apart (HeaderRead.Refused f) (HeaderRead.Read k) e = refused-gives e
-apart (HeaderRead.Refused f) (HeaderRead.Refused g) e = ap HeaderRead.Refused (number-apart f g (refused-apart e))
+file-same : (a : HeaderRead) → answerFor readFor HeaderRead.Refused (answer a) ≡ a
+file-same (HeaderRead.Read h) = ap (λ (v : Version). HeaderRead.Read (record { version = v; info = h .info; start = h .start })) (version-back (h .version))
+file-same (HeaderRead.Refused why) = ap HeaderRead.Refused (refusal-back why)
+
+file-one : (o : Outcome HeaderInfo) → OneOutcome (λ r. answer r ≡ o)
+file-one o = answer-one answer readFor HeaderRead.Refused file-same o
 
 -- ---- the outcomes
 pub read-one : (file : List ℕ) (l : Lent) → OneOutcome {A = HeaderRead × Lent} (λ o. Reads file l (o .0) (o .1))
-read-one file l x y p q = pair-of (apart (x .0) (y .0) (p .answered ∙ sym (q .answered))) (p .after ∙ sym (q .after))
+read-one file l x y p q = pair-of (file-one _ (x .0) (y .0) (p .answered) (q .answered)) (p .after ∙ sym (q .after))
 
 pub read-held-one : (longer : Bool) (file : List ℕ) (l : Lent) → OneOutcome {A = HeaderRead × Lent} (λ o. ReadsHeld longer file l (o .0) (o .1))
-read-held-one longer file l x y p q = pair-of (apart (x .0) (y .0) (p .answered ∙ sym (q .answered))) (p .after ∙ sym (q .after))
+read-held-one longer file l x y p q = pair-of (file-one _ (x .0) (y .0) (p .answered) (q .answered)) (p .after ∙ sym (q .after))
 
 pub read-text-one : (text : List ℕ) (l : Lent) → OneOutcome {A = TextRead × Lent} (λ o. ReadsText text l (o .0) (o .1))
-read-text-one = text.read-text-one
+read-text-one text l x y p q = pair-of (answer-one textAnswer TextRead.Read TextRead.Refused text-same _ (x .0) (y .0) (p .answered) (q .answered)) (p .after ∙ sym (q .after))
 
 -- ---- any reading that keeps the promise
 pub any-reading : (other : Reading) → Keeps other → (file : List ℕ) (rooms : Rooms) → headerBy reading file rooms ≡ headerBy other file rooms

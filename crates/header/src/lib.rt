@@ -1,22 +1,39 @@
-// The header reader (document 01, "From first byte to text" and "The record"): any bytes and three lent rooms in, the header or one number out. Nothing is
-// written before the last refusal is ruled out. No public function here has a `requires`. What each answer stands for is in specs/Answer.antt.
-use counts::Bytes;
-use fill::Said;
-use fill::TextRead;
-use prefix::Prefix;
-use prefix::PrefixRead;
-use prefix::Version;
-use prefix::text_start;
-use refusal::Refusal;
-ghost use Prim.Native.Nat.{_≤_};
-ghost use Rattle.record.specs.Prefix.{most-text};
-ghost use Rattle.prefix.specs.Answer.{prefixIs};
-ghost use Rattle.header.specs.Answer.{lent, Reads, ReadsHeld, ReadsBehind, ReadsText};
+// Reads a header (document 01, "From first byte to text" and "The record"): its prefix, then its text, whose record is written to three lent rooms; or the
+// first refusal that applies, and then nothing is written. The listing program and the C interface call it.
+mod fill;
 
-// A file's header: its version, what its record has beside the lent rooms, and where the data starts.
+use counts::Bytes;
+use dtype::Order;
+use header_prefix::Prefix;
+use header_prefix::PrefixRead;
+use header_prefix::Version;
+use header_prefix::text_start;
+use judge::Judged;
+use refusal::Refusal;
+ghost use mathlib.Core.Path.{_≡_};
+ghost use Prim.Native.Nat.{_≤_};
+ghost use Rattle.refusal.specs.Numbers.{numberOf};
+ghost use Rattle.record.specs.Prefix.{most-text};
+ghost use Rattle.header_prefix.specs.Answer.{prefixIs};
+ghost use Rattle.header.specs.Reads.{lent, missing as missingNumber, Reads, ReadsHeld, ReadsAfterPrefix, ReadsText};
+
+// What is known of a record beside its table, names and shape, which are in the lent rooms: its order, and how much of each room it takes.
+pub struct RecordInfo {
+    pub order: Order,
+    pub rank: usize,
+    pub entries: usize,
+    pub names: usize,
+}
+
+pub enum TextRead {
+    Read(RecordInfo),
+    Refused(Refusal),
+}
+
+// A file's header: its version, what is known of its record beside the lent rooms, and where the data starts.
 pub struct Header {
     pub version: Version,
-    pub said: Said,
+    pub info: RecordInfo,
     pub start: Bytes,
 }
 
@@ -25,14 +42,14 @@ pub enum HeaderRead {
     Refused(Refusal),
 }
 
-// The header that a file begins with. Its record's table, names and shape are written to the front of the lent rooms.
+// The header that a whole file begins with. Its record's table, names and shape are written to the front of the lent rooms.
 pub fn read(file: &[u8], table: &mut [u64], names: &mut [u8], shape: &mut [u64]) -> HeaderRead
     ensures { λ r. ⌜ Reads (now (file .entry)) (lent (now (table .entry)) (now (names .entry)) (now (shape .entry))) r (lent (now (table .exit)) (now (names .exit)) (now (shape .exit))) ⌝ }
 {
     read_held(file, false, table, names, shape)
 }
 
-// The same of a file of which only the first bytes are held, and which is longer or is not.
+// The same of a file of which only the first bytes are held: `longer` if it has more.
 pub fn read_held(
     file: &[u8],
     longer: bool,
@@ -42,14 +59,14 @@ pub fn read_held(
 ) -> HeaderRead
     ensures { λ r. ⌜ ReadsHeld longer (now (file .entry)) (lent (now (table .entry)) (now (names .entry)) (now (shape .entry))) r (lent (now (table .exit)) (now (names .exit)) (now (shape .exit))) ⌝ }
 {
-    match prefix::read(file) {
-        PrefixRead::Read(p) => read_behind(file, longer, p, table, names, shape),
-        PrefixRead::Refused(r) => HeaderRead::Refused(r),
+    match header_prefix::read(file) {
+        PrefixRead::Read(p) => read_after_prefix(file, longer, p, table, names, shape),
+        PrefixRead::Refused(why) => HeaderRead::Refused(why),
     }
 }
 
-// The header behind its prefix.
-fn read_behind(
+// The header after its prefix: 3 or 23 where the text is not all there.
+fn read_after_prefix(
     file: &[u8],
     longer: bool,
     p: Prefix,
@@ -58,27 +75,41 @@ fn read_behind(
     shape: &mut [u64],
 ) -> HeaderRead
     requires { ⌜ p .length ≤ most-text ⌝ }
-    ensures { λ r. ⌜ ReadsBehind longer (now (file .entry)) (prefixIs p) (lent (now (table .entry)) (now (names .entry)) (now (shape .entry))) r (lent (now (table .exit)) (now (names .exit)) (now (shape .exit))) ⌝ }
+    ensures { λ r. ⌜ ReadsAfterPrefix longer (now (file .entry)) (prefixIs p) (lent (now (table .entry)) (now (names .entry)) (now (shape .entry))) r (lent (now (table .exit)) (now (names .exit)) (now (shape .exit))) ⌝ }
 {
     let version = p.version;
     let start = text_start(version);
     let end = start + p.length;
     if file.len() < end {
-        return HeaderRead::Refused(fronts::missing(longer));
+        return HeaderRead::Refused(missing(longer));
     }
-    match fill::read_text(&file[start..end], table, names, shape) {
-        TextRead::Read(said) => HeaderRead::Read(Header {
+    match read_text(&file[start..end], table, names, shape) {
+        TextRead::Read(info) => HeaderRead::Read(Header {
             version: version,
-            said: said,
+            info: info,
             start: Bytes(end as u64),
         }),
-        TextRead::Refused(r) => HeaderRead::Refused(r),
+        TextRead::Refused(why) => HeaderRead::Refused(why),
     }
 }
 
-// The record of a header's text.
+// Why a text is not all there: it is not held, or the file ends before it does.
+fn missing(longer: bool) -> Refusal
+    ensures { λ r. ⌜ numberOf r ≡ missingNumber longer ⌝ }
+{
+    if longer {
+        Refusal::Room
+    } else {
+        Refusal::Incomplete
+    }
+}
+
+// The record of a header's text: the text is judged first, so that nothing is written before the last refusal is ruled out.
 pub fn read_text(text: &[u8], table: &mut [u64], names: &mut [u8], shape: &mut [u64]) -> TextRead
     ensures { λ r. ⌜ ReadsText (now (text .entry)) (lent (now (table .entry)) (now (names .entry)) (now (shape .entry))) r (lent (now (table .exit)) (now (names .exit)) (now (shape .exit))) ⌝ }
 {
-    fill::read_text(text, table, names, shape)
+    match judge::judge(text) {
+        Judged::Fits(plan) => fill::store_record(text, plan, table, names, shape),
+        Judged::Refused(why) => TextRead::Refused(why),
+    }
 }

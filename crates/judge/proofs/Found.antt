@@ -1,128 +1,127 @@
--- From where a key's value was found to what it is: the order, the shape and the dtype of the dict. Assumes nothing.
+-- What is found for the keys `shape` and `descr`: from the verdict on a value to the answer for its key, and from the answer to the value that counts. Assumes nothing.
 use Prim.Native.Nat.{ℕ}
 use mathlib.Core.Path.{_≡_, refl, sym, ap, subst, _∙_}
 use mathlib.Core.List.{List}
-use Rattle.counts.specs.Outcome.{Outcome, gives, refused, then, each}
-use Rattle.counts.proofs.Apart.{each-none}
-use Rattle.counts.proofs.Holds.{each-back}
-use Rattle.grammar.specs.Value.{Value}
+use mathlib.Core.Bool.{Bool, true, false}
+use Rattle.counts.specs.Outcome.{Outcome, gives, refused, then, each, unless}
+use Rattle.counts.proofs.Apart.{gives-apart, refused-gives, each-none}
+use Rattle.counts.proofs.Holds.{each-back, then-back, unless-back}
+use Rattle.counts.proofs.OneOutcome.{told}
+use Rattle.literal_grammar.specs.Value.{Value}
 use Rattle.refusal.specs.declared.Refusal.{Refusal}
 use Rattle.refusal.specs.Numbers.{numberOf}
 use Rattle.dtype.specs.Dtype.{Dtype}
-use Rattle.record.specs.Dict.{key-order, key-shape, key-descr}
+use Rattle.dtype.specs.Limits.{overDimensions}
+use Rattle.record.specs.Dict.{key-shape, key-descr}
 use Rattle.record.specs.Dimensions.{subShape, ranked, shapeOf}
 use Rattle.record.specs.Descr.{descrOf}
-use Rattle.record.specs.FromValue.{orderOf}
-use Rattle.tokens.specs.Node.{Node}
-use Rattle.classes.specs.Got.{Got}
+use Rattle.literal_tokens.specs.Node.{Node}
+use Rattle.literal_bytes.specs.Got.{Got, got}
 use Rattle.literal.specs.Forget.{forget}
-use Rattle.grammar.specs.Nesting.{most-open}
+use Rattle.literal_grammar.specs.Nesting.{most-open}
 use Rattle.literal.specs.Literal.{value}
-use Rattle.products.specs.Answer.{outlined}
-use Rattle.products.specs.Outline.{outlineOf}
-use Rattle.products.specs.declared.Outline.{Outline}
-use Rattle.products.specs.declared.Verdict as products
-use Rattle.keys.specs.declared.ShapeFound as shape
-use Rattle.keys.specs.declared.ShapeFound.{ShapeFound}
-use Rattle.keys.specs.declared.DescrFound as descr
-use Rattle.keys.specs.declared.DescrFound.{DescrFound}
-use Rattle.key_names.specs.declared.Declared.{Declared}
-use Rattle.keys.specs.Pairs.{nodeFor}
-use Rattle.key_names.specs.Answer.{ordered, OrderIs}
-use Rattle.keys.specs.Answer.{ShapeFoundIs, DescrFoundIs}
-use Rattle.keys.proofs.Nodes.{node-value}
-use Rattle.sums.specs.Totals.{totalsOf}
-use Rattle.sums.specs.Verdict as verdicts
-use Rattle.sums.specs.declared.Totals.{Totals}
-use Rattle.sums.specs.declared.Verdict as sums
-use Rattle.judge.specs.declared.OrderRead.{OrderRead}
-use Rattle.judge.specs.declared.ShapeRead.{ShapeRead}
-use Rattle.judge.specs.declared.DescrRead.{DescrRead}
-use Rattle.judge.specs.Steps.{neededAt, orderAt, shapeAt, dtypeAt, orderAnswer, ShapeFor, DescrFor, ShapeIs, DescrIs, RankedOf}
-use Rattle.judge.specs.Judged.{inside, Counts}
+use Rattle.shape_verdict.specs.Answer.{outlined}
+use Rattle.shape_verdict.specs.Outline.{outlineOf}
+use Rattle.shape_verdict.specs.declared.Outline.{Outline}
+use Rattle.shape_verdict.specs.declared.ShapeVerdict.{ShapeVerdict}
+use Rattle.judge_limits.specs.declared.Limit.{Limit}
+use Rattle.judge_limits.specs.Answer.{limitAnswer, rankLimit}
+use Rattle.shape_text.specs.Answer.{valueOr, dimensionsAt, JudgesShape}
+use Rattle.shape_text.specs.declared.ShapeJudged.{ShapeJudged}
+use Rattle.descr_totals.specs.Totals.{totalsOf}
+use Rattle.descr_totals.specs.Verdict.{verdict}
+use Rattle.descr_totals.specs.declared.Totals.{Totals}
+use Rattle.descr_field.specs.declared.DescrJudged.{DescrJudged}
+use Rattle.descr.specs.Judges.{JudgesAt}
+use Rattle.judge.specs.declared.Shape.{Shape}
+use Rattle.judge.specs.declared.Descr.{Descr}
+use Rattle.judge.specs.declared.keys.ShapeFound.{ShapeFound}
+use Rattle.judge.specs.declared.keys.DescrFound.{DescrFound}
+use Rattle.judge.specs.Pairs.{nodeFor}
+use Rattle.judge.specs.Found.{shapeAnswer, descrAnswer, placedShape, placedDescr, rankedAt, FoundIs, ShapeFoundIs, DescrFoundIs}
+use Rattle.judge.specs.Judged.{inside, Counts, ShapeOf, DescrOf}
 
--- ---- a key
-module _ (s : List ℕ) (at : ℕ) (w : List ℕ) where
-  abbrev g : Got Node
-  g = value most-open s at
+-- ---- the answer for a key
+module _ {A B : Type 0} (of : Value → Outcome A) (kept : ℕ → A → B) (k : ℕ) (s : List ℕ) where
+  -- before any value
+  pub found-none : FoundIs of kept k s (refused 9) (refused 9)
+  found-none = record { place = 0; stands = λ n h. refused-gives h; says = refl }
 
-  -- the value that counts, its places forgotten
-  value-is : (p : ℕ) (v : Counts s at w p) → neededAt w g ≡ gives (forget (v .node))
-  value-is p v = sym (node-value w g) ∙ ap (each forget) (v .found)
+  -- of the value at a position
+  found-here : (at : ℕ) (n : Node) (e : ℕ) (answer : Outcome B) → value k s at ≡ got n e → answer ≡ each (kept at) (of (forget n)) → FoundIs of kept k s answer (gives n)
+  found-here at n e answer h hx = record { place = at; stands = λ m z. (e, h ∙ ap (λ (x : Node). got x e) (gives-apart z)); says = hx }
 
-  none-is : (m : ℕ) → nodeFor w g ≡ refused m → m ≡ 9 → neededAt w g ≡ refused 9
-  none-is m e h = sym (node-value w g) ∙ ap (each forget) (e ∙ ap refused h)
+each-each : {A B C : Type 0} (f : A → B) (g : B → C) (o : Outcome A) → each g (each f o) ≡ each (λ a. g (f a)) o
+each-each f g (gives a) = refl
+each-each f g (refused n) = refl
 
--- ---- the order
-then-each : {A B C : Type 0} (f : A → B) (h : B → Outcome C) (o : Outcome A) → then o (λ a. h (f a)) ≡ then (each f o) h
-then-each f h (gives a) = refl
-then-each f h (refused n) = refl
+ranked-each : (at : ℕ) (o : Outcome (List ℕ)) → then (each outlineOf o) (rankedAt at) ≡ each (λ ds. placedShape at (outlineOf ds)) (then o ranked)
+unfolding outlineOf
+ranked-each at (gives ds) = go (overDimensions ds)
+  where
+    go : (b : Bool) → each {A = Unit} (λ u. placedShape at (outlineOf ds)) (unless b 13 (gives tt)) ≡ each (λ ds. placedShape at (outlineOf ds)) (unless b 13 (gives ds))
+    go true = refl
+    go false = refl
+ranked-each at (refused n) = refl
 
-pub order-is : (s : List ℕ) (at : ℕ) (r : OrderRead) (x : Declared) → orderAnswer r ≡ ordered x → OrderIs x (nodeFor key-order (value most-open s at)) → orderAnswer r ≡ orderAt s at
-order-is s at r x h ho = h ∙ ho ∙ then-each forget orderOf (nodeFor key-order (value most-open s at)) ∙ ap (λ (y : Outcome Value). then y orderOf) (node-value key-order (value most-open s at))
+-- 13 where the limit is broken
+pub shape-by : (at : ℕ) (v : ShapeVerdict) (o : Outline) (x y : Limit) → v ≡ ShapeVerdict.Good o → limitAnswer x ≡ rankLimit o → x ≡ y
+    → each {A = Unit} (λ u. placedShape at o) (limitAnswer y) ≡ then (outlined v) (rankedAt at)
+shape-by at v o x y hv hx e = ap (each {A = Unit} (λ u. placedShape at o)) (told limitAnswer hx e) ∙ ap (λ (z : ShapeVerdict). then (outlined z) (rankedAt at)) (sym hv)
 
-module _ (s : List ℕ) (at : ℕ) where
-  -- ---- the shape
-  abbrev ShapeAt : ℕ → products.Verdict → Type 0
-  ShapeAt p x = (v : Counts s at key-shape p) × (outlined x ≡ each outlineOf (subShape (forget (v .node))))
+-- by the verdict on the value at the position
+module _ (k : ℕ) (s : List ℕ) (at : ℕ) where
+  pub shape-here : (j : ShapeJudged) (x : ShapeFound) → JudgesShape (value k s at) j → shapeAnswer x ≡ then (outlined (j .verdict)) (rankedAt at)
+      → (n : Node) (e : ℕ) → value k s at ≡ got n e → ShapeFoundIs k s x (gives n)
+  shape-here j x hj hx n e h =
+      found-here shapeOf (λ at ds. placedShape at (outlineOf ds)) k s at n e (shapeAnswer x) h
+      (hx ∙ ap (λ (y : Outcome Outline). then y (rankedAt at)) (hj .says ∙ ap (λ (g : Got Node). each outlineOf (dimensionsAt g)) h) ∙ ranked-each at (subShape (forget n)))
 
-  shape-node : (o : Outcome Node) (p : ℕ) (x : products.Verdict) → nodeFor key-shape (value most-open s at) ≡ o → ShapeFoundIs inside s (shape.ShapeFound.At p x) o → ShapeAt p x
-  shape-node (gives n) p x e h = (record { node = n; end = h .0; found = e; stands = h .1 }, h .2)
-  shape-node (refused m) p x e h = absurd h
+  pub descr-here : (j : DescrJudged) (x : DescrFound) → JudgesAt (value k s at) j → descrAnswer x ≡ each (placedDescr at) (verdict (j .verdict))
+      → (n : Node) (e : ℕ) → value k s at ≡ got n e → DescrFoundIs k s x (gives n)
+  descr-here j x hj hx n e h =
+      found-here descrOf (λ at d. placedDescr at (totalsOf d)) k s at n e (descrAnswer x) h
+      (hx ∙ ap (λ (y : Outcome Totals). each (placedDescr at) y) (hj .says ∙ ap (λ (g : Got Node). then (valueOr 14 g) (λ v. each totalsOf (descrOf v))) h) ∙ each-each totalsOf (placedDescr at) (descrOf (forget n)))
 
-  shape-found : (r : ShapeFound) (p : ℕ) (x : products.Verdict) → ShapeFor s at r → r ≡ shape.ShapeFound.At p x → ShapeAt p x
-  shape-found r p x h e = shape-node (nodeFor key-shape (value most-open s at)) p x refl (subst (ShapeFor s at) e h)
+-- ---- the value that counts in the dict at a position
+module _ (text : List ℕ) (at : ℕ) where
+  -- what `of` reads in the value of the key w
+  abbrev pub keyAt : {A : Type 0} → List ℕ → (Value → Outcome A) → Outcome A
+  keyAt w of = then (nodeFor w (value most-open text at)) (λ n. of (forget n))
 
-  shape-by : (p : ℕ) (v : Counts s at key-shape p) (o : Outcome (List ℕ)) → subShape (forget (v .node)) ≡ o → shapeAt s at ≡ then o ranked
-  shape-by p v o h = ap (λ (x : Outcome Value). then x shapeOf) (value-is s at key-shape p v) ∙ ap (λ (x : Outcome (List ℕ)). then x ranked) h
+  module _ {A B : Type 0} (w : List ℕ) (of : Value → Outcome A) (kept : ℕ → A → B) (answer : Outcome B) (f : FoundIs of kept inside text answer (nodeFor w (value most-open text at))) where
+    found-refused : (m : ℕ) → answer ≡ refused m → keyAt w of ≡ refused m
+    found-refused m h = each-none (kept (f .place)) (keyAt w of) m (sym (f .says) ∙ h)
 
-  pub shape-good : (f : ShapeFound) (p : ℕ) (x : products.Verdict) (o : Outline) → ShapeFor s at f → f ≡ shape.ShapeFound.At p x → x ≡ products.Verdict.Good o → (r : ShapeRead) → RankedOf p o r → ShapeIs s at r (shapeAt s at)
-  shape-good f p x o h hf e r k =
-      let v = shape-found f p x h hf in
-      let b = each-back outlineOf (subShape (forget (v .0 .node))) o (sym (v .1) ∙ ap outlined e) in
-      subst (ShapeIs s at r) (sym (shape-by p (v .0) (gives (b .0)) (b .1))) (k s at (v .0) (b .0) (sym (b .2)) (b .1))
+    found-is : (b : B) → answer ≡ gives b → (a : A) × (keyAt w of ≡ gives a) × (c : Counts text at w (f .place)) × (of (forget (c .node)) ≡ gives a) × (kept (f .place) a ≡ b)
+    found-is b h =
+        let e = each-back (kept (f .place)) (keyAt w of) b (sym (f .says) ∙ h) in
+        let t = then-back (nodeFor w (value most-open text at)) (λ n. of (forget n)) (e .0) (e .1) in
+        let p = f .stands (t .0) (t .1) in
+        (e .0, e .1, record { node = t .0; end = p .0; found = t .1; stands = p .1 }, t .2, e .2)
 
-  pub shape-bad : (f : ShapeFound) (p : ℕ) (x : products.Verdict) (n : ℕ) → ShapeFor s at f → f ≡ shape.ShapeFound.At p x → outlined x ≡ refused n → (u : Refusal) → numberOf u ≡ n → ShapeIs s at (ShapeRead.Refused u) (shapeAt s at)
-  shape-bad f p x n h hf e u hu =
-      let v = shape-found f p x h hf in
-      subst (ShapeIs s at (ShapeRead.Refused u)) (sym (shape-by p (v .0) (refused n) (each-none outlineOf (subShape (forget (v .0 .node))) n (sym (v .1) ∙ e)))) hu
+  -- a shape has few dimensions
+  few : (v : Value) (s : List ℕ) → shapeOf v ≡ gives s → (subShape v ≡ gives s) × (overDimensions s ≡ false)
+  few v s h =
+      let t = then-back (subShape v) ranked s h in
+      let u = unless-back (overDimensions (t .0)) 13 (gives (t .0)) s (t .2) in
+      (t .1 ∙ u .1, subst (λ (x : List ℕ). overDimensions x ≡ false) (gives-apart (u .1)) (u .0))
 
-  shape-none-by : (o : Outcome Node) → nodeFor key-shape (value most-open s at) ≡ o → ShapeFoundIs inside s shape.ShapeFound.NoKey o → shapeAt s at ≡ refused 9
-  shape-none-by (gives n) e h = absurd h
-  shape-none-by (refused m) e h = ap (λ (x : Outcome Value). then x shapeOf) (none-is s at key-shape m e h)
+  module _ (x : ShapeFound) (f : ShapeFoundIs inside text x (nodeFor key-shape (value most-open text at))) where
+    pub shape-is : (p : Shape) → x ≡ ShapeFound.Is p → (s : List ℕ) × (keyAt key-shape shapeOf ≡ gives s) × ShapeOf text at p s
+    shape-is p h =
+        let r = found-is key-shape shapeOf (λ at ds. placedShape at (outlineOf ds)) (shapeAnswer x) f p (ap shapeAnswer h) in
+        let q = few (forget (r .2 .node)) (r .0) (r .3) in
+        (r .0, r .1, subst (λ (y : Shape). ShapeOf text at y (r .0)) (r .4) (record { counts = r .2; is = q .0; few = q .1; outlined = refl }))
 
-  pub shape-none : (f : ShapeFound) → ShapeFor s at f → f ≡ shape.ShapeFound.NoKey → ShapeIs s at (ShapeRead.Refused Refusal.NoKey) (shapeAt s at)
-  shape-none f h hf = subst (ShapeIs s at (ShapeRead.Refused Refusal.NoKey)) (sym (shape-none-by (nodeFor key-shape (value most-open s at)) refl (subst (ShapeFor s at) hf h))) refl
+    pub shape-refused : (why : Refusal) → x ≡ ShapeFound.Refused why → keyAt key-shape shapeOf ≡ refused (numberOf why)
+    shape-refused why h = found-refused key-shape shapeOf (λ at ds. placedShape at (outlineOf ds)) (shapeAnswer x) f (numberOf why) (ap shapeAnswer h)
 
-  -- ---- the dtype
-  abbrev DescrAt : ℕ → sums.Verdict → Type 0
-  DescrAt p x = (v : Counts s at key-descr p) × (verdicts.verdict x ≡ each totalsOf (descrOf (forget (v .node))))
+  module _ (x : DescrFound) (f : DescrFoundIs inside text x (nodeFor key-descr (value most-open text at))) where
+    pub descr-is : (q : Descr) → x ≡ DescrFound.Is q → (d : Dtype) × (keyAt key-descr descrOf ≡ gives d) × DescrOf text at q d
+    descr-is q h =
+        let r = found-is key-descr descrOf (λ at d. placedDescr at (totalsOf d)) (descrAnswer x) f q (ap descrAnswer h) in
+        (r .0, r .1, subst (λ (y : Descr). DescrOf text at y (r .0)) (r .4) (record { counts = r .2; is = r .3; totalled = refl }))
 
-  descr-node : (o : Outcome Node) (p : ℕ) (x : sums.Verdict) → nodeFor key-descr (value most-open s at) ≡ o → DescrFoundIs inside s (descr.DescrFound.At p x) o → DescrAt p x
-  descr-node (gives n) p x e h = (record { node = n; end = h .0; found = e; stands = h .1 }, h .2)
-  descr-node (refused m) p x e h = absurd h
-
-  descr-found : (r : DescrFound) (p : ℕ) (x : sums.Verdict) → DescrFor s at r → r ≡ descr.DescrFound.At p x → DescrAt p x
-  descr-found r p x h e = descr-node (nodeFor key-descr (value most-open s at)) p x refl (subst (DescrFor s at) e h)
-
-  descr-value : (p : ℕ) (v : Counts s at key-descr p) (o : Outcome Dtype) → descrOf (forget (v .node)) ≡ o → dtypeAt s at ≡ o
-  descr-value p v o h = ap (λ (y : Outcome Value). then y descrOf) (value-is s at key-descr p v) ∙ h
-
-  pub descr-good : (f : DescrFound) (p : ℕ) (x : sums.Verdict) (t : Totals) → DescrFor s at f → f ≡ descr.DescrFound.At p x → x ≡ sums.Verdict.Fits t → DescrIs s at (DescrRead.Is (record { at = p; totals = t })) (dtypeAt s at)
-  descr-good f p x t h hf e =
-      let v = descr-found f p x h hf in
-      let b = each-back totalsOf (descrOf (forget (v .0 .node))) t (sym (v .1) ∙ ap verdicts.verdict e) in
-      subst (DescrIs s at (DescrRead.Is (record { at = p; totals = t }))) (sym (descr-value p (v .0) (gives (b .0)) (b .1))) (record { counts = v .0; is = b .1; totalled = sym (b .2) })
-
-  pub descr-bad : (f : DescrFound) (p : ℕ) (x : sums.Verdict) (u : Refusal) → DescrFor s at f → f ≡ descr.DescrFound.At p x → x ≡ sums.Verdict.Bad u → DescrIs s at (DescrRead.Refused u) (dtypeAt s at)
-  descr-bad f p x u h hf e =
-      let v = descr-found f p x h hf in
-      subst (DescrIs s at (DescrRead.Refused u))
-      (sym (descr-value p (v .0) (refused (numberOf u)) (each-none totalsOf (descrOf (forget (v .0 .node))) (numberOf u) (sym (v .1) ∙ ap verdicts.verdict e)))) refl
-
-  descr-none-by : (o : Outcome Node) → nodeFor key-descr (value most-open s at) ≡ o → DescrFoundIs inside s descr.DescrFound.NoKey o → dtypeAt s at ≡ refused 9
-  descr-none-by (gives n) e h = absurd h
-  descr-none-by (refused m) e h = ap (λ (x : Outcome Value). then x descrOf) (none-is s at key-descr m e h)
-
-  pub descr-none : (f : DescrFound) → DescrFor s at f → f ≡ descr.DescrFound.NoKey → DescrIs s at (DescrRead.Refused Refusal.NoKey) (dtypeAt s at)
-  descr-none f h hf = subst (DescrIs s at (DescrRead.Refused Refusal.NoKey)) (sym (descr-none-by (nodeFor key-descr (value most-open s at)) refl (subst (DescrFor s at) hf h))) refl
+    pub descr-refused : (why : Refusal) → x ≡ DescrFound.Refused why → keyAt key-descr descrOf ≡ refused (numberOf why)
+    descr-refused why h = found-refused key-descr descrOf (λ at d. placedDescr at (totalsOf d)) (descrAnswer x) f (numberOf why) (ap descrAnswer h)

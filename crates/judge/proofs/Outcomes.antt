@@ -1,5 +1,5 @@
--- No second outcome satisfies the statement of `judge`: the text fixes the record, the record what the parts come to, and a value that counts its own
--- place. Assumes nothing.
+-- No second outcome satisfies the statement of `judge`: the text determines the record, the record what is kept of its parts, and a value that counts its own place.
+-- Assumes nothing.
 use Prim.Native.Nat.{ℕ}
 use mathlib.Core.Path.{_≡_, sym, ap, _∙_}
 use mathlib.Core.List.{List}
@@ -11,14 +11,14 @@ use Rattle.dtype.specs.Dtype.{Dtype}
 use Rattle.dtype.specs.Record.{Record}
 use Rattle.record.specs.Dict.{key-shape, key-descr}
 use Rattle.record.specs.Header.{recordIn}
-use Rattle.tokens.specs.Node.{Span, spanOf}
-use Rattle.classes.specs.Text.{skip}
+use Rattle.literal_tokens.specs.Node.{Span, spanOf}
+use Rattle.literal_bytes.specs.Text.{skip}
 use Rattle.literal.proofs.View.{value-span}
-use Rattle.products.specs.declared.Outline.{Outline}
-use Rattle.sums.specs.declared.Totals.{Totals}
+use Rattle.shape_verdict.specs.declared.Outline.{Outline}
+use Rattle.descr_totals.specs.declared.Totals.{Totals}
 use Rattle.judge.specs.declared.Shape.{Shape}
 use Rattle.judge.specs.declared.Descr.{Descr}
-use Rattle.judge.specs.declared.Plan.{Plan}
+use Rattle.judge.specs.declared.FoundRecord.{FoundRecord}
 use Rattle.judge.specs.declared.Judged.{Judged}
 use Rattle.judge.specs.Judged.{reading, inside, Counts, ShapeOf, DescrOf, PlanOf, JudgedIs}
 
@@ -34,7 +34,7 @@ module _ (text : List ℕ) (at : ℕ) where
   descr-eq : {a b : ℕ} {t u : Totals} → a ≡ b → t ≡ u → _≡_ {A = Descr} (record { at = a; totals = t }) (record { at = b; totals = u })
   descr-eq ha ht = cc
 
-  plan-eq : {a b : Order} {p q : Shape} {x y : Descr} → a ≡ b → p ≡ q → x ≡ y → _≡_ {A = Plan} (record { order = a; shape = p; descr = x }) (record { order = b; shape = q; descr = y })
+  plan-eq : {a b : Order} {p q : Shape} {x y : Descr} → a ≡ b → p ≡ q → x ≡ y → _≡_ {A = FoundRecord} (record { order = a; shape = p; descr = x }) (record { order = b; shape = q; descr = y })
   plan-eq ho hp hx = cc
 
   shape-one : (s : List ℕ) → OneOutcome (λ p. ShapeOf text at p s)

@@ -1,5 +1,5 @@
--- What each answer of this crate stands for: document 01's number, or the record, of which the answer tells where its parts stand in the text. The record
--- of a text is `recordIn` of crate record, with the literal's own reading. What the steps to it owe is Steps.antt. Definitions only. Assumes nothing.
+-- What an answer of `judge` means: document 01's number, or the record, of which the answer gives the places of its parts in the text. The record of a text is `recordIn` of
+-- crate record, with the literal's own reading.
 use Prim.Native.Nat.{ℕ, _-_}
 use mathlib.Core.Path.{_≡_}
 use mathlib.Core.List.{List}
@@ -13,20 +13,20 @@ use Rattle.record.specs.Dict.{key-shape, key-descr}
 use Rattle.record.specs.Dimensions.{subShape}
 use Rattle.record.specs.Descr.{descrOf}
 use Rattle.record.specs.Header.{Reading}
-use Rattle.tokens.specs.Node.{Node}
-use Rattle.classes.specs.Got.{got}
+use Rattle.literal_tokens.specs.Node.{Node}
+use Rattle.literal_bytes.specs.Got.{got}
 use Rattle.literal.specs.Forget.{forget, forgot}
-use Rattle.grammar.specs.Nesting.{most-open}
+use Rattle.literal_grammar.specs.Nesting.{most-open}
 use Rattle.literal.specs.Literal.{value, literalOf}
-use Rattle.products.specs.Outline.{outlineOf}
-use Rattle.keys.specs.Pairs.{nodeFor}
-use Rattle.sums.specs.Totals.{totalsOf}
+use Rattle.shape_verdict.specs.Outline.{outlineOf}
+use Rattle.judge.specs.Pairs.{nodeFor}
+use Rattle.descr_totals.specs.Totals.{totalsOf}
 use Rattle.judge.specs.declared.Shape.{Shape}
 use Rattle.judge.specs.declared.Descr.{Descr}
-use Rattle.judge.specs.declared.Plan.{Plan}
+use Rattle.judge.specs.declared.FoundRecord.{FoundRecord}
 use Rattle.judge.specs.declared.Judged.{Judged}
 
--- the literal's own reading; it keeps the promise of crate grammar (proofs/Top.antt)
+-- the literal's own reading; it keeps the promise of crate literal_grammar (proofs/Top.antt)
 abbrev pub reading : Reading
 reading s = forgot (literalOf s)
 
@@ -41,20 +41,20 @@ pub record Counts (text : List ℕ) (at : ℕ) (w : List ℕ) (place : ℕ) : Ty
   pub found : nodeFor w (value most-open text at) ≡ gives node
   pub stands : value inside text place ≡ got node end
 
--- the shape s stands at the place, and has this outline
+-- the shape s is at the place, and has this outline
 pub record ShapeOf (text : List ℕ) (at : ℕ) (p : Shape) (s : List ℕ) : Type 0 where
   pub counts : Counts text at key-shape (p .at)
   pub is : subShape (forget (counts .node)) ≡ gives s
   pub few : overDimensions s ≡ false
   pub outlined : p .outline ≡ outlineOf s
 
--- the dtype d stands at the place, and has these totals
+-- the dtype d is at the place, and has these totals
 pub record DescrOf (text : List ℕ) (at : ℕ) (p : Descr) (d : Dtype) : Type 0 where
   pub counts : Counts text at key-descr (p .at)
   pub is : descrOf (forget (counts .node)) ≡ gives d
   pub totalled : p .totals ≡ totalsOf d
 
-pub record PlanOf (text : List ℕ) (at : ℕ) (p : Plan) (r : Record) : Type 0 where
+pub record PlanOf (text : List ℕ) (at : ℕ) (p : FoundRecord) (r : Record) : Type 0 where
   pub ordered : p .order ≡ r .order
   pub shaped : ShapeOf text at (p .shape) (r .shape)
   pub typed : DescrOf text at (p .descr) (r .dtype)

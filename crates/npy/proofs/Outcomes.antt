@@ -6,8 +6,8 @@ use mathlib.Core.List.{List}
 use Rattle.counts.specs.Outcome.{Outcome}
 use Rattle.counts.specs.OneOutcome.{OneOutcome}
 use Rattle.record.specs.Rooms.{Lent}
-use Rattle.codes.specs.Codes.{Tells}
-use Rattle.codes.proofs.Outcomes.{tells-one}
+use Rattle.npy_codes.specs.Codes.{Tells}
+use Rattle.npy_codes.proofs.Outcomes.{tells-one}
 use Rattle.npy.specs.Calls.{Reads, ReadsHeld, ReadsText, Writes, Lists, Strides, Prints, Puts}
 
 -- of a function that is lent room for its values alone

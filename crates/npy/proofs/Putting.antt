@@ -4,10 +4,10 @@ use mathlib.Core.Path.{_≡_, ap, _∙_}
 use mathlib.Core.List.{List}
 use lib.ListN.{length}
 use Rattle.counts.specs.Outcome.{Outcome, gives, refused, then, each}
-use Rattle.strings.specs.Rooms.{after, Owes}
-use Rattle.codes.specs.Codes.{code, left, Tells, alone}
+use Rattle.string_value.specs.Rooms.{after, Owes}
+use Rattle.npy_codes.specs.Codes.{code, left, Tells, alone}
 use Rattle.npy.specs.Calls.{Puts}
-use Rattle.codes.proofs.Named.{retold}
+use Rattle.npy_codes.proofs.Named.{retold}
 
 module _ {A : Type 0} {given : Outcome A} (next : A → Outcome (List ℕ)) where
   pub then-put : {a : A} {answer : Outcome ℕ} {room room′ count count′ : List ℕ} {r : ℕ}
@@ -18,12 +18,12 @@ module _ {A : Type 0} {given : Outcome A} (next : A → Outcome (List ℕ)) wher
         room-after = owes .room-after ∙ ap (λ (g : Outcome A). after room (then g next)) is;
       }
 
-  pub none-put : {room count : List ℕ} {n : ℕ} → refused n ≡ given → Puts (then given next) room count n room count
-  none-put {room = room} {count = count} is =
+  pub none-put : {room count : List ℕ} {n r : ℕ} → refused n ≡ given → r ≡ n → Puts (then given next) room count r room count
+  none-put {room = room} {count = count} is number =
       record {
         told =
             record {
-              answered = ap (λ (g : Outcome A). code (each length (then g next))) is;
+              answered = number ∙ ap (λ (g : Outcome A). code (each length (then g next))) is;
               after = ap (λ (g : Outcome A). left alone (each length (then g next)) count) is;
             };
         room-after = ap (λ (g : Outcome A). after room (then g next)) is;

@@ -1,22 +1,26 @@
-// The C interface (include/npy.h): each function is one of the crates below, told as numbers. It returns 0 and writes its values, or returns document 01's number and
-// leaves all that it was lent as it was. Orders, versions and types are given by their numbers, so any number is an input. No function here has a `requires`.
-use codes::OrderGiven;
+// The C interface (include/npy.h): each function is one of the crates below, its answer as numbers. It returns 0 and writes its values, or returns document 01's number and
+// leaves all that it was lent as it was. Orders, versions and types are given by their numbers, and any number is an input. (A refusal::Refusal is returned as its number; a
+// type has a type_letters::Endianness, a type_letters::TypeChar and a type_units::TimeUnits.)
 use counts::Bytes;
-use entries::EntryType;
+use header_prefix::Version;
+use npy_codes::OrderGiven;
+use npy_codes::VersionGiven;
+use type_str::TypeRead;
 ghost use Rattle.counts.specs.Outcome.{then, each};
 ghost use Rattle.type_str.specs.TypeString.{typeString};
 ghost use Rattle.shape.specs.Count.{itemCount};
-ghost use Rattle.table.specs.Answer.{summary};
-ghost use Rattle.table.specs.Checked.{checkedRecord};
-ghost use Rattle.items.specs.Item.{itemOf};
-ghost use Rattle.places.specs.Place.{placeOf};
-ghost use Rattle.strings.specs.Rooms.{readBytes, readPoints, writeBytes, writePoints};
+ghost use Rattle.check_record.specs.Answer.{summary};
+ghost use Rattle.check_record.specs.Checked.{checkedRecord};
+ghost use Rattle.place_item.specs.Item.{itemOf};
+ghost use Rattle.place.specs.Place.{placeOf};
+ghost use Rattle.string_value.specs.Rooms.{readBytes, readPoints, writeBytes, writePoints};
 ghost use Rattle.element.specs.Element.{elementBytes, elementPoints};
-ghost use Rattle.header.specs.Answer.{lent};
-ghost use Rattle.codes.specs.Codes.{Tells, alone};
-ghost use Rattle.codes.specs.Numbers.{orderFor, typeFor, typeValues};
-ghost use Rattle.told_place.specs.Values.{summaryValues, runValues};
-ghost use Rattle.npy.specs.Calls.{Reads, ReadsHeld, ReadsText, Writes, Lists, Strides, Prints, Puts};
+ghost use Rattle.header_prefix.specs.Answer.{versionIs};
+ghost use Rattle.header.specs.Reads.{lent};
+ghost use Rattle.npy_codes.specs.Codes.{Tells, alone};
+ghost use Rattle.npy_codes.specs.Numbers.{orderFor, typeFor};
+ghost use Rattle.npy_codes.specs.Values.{typeValues, summaryValues, runValues};
+ghost use Rattle.npy.specs.Calls.{Reads, ReadsHeld, ReadsText, Writes, Lists, ListsAs, Strides, Prints, Puts};
 
 // The header of a file. Its record goes to the three lent rooms; `said` is its version, order, rank, entries, name bytes and where the data starts.
 #[no_mangle]
@@ -29,7 +33,7 @@ pub extern "C" fn npy_read(
 ) -> u8
     ensures { λ r. ⌜ Reads (now (file .entry)) (lent (now (table .entry)) (now (names .entry)) (now (shape .entry))) (now (said .entry)) r (lent (now (table .exit)) (now (names .exit)) (now (shape .exit))) (now (said .exit)) ⌝ }
 {
-    told_read::tell_header(header::read(file, table, names, shape), said)
+    npy_codes::tell_header(header::read(file, table, names, shape), said)
 }
 
 // The same of a file of which only the first bytes are held, at least the 12 before any text or the whole file, and which is longer or is not.
@@ -44,7 +48,7 @@ pub extern "C" fn npy_read_held(
 ) -> u8
     ensures { λ r. ⌜ ReadsHeld longer (now (file .entry)) (lent (now (table .entry)) (now (names .entry)) (now (shape .entry))) (now (said .entry)) r (lent (now (table .exit)) (now (names .exit)) (now (shape .exit))) (now (said .exit)) ⌝ }
 {
-    told_read::read_held(file, longer, table, names, shape, said)
+    npy_codes::tell_header(header::read_held(file, longer, table, names, shape), said)
 }
 
 // The record of a header's text, of any length; `said` is its order, rank, entries and name bytes.
@@ -58,7 +62,7 @@ pub extern "C" fn npy_read_text(
 ) -> u8
     ensures { λ r. ⌜ ReadsText (now (text .entry)) (lent (now (table .entry)) (now (names .entry)) (now (shape .entry))) (now (said .entry)) r (lent (now (table .exit)) (now (names .exit)) (now (shape .exit))) (now (said .exit)) ⌝ }
 {
-    told_read::tell_text(header::read_text(text, table, names, shape), said)
+    npy_codes::tell_text(header::read_text(text, table, names, shape), said)
 }
 
 // Whether a record is one that some reading gives, 7 and 4 aside; `said` is its rank, entries, 1 and its item size or 0 and 0, and its item count.
@@ -72,10 +76,13 @@ pub extern "C" fn npy_check(
 ) -> u8
     ensures { λ r. ⌜ Tells summaryValues (then (orderFor order) (λ o. each summary (checkedRecord (now (table .entry)) (now (names .entry)) (now (shape .entry)) o))) (now (said .entry)) r (now (said .exit)) ⌝ }
 {
-    let OrderGiven::Is(o) = codes::order_for(order) else {
-        return 27;
-    };
-    told_place::tell_checked(table::check(table, names, shape, o), said)
+    match npy_codes::order_for(order) {
+        OrderGiven::Is(o) => npy_codes::tell_checked(
+            check_record::check(table, names, shape, o),
+            said,
+        ),
+        OrderGiven::Refused(why) => why.number(),
+    }
 }
 
 // The header of a record, at the front of `out`; `count` is its length.
@@ -90,10 +97,13 @@ pub extern "C" fn npy_write_header(
 ) -> u8
     ensures { λ r. ⌜ Writes (now (table .entry)) (now (names .entry)) (now (shape .entry)) order (now (out .entry)) (now (count .entry)) r (now (out .exit)) (now (count .exit)) ⌝ }
 {
-    let OrderGiven::Is(o) = codes::order_for(order) else {
-        return 27;
-    };
-    told_write::tell_written(write::write_header(table, names, shape, o, out), count)
+    match npy_codes::order_for(order) {
+        OrderGiven::Is(o) => npy_codes::tell_bytes(
+            write::write_header(table, names, shape, o, out),
+            count,
+        ),
+        OrderGiven::Refused(why) => why.number(),
+    }
 }
 
 // The listing of a record, as document 01 prints it, at the front of `out`; `count` is its length.
@@ -110,7 +120,32 @@ pub extern "C" fn npy_list(
 ) -> u8
     ensures { λ r. ⌜ Lists version start (now (table .entry)) (now (names .entry)) (now (shape .entry)) order (now (out .entry)) (now (count .entry)) r (now (out .exit)) (now (count .exit)) ⌝ }
 {
-    told_list::list(version, start, table, names, shape, order, out, count)
+    match npy_codes::version_for(version) {
+        VersionGiven::Is(v) => list_as(v, start, table, names, shape, order, out, count),
+        VersionGiven::Refused(why) => why.number(),
+    }
+}
+
+// The same as a version that was named.
+fn list_as(
+    version: Version,
+    start: u64,
+    table: &[u64],
+    names: &[u8],
+    shape: &[u64],
+    order: u64,
+    out: &mut [u8],
+    count: &mut [u64; 1],
+) -> u8
+    ensures { λ r. ⌜ ListsAs (versionIs version) start (now (table .entry)) (now (names .entry)) (now (shape .entry)) order (now (out .entry)) (now (count .entry)) r (now (out .exit)) (now (count .exit)) ⌝ }
+{
+    match npy_codes::order_for(order) {
+        OrderGiven::Is(o) => npy_codes::tell_bytes(
+            list_record::list(version, Bytes(start), table, names, shape, o, out),
+            count,
+        ),
+        OrderGiven::Refused(why) => why.number(),
+    }
 }
 
 // The item count of a shape.
@@ -118,10 +153,10 @@ pub extern "C" fn npy_list(
 pub extern "C" fn npy_count(shape: &[u64], order: u64, count: &mut [u64; 1]) -> u8
     ensures { λ r. ⌜ Tells alone (then (orderFor order) (λ o. itemCount o (now (shape .entry)))) (now (count .entry)) r (now (count .exit)) ⌝ }
 {
-    let OrderGiven::Is(o) = codes::order_for(order) else {
-        return 27;
-    };
-    told_place::tell_count(shape::count(shape, o), count)
+    match npy_codes::order_for(order) {
+        OrderGiven::Is(o) => npy_codes::tell_items(shape::count(shape, o), count),
+        OrderGiven::Refused(why) => why.number(),
+    }
 }
 
 // The strides of a shape, in items, at the front of `out`; `count` is the item count.
@@ -134,10 +169,10 @@ pub extern "C" fn npy_strides(
 ) -> u8
     ensures { λ r. ⌜ Strides (now (shape .entry)) order (now (out .entry)) (now (count .entry)) r (now (out .exit)) (now (count .exit)) ⌝ }
 {
-    let OrderGiven::Is(o) = codes::order_for(order) else {
-        return 27;
-    };
-    told_place::tell_strides(shape::strides(shape, o, out), count)
+    match npy_codes::order_for(order) {
+        OrderGiven::Is(o) => npy_codes::tell_items(shape::strides(shape, o, out), count),
+        OrderGiven::Refused(why) => why.number(),
+    }
 }
 
 // The number of the item that an index names.
@@ -150,10 +185,10 @@ pub extern "C" fn npy_item_number(
 ) -> u8
     ensures { λ r. ⌜ Tells alone (then (orderFor order) (λ o. itemOf o (now (shape .entry)) (now (index .entry)))) (now (item .entry)) r (now (item .exit)) ⌝ }
 {
-    let OrderGiven::Is(o) = codes::order_for(order) else {
-        return 27;
-    };
-    told_place::tell_item(items::item_number(shape, o, index), item)
+    match npy_codes::order_for(order) {
+        OrderGiven::Is(o) => npy_codes::tell_items(place_item::item_number(shape, o, index), item),
+        OrderGiven::Refused(why) => why.number(),
+    }
 }
 
 // The place of an index and a path in a file of so many bytes; `run` is its first byte, how many, and the type's four numbers.
@@ -171,22 +206,22 @@ pub extern "C" fn npy_place(
 ) -> u8
     ensures { λ r. ⌜ Tells runValues (then (orderFor order) (λ o. placeOf file start (now (table .entry)) (now (names .entry)) (now (shape .entry)) o (now (index .entry)) (now (path .entry)))) (now (run .entry)) r (now (run .exit)) ⌝ }
 {
-    let OrderGiven::Is(o) = codes::order_for(order) else {
-        return 27;
-    };
-    told_place::tell_place(
-        places::place(
-            Bytes(file),
-            Bytes(start),
-            table,
-            names,
-            shape,
-            o,
-            index,
-            path,
+    match npy_codes::order_for(order) {
+        OrderGiven::Is(o) => npy_codes::tell_place(
+            place::place(
+                Bytes(file),
+                Bytes(start),
+                table,
+                names,
+                shape,
+                o,
+                index,
+                path,
+            ),
+            run,
         ),
-        run,
-    )
+        OrderGiven::Refused(why) => why.number(),
+    }
 }
 
 // The element S or V at its place in a file, at the front of `out`; `count` is how many bytes are left of it.
@@ -205,13 +240,13 @@ pub extern "C" fn npy_element_bytes(
 ) -> u8
     ensures { λ r. ⌜ Puts (then (orderFor order) (λ o. elementBytes (now (file .entry)) start (now (table .entry)) (now (names .entry)) (now (shape .entry)) o (now (index .entry)) (now (path .entry)) (now (out .entry)))) (now (out .entry)) (now (count .entry)) r (now (out .exit)) (now (count .exit)) ⌝ }
 {
-    let OrderGiven::Is(o) = codes::order_for(order) else {
-        return 27;
-    };
-    told_element::tell_bytes_element(
-        element::read_bytes(file, Bytes(start), table, names, shape, o, index, path, out),
-        count,
-    )
+    match npy_codes::order_for(order) {
+        OrderGiven::Is(o) => npy_codes::tell_bytes(
+            element::read_bytes(file, Bytes(start), table, names, shape, o, index, path, out),
+            count,
+        ),
+        OrderGiven::Refused(why) => why.number(),
+    }
 }
 
 // The element U at its place in a file, at the front of `out`; `count` is how many code points are left of it.
@@ -230,13 +265,13 @@ pub extern "C" fn npy_element_points(
 ) -> u8
     ensures { λ r. ⌜ Puts (then (orderFor order) (λ o. elementPoints (now (file .entry)) start (now (table .entry)) (now (names .entry)) (now (shape .entry)) o (now (index .entry)) (now (path .entry)) (now (out .entry)))) (now (out .entry)) (now (count .entry)) r (now (out .exit)) (now (count .exit)) ⌝ }
 {
-    let OrderGiven::Is(o) = codes::order_for(order) else {
-        return 27;
-    };
-    told_element::tell_points_element(
-        element::read_points(file, Bytes(start), table, names, shape, o, index, path, out),
-        count,
-    )
+    match npy_codes::order_for(order) {
+        OrderGiven::Is(o) => npy_codes::tell_points(
+            element::read_points(file, Bytes(start), table, names, shape, o, index, path, out),
+            count,
+        ),
+        OrderGiven::Refused(why) => why.number(),
+    }
 }
 
 // An element S or V in a run of bytes, and an element U.
@@ -252,10 +287,10 @@ pub extern "C" fn npy_read_bytes(
 ) -> u8
     ensures { λ r. ⌜ Puts (then (typeFor order letter size units) (λ t. readBytes t (now (run .entry)) (now (out .entry)))) (now (out .entry)) (now (count .entry)) r (now (out .exit)) (now (count .exit)) ⌝ }
 {
-    let EntryType::Type(t) = codes::type_for(order, letter, size, units) else {
-        return 27;
-    };
-    told_element::tell_bytes(slice::read_bytes(run, t, out), count)
+    match npy_codes::type_for(order, letter, size, units) {
+        TypeRead::Read(t) => npy_codes::tell_bytes(string_element::read_bytes(run, t, out), count),
+        TypeRead::Refused(why) => why.number(),
+    }
 }
 
 #[no_mangle]
@@ -270,10 +305,13 @@ pub extern "C" fn npy_read_points(
 ) -> u8
     ensures { λ r. ⌜ Puts (then (typeFor order letter size units) (λ t. readPoints t (now (run .entry)) (now (out .entry)))) (now (out .entry)) (now (count .entry)) r (now (out .exit)) (now (count .exit)) ⌝ }
 {
-    let EntryType::Type(t) = codes::type_for(order, letter, size, units) else {
-        return 27;
-    };
-    told_element::tell_points(slice::read_points(run, t, out), count)
+    match npy_codes::type_for(order, letter, size, units) {
+        TypeRead::Read(t) => npy_codes::tell_points(
+            string_element::read_points(run, t, out),
+            count,
+        ),
+        TypeRead::Refused(why) => why.number(),
+    }
 }
 
 // The run of an element S or V, and of an element U, at the front of `out`; `count` is its length in bytes.
@@ -289,10 +327,13 @@ pub extern "C" fn npy_write_bytes(
 ) -> u8
     ensures { λ r. ⌜ Puts (then (typeFor order letter size units) (λ t. writeBytes t (now (value .entry)) (now (out .entry)))) (now (out .entry)) (now (count .entry)) r (now (out .exit)) (now (count .exit)) ⌝ }
 {
-    let EntryType::Type(t) = codes::type_for(order, letter, size, units) else {
-        return 27;
-    };
-    told_write::tell_wrote(slice::write_bytes(t, value, out), count)
+    match npy_codes::type_for(order, letter, size, units) {
+        TypeRead::Read(t) => npy_codes::tell_bytes(
+            string_element::write_bytes(t, value, out),
+            count,
+        ),
+        TypeRead::Refused(why) => why.number(),
+    }
 }
 
 #[no_mangle]
@@ -307,10 +348,13 @@ pub extern "C" fn npy_write_points(
 ) -> u8
     ensures { λ r. ⌜ Puts (then (typeFor order letter size units) (λ t. writePoints t (now (value .entry)) (now (out .entry)))) (now (out .entry)) (now (count .entry)) r (now (out .exit)) (now (count .exit)) ⌝ }
 {
-    let EntryType::Type(t) = codes::type_for(order, letter, size, units) else {
-        return 27;
-    };
-    told_write::tell_wrote(slice::write_points(t, value, out), count)
+    match npy_codes::type_for(order, letter, size, units) {
+        TypeRead::Read(t) => npy_codes::tell_bytes(
+            string_element::write_points(t, value, out),
+            count,
+        ),
+        TypeRead::Refused(why) => why.number(),
+    }
 }
 
 // The type that a type string gives, as its four numbers.
@@ -318,7 +362,7 @@ pub extern "C" fn npy_write_points(
 pub extern "C" fn npy_type_read(text: &[u8], said: &mut [u64; 4]) -> u8
     ensures { λ r. ⌜ Tells typeValues (typeString (now (text .entry))) (now (said .entry)) r (now (said .exit)) ⌝ }
 {
-    codes::tell_type(type_read::parse(text), said)
+    npy_codes::tell_type(type_read::parse(text), said)
 }
 
 // The type string of a type, at the front of `out`; `count` is its length.
@@ -333,8 +377,8 @@ pub extern "C" fn npy_type_print(
 ) -> u8
     ensures { λ r. ⌜ Prints order letter size units (now (out .entry)) (now (count .entry)) r (now (out .exit)) (now (count .exit)) ⌝ }
 {
-    let EntryType::Type(t) = codes::type_for(order, letter, size, units) else {
-        return 27;
-    };
-    told_write::tell_print(type_print::print(t, out), count)
+    match npy_codes::type_for(order, letter, size, units) {
+        TypeRead::Read(t) => npy_codes::tell_bytes(type_print::print(t, out), count),
+        TypeRead::Refused(why) => why.number(),
+    }
 }

@@ -1,23 +1,26 @@
-// Lists the record of the NPY file on standard input (document 01, "What the collector buys"). What is printed is crate report's: the program reads, calls and writes.
+// Lists the record of the NPY file on standard input (document 01, "What the collector buys"). The program reads, calls and writes; what is printed is list_file's.
+use counts::Bytes;
 use libc::STDIN_FILENO;
 use libc::STDOUT_FILENO;
-use report::Reported;
+use refusal::BytesAnswer;
 
 fn main() {
-    let mut file = [0u8; fronts::HELD + 1];
+    let mut file = [0u8; list_file::HELD + 1];
     let n = io::read_full(STDIN_FILENO, &mut file);
     let mut out = [0u8; 131072];
-    match report::report(&file[..n], &mut out) {
-        Reported::Written(k) => {
-            show(&out, k);
+    match list_file::report(&file[..n], &mut out) {
+        BytesAnswer::Is(written) => {
+            show(&out, written);
         }
-        Reported::OutputRoom => {
+        BytesAnswer::Refused(_) => {
             io::write_all(STDOUT_FILENO, b"refused 28\n");
         }
     }
 }
 
-fn show(out: &[u8], n: usize) {
+// Writes so many first bytes.
+fn show(out: &[u8], written: Bytes) {
+    let n = written.0 as usize;
     if n <= out.len() {
         io::write_all(STDOUT_FILENO, &out[..n]);
     }

@@ -1,11 +1,10 @@
-// Replays recorded files, framed as the crate frames reads them, one answer a line: the listing with `; ` for each line's end but the last, or `refused` and the number. A
-// case is the room lent for the table, in entries, for the names and for the shape, four bytes each with the least first, a byte that is 0 for a whole file and another for the
-// first bytes of one that is longer, and the file. The rooms hold 5s before, which is
-// looked at afterwards: a line ends in ` changed` where a refusal changed a room, or an answer the room beyond what was needed.
-use byte_orders::Endianness;
+// Replays recorded files, framed as crate frames reads them, one line an answer: the listing with `; ` between its lines, or `refused` and the number. A case is the room
+// lent for the table (in entries), for the names and for the shape, four bytes each, the least significant first; a byte that is 0 for a whole file and not 0 for the first
+// bytes of a longer one; and the file. The rooms hold 5s before the call: a line ends in ` changed` if a refusal changed a room, or a success the room beyond what was needed.
 use counts::Number;
-use frames::Frame;
 use libc::STDOUT_FILENO;
+use run_frames::Frame;
+use type_letters::Endianness;
 ghost use Prim.Native.Nat.{_≤_, _<_, _+_};
 ghost use lib.ListN.{length};
 
@@ -14,7 +13,7 @@ fn main() {
     run_cases(&mut room);
 }
 
-// A proved loop has to end, and nothing says that the input does: no run has that many cases.
+// A proved loop has to end, and nothing says that the input does; no run has this many cases.
 fn run_cases(room: &mut [u8]) {
     let mut turns = u64::MAX;
     while turns > 0 && run_case(room) {
@@ -22,9 +21,9 @@ fn run_cases(room: &mut [u8]) {
     }
 }
 
-// One case, and whether to go on.
+// Runs one case, and returns whether to go on.
 fn run_case(room: &mut [u8]) -> bool {
-    let Frame::Case(n) = frames::next(room) else {
+    let Frame::Case(n) = run_frames::next(room) else {
         return false;
     };
     replay(&room[..n]);
@@ -32,8 +31,8 @@ fn run_case(room: &mut [u8]) -> bool {
 }
 
 fn replay(case: &[u8]) {
-    let mut table = [5u64; 4608];
-    let mut names = [5u8; 65536];
+    let mut table = [5u64; dtype::TABLE];
+    let mut names = [5u8; dtype::MOST_NAMES];
     let mut shape = [5u64; 64];
     lend(case, &mut table, &mut names, &mut shape);
 }
@@ -55,11 +54,11 @@ fn lend(case: &[u8], table: &mut [u64], names: &mut [u8], shape: &mut [u64]) {
     );
 }
 
-// The number in four bytes, or the most that is lent.
+// The number in four bytes, at most `most`.
 fn at_most(run: &[u8], most: usize) -> usize
     ensures { λ r. ⌜ r ≤ most ⌝ }
 {
-    let Number::Is(n) = numbers::read(run, Endianness::Little) else {
+    let Number::Is(n) = number_bytes::read(run, Endianness::Little) else {
         return most;
     };
     least(n, most)
@@ -91,7 +90,7 @@ fn refuse(r: u8) {
     io::print_decimal(STDOUT_FILENO, r as u64);
 }
 
-// The record at the front of the rooms, and a look at what is behind it.
+// Lists the record at the front of the rooms, and checks the room beyond it.
 fn list_record(said: &[u64; 6], table: &[u64], names: &[u8], shape: &[u64]) {
     let numbers = dtype::ENTRY * least(said[3], table.len() / dtype::ENTRY);
     let bytes = least(said[4], names.len());
@@ -120,7 +119,7 @@ fn list(said: &[u64; 6], table: &[u64], names: &[u8], shape: &[u64]) {
     }
 }
 
-// The listing in one line.
+// Prints the listing in one line.
 fn show(room: &[u8], length: u64) {
     let end = least(length, room.len());
     show_lines(&room[..end]);
@@ -135,7 +134,7 @@ fn show_lines(text: &[u8]) {
     }
 }
 
-// Shows the line that began at `from` where it ends at `i`, and answers where the next begins.
+// Prints the line that began at `from` if it ends at `i`, and returns where the next one begins.
 fn show_line(text: &[u8], from: usize, i: usize) -> usize
     requires { ⌜ (from ≤ i) × (i < length (now text)) ⌝ }
     ensures { λ r. ⌜ r ≤ i + 1 ⌝ }
@@ -148,14 +147,14 @@ fn show_line(text: &[u8], from: usize, i: usize) -> usize
     i + 1
 }
 
-// What parts a line of the listing from the next: nothing behind the last.
+// Prints the separator after a line of the listing, except after the last.
 fn part_from(text: &[u8], at: usize) {
     if at < text.len() {
         say(b"; ");
     }
 }
 
-// Whether all that was not to be written is as it was.
+// Prints ` changed` unless all of these rooms still hold 5s.
 fn look(table: &[u64], names: &[u8], shape: &[u64]) {
     if !(all_fives64(table) & all_fives8(names) & all_fives64(shape)) {
         say(b" changed");

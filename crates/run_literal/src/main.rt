@@ -1,14 +1,14 @@
-// Replays recorded texts, framed as the crate frames reads them, one answer a line: `ok`, or `6` or `7` and the place of the fault or of the bracket.
-use classes::Parsed;
-use frames::Frame;
+// Replays recorded texts, framed as crate frames reads them, one line an answer: `ok`, or `6` or `7` and the place of the fault or the bracket.
 use libc::STDOUT_FILENO;
+use literal_bytes::Parsed;
+use run_frames::Frame;
 
 fn main() {
     let mut room = io::large_buffer();
     run_cases(&mut room);
 }
 
-// A proved loop has to end, and nothing says that the input does: no run has that many cases.
+// A proved loop has to end, and nothing says that the input does; no run has this many cases.
 fn run_cases(room: &mut [u8]) {
     let mut turns = u64::MAX;
     while turns > 0 && run_case(room) {
@@ -16,9 +16,9 @@ fn run_cases(room: &mut [u8]) {
     }
 }
 
-// One case, and whether to go on.
+// Runs one case, and returns whether to go on.
 fn run_case(room: &mut [u8]) -> bool {
-    let Frame::Case(n) = frames::next(room) else {
+    let Frame::Case(n) = run_frames::next(room) else {
         return false;
     };
     tell(literal::literal(&room[..n]))

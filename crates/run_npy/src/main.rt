@@ -1,9 +1,11 @@
-// Replays framed cases through every function of the C interface, one answer a line: what was returned, the values, and what each lent room then holds. The parts of a
-// case and of a line are in docs/FRAMES.md. Every lent number and byte is 5 before a call.
-use byte_orders::Endianness;
+// Replays framed cases through every function of the C interface, one line an answer: the returned number, the values, and the final content of each lent room. The
+// parts of a case and of a line are described in docs/FRAMES.md. Every lent number and byte is 5 before a call.
 use counts::Number;
-use frames::Frame;
+use dtype::MOST_NAMES;
+use dtype::TABLE;
 use libc::STDOUT_FILENO;
+use run_frames::Frame;
+use type_letters::Endianness;
 ghost use Prim.Native.Nat.{_≤_, _<_};
 ghost use lib.ListN.{length};
 
@@ -13,7 +15,7 @@ fn main() {
     run_cases(&mut room, &mut table);
 }
 
-// A proved loop has to end, and nothing says that the input does: no run has that many cases.
+// A proved loop has to end, and nothing says that the input does; no run has this many cases.
 fn run_cases(room: &mut [u8], table: &mut [u64]) {
     let mut turns = u64::MAX;
     while turns > 0 && run_case(room, table) {
@@ -21,16 +23,16 @@ fn run_cases(room: &mut [u8], table: &mut [u64]) {
     }
 }
 
-// One case, and whether to go on.
+// Runs one case, and returns whether to go on.
 fn run_case(room: &mut [u8], table: &mut [u64]) -> bool {
-    let Frame::Case(n) = frames::next(room) else {
+    let Frame::Case(n) = run_frames::next(room) else {
         return false;
     };
     replay(&room[..n], table);
     io::write_all(STDOUT_FILENO, b"\n")
 }
 
-// The numbers of a case's table go to the front of `table`, and no others of it are lent on.
+// Runs a case. The numbers of its table are stored at the front of `table`, and only these are lent.
 fn replay(case: &[u8], table: &mut [u64]) {
     if case.len() == 0 {
         return;
@@ -57,7 +59,7 @@ fn replay(case: &[u8], table: &mut [u64]) {
     );
 }
 
-// ---- the parts of a case, as far as it reaches
+// ---- the parts of a case
 
 fn at_most(n: u64, most: usize) -> usize
     ensures { λ r. ⌜ r ≤ most ⌝ }
@@ -66,13 +68,13 @@ fn at_most(n: u64, most: usize) -> usize
 }
 
 fn number(bytes: &[u8], order: Endianness) -> u64 {
-    match numbers::read(bytes, order) {
+    match number_bytes::read(bytes, order) {
         Number::Is(n) => n,
         Number::Over => u64::MAX,
     }
 }
 
-// Where the first part ends: four bytes with its length, and so many more.
+// Where the first part ends: four bytes for its length, then its content; at most the end of the case.
 fn part_end(parts: &[u8]) -> usize
     ensures { λ r. ⌜ r ≤ length (now (parts .entry)) ⌝ }
 {
@@ -98,7 +100,7 @@ fn content(parts: &[u8]) -> &[u8] {
     &parts[start..end]
 }
 
-// The numbers of a part, as many as have room; and how many. Its first byte says in how many bytes each stands.
+// Stores the numbers of a part, as many as have room, and returns how many. The first byte of the part is the number of bytes of each.
 fn store(bytes: &[u8], room: &mut [u64]) -> usize {
     if bytes.len() == 0 {
         return 0;
@@ -123,7 +125,7 @@ fn front(numbers: &[u64], count: usize) -> &[u64] {
     &numbers[..end]
 }
 
-// ---- the calls, by what is lent: three rooms for a record; the values alone; a room of numbers, of bytes or of code points
+// ---- the calls, by what is lent: three rooms for a record; only the values; a room of numbers, bytes or code points
 
 fn ask(
     op: u8,
@@ -164,11 +166,11 @@ fn ask(
 }
 
 fn lend_record(op: u8, given: &[u64; 7], bytes: &[u8]) {
-    let mut table = [5u64; 4608];
-    let mut names = [5u8; 65536];
+    let mut table = [5u64; TABLE];
+    let mut names = [5u8; MOST_NAMES];
     let mut shape = [5u64; 64];
-    let numbers = at_most(given[4], 4608);
-    let named = at_most(given[5], 65536);
+    let numbers = at_most(given[4], TABLE);
+    let named = at_most(given[5], MOST_NAMES);
     let rank = at_most(given[6], 64);
     read_record(
         op,
@@ -252,7 +254,7 @@ fn lend_room(
     );
 }
 
-// The same, where a small room is lent: to fill a large one for each case takes long.
+// The same with small rooms, since filling large ones for each case takes long.
 fn lend_small(
     op: u8,
     given: &[u64; 7],
@@ -382,7 +384,7 @@ fn say(text: &[u8]) {
     io::write_all(STDOUT_FILENO, text);
 }
 
-// What was returned, and the values where that is 0 or where they are not as they were.
+// Prints what was returned, and the values if that is 0 or if they were changed.
 fn tell(r: u8, values: &[u64]) {
     io::print_decimal(STDOUT_FILENO, r as u64);
     if r == 0 || changed(values) > 0 {
@@ -415,7 +417,7 @@ fn say_numbers(numbers: &[u64]) {
     }
 }
 
-// A room without the 5s at its end.
+// Prints a room without the 5s at its end.
 fn show(room: &[u64]) {
     say(b";");
     say_numbers(front(room, changed(room)));
@@ -427,7 +429,7 @@ fn show_bytes(room: &[u8]) {
     show_run(&room[..end]);
 }
 
-// Eight bytes at a time.
+// Prints bytes in hexadecimal, eight at a time.
 fn show_run(run: &[u8]) {
     let mut at: usize = 0;
     while at < run.len() {

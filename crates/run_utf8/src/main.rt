@@ -1,6 +1,6 @@
-// Replays recorded texts, framed as the crate frames reads them, one answer a line: `ok`, or the place of the first ill-formed sequence.
-use frames::Frame;
+// Replays recorded texts, framed as crate frames reads them, one line an answer: `ok`, or the place of the first ill-formed sequence.
 use libc::STDOUT_FILENO;
+use run_frames::Frame;
 use utf8::Text;
 
 fn main() {
@@ -8,7 +8,7 @@ fn main() {
     run_cases(&mut room);
 }
 
-// A proved loop has to end, and nothing says that the input does: no run has that many cases.
+// A proved loop has to end, and nothing says that the input does; no run has this many cases.
 fn run_cases(room: &mut [u8]) {
     let mut turns = u64::MAX;
     while turns > 0 && run_case(room) {
@@ -16,9 +16,9 @@ fn run_cases(room: &mut [u8]) {
     }
 }
 
-// One case, and whether to go on.
+// Runs one case, and returns whether to go on.
 fn run_case(room: &mut [u8]) -> bool {
-    let Frame::Case(n) = frames::next(room) else {
+    let Frame::Case(n) = run_frames::next(room) else {
         return false;
     };
     tell(utf8::check(&room[..n]))

@@ -1,3 +1,3 @@
 pub mod Passed
 pub mod Turns
-pub mod OneOutcome
+pub mod Outcomes

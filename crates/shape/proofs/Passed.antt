@@ -1,5 +1,5 @@
 -- Both orders as one walk: the dimensions are visited one after the other, and the stride of each is the product of those visited before it. So a
--- shape is over (22) exactly where a product of the first k visited is, for some k up to all. Assumes nothing.
+-- shape is over (22) exactly where a product of the first k visited is, for some k up to all.
 use Prim.Native.Nat.{ℕ, zero, suc, _+_, _*_, _-_, _^_, _<_, _≤_}
 use mathlib.Core.Path.{_≡_, refl, ap, sym, _∙_}
 use mathlib.Core.Bool.{true, false, or-true}
@@ -17,7 +17,7 @@ use mathlib.Core.Logic.{⊎-elim}
 use Rattle.dtype.proofs.Strides.{strides-at, strides-length, product-last}
 use Rattle.shape.specs.Visit.{visited}
 
--- visiting stays inside, comes to each dimension, and to none twice
+-- each visit is of a dimension of the shape, and none is visited twice
 pub visited-below : (o : Order) (n k : ℕ) → k < n → visited o n k < n
 visited-below C n k h = omega arith
 visited-below Fortran n k h = h

@@ -1,5 +1,5 @@
--- What the two loops keep, and what they owe at their ends. After k turns `acc` is the product of the first k dimensions visited, and in `fill` the
--- strides of these stand in place and the room behind the strides is as it was. Assumes nothing.
+-- What the two loops keep, and what holds at their ends. After k turns `acc` is the product of the first k dimensions visited, and in `fill` the
+-- strides of these are in place and the room after the strides is as it was.
 use Prim.Native.Nat.{ℕ, _+_, _*_, _-_, _^_, _<_, _≤_}
 use mathlib.Core.Path.{_≡_, refl, ap, sym, _∙_}
 use mathlib.Core.Bool.{Bool, true, false}
@@ -18,10 +18,13 @@ use Rattle.dtype.specs.declared.Order.{Order}
 use Rattle.dtype.specs.Shape.{product, stride, strides}
 use Rattle.dtype.specs.Limits.{overShape}
 use Rattle.dtype.proofs.Strides.{strides-at, strides-length}
-use Rattle.shape.specs.declared.StridesWritten.{StridesWritten}
+use Rattle.refusal.specs.declared.Refusal.{Refusal}
+use Rattle.refusal.specs.declared.ItemsAnswer.{ItemsAnswer}
+use Rattle.refusal.specs.Numbers.{numberOf}
+use Rattle.refusal.specs.Answers.{itemsAnswer}
 use Rattle.counts.specs.Front.{atFront}
 use Rattle.counts.proofs.Sides.{lt-or-ge}
-use Rattle.shape.specs.Count.{itemCount, stridesCount, Writes}
+use Rattle.shape.specs.Count.{itemCount, stridesCount, WritesStrides}
 use Rattle.shape.specs.Visit.{visited}
 use Rattle.shape.proofs.Passed.{visited-below, visited-back, visited-apart, passed, passed-none, passed-all, passed-next, stride-passed, all-fit, one-over}
 
@@ -79,7 +82,7 @@ pub record Filling (o : Order) (s old : List ℕ) (acc k : ℕ) (out : List ℕ)
   pub within : k ≤ length s
   pub is : acc ≡ passed o s k
   pub placed : (j : ℕ) → j < k → getD out (visited o (length s) j) 0 ≡ passed o s j
-  pub behind : (i : ℕ) → length s ≤ i → getD out i 0 ≡ getD old i 0
+  pub after : (i : ℕ) → length s ≤ i → getD out i 0 ≡ getD old i 0
 
 pub filling-start : (o : Order) (s old : List ℕ) → length s ≤ length old → overShape o s ≡ false → Filling o s old 1 0 old
 filling-start o s old r f =
@@ -90,7 +93,7 @@ filling-start o s old r f =
       within = omega arith;
       is = sym (passed-none o s);
       placed = λ j l. absurd (omega arith);
-      behind = λ i l. refl;
+      after = λ i l. refl;
     }
 
 module _ (o : Order) (s old : List ℕ) (acc k at : ℕ) (out : List ℕ) (f : Filling o s old acc k out) (l : k < length s)
@@ -122,7 +125,7 @@ module _ (o : Order) (s old : List ℕ) (acc k at : ℕ) (out : List ℕ) (f : F
             (λ (u : j < k). getD-set-other out at (visited o (length s) j) acc 0 (λ e. visited-apart o (length s) j k u l (e ∙ v)) ∙ f .placed j u)
             (λ (u : k ≤ j). let z : j ≡ k = omega arith in rw (z, ← v) (put ∙ f .is))
             (lt-or-ge j k);
-        behind = λ j h. getD-set-other out at j acc 0 (λ e. omega arith) ∙ f .behind j h;
+        after = λ j h. getD-set-other out at j acc 0 (λ e. omega arith) ∙ f .after j h;
       }
 
 pub filling-end : (o : Order) (s old : List ℕ) (acc k : ℕ) (out : List ℕ) → Filling o s old acc k out → length s ≤ k → out ≡ atFront (strides o s) old
@@ -146,7 +149,7 @@ filling-end o s old acc k out f l =
     let g : getD (atFront (strides o s) old) i 0 ≡ getD old i 0 =
     rw y at (getD-append-add (strides o s) (drop (length (strides o s)) old) (i - length (strides o s)) 0
     ∙ getD-drop (length (strides o s)) old (i - length (strides o s)) 0) in
-    f .behind i u ∙ sym g)
+    f .after i u ∙ sym g)
     (lt-or-ge i (length s)))
 
 -- what counting the items says of 22
@@ -158,21 +161,22 @@ counted-fits o s n e = go (overShape o s) refl e
     go true t e = let z : _≡_ {A = ℕ} 0 1 = cc in absurd (omega arith)
     go false t e = (t, cc)
 
-pub counted-over : (o : Order) (s : List ℕ) → refused 22 ≡ itemCount o s → overShape o s ≡ true
+pub counted-refused : (o : Order) (s : List ℕ) (n : ℕ) → refused n ≡ itemCount o s → (overShape o s ≡ true) × (n ≡ 22)
 unfolding itemCount
-counted-over o s e = go (overShape o s) refl e
+counted-refused o s n e = go (overShape o s) refl e
   where
-    go : (b : Bool) → overShape o s ≡ b → refused 22 ≡ unless b 22 (gives (product s)) → overShape o s ≡ true
-    go true t e = t
+    go : (b : Bool) → overShape o s ≡ b → refused n ≡ unless b 22 (gives (product s)) → (overShape o s ≡ true) × (n ≡ 22)
+    go true t e = (t, cc)
     go false t e = let z : _≡_ {A = ℕ} 0 1 = cc in absurd (omega arith)
 
 -- the three answers of `strides`
 module _ (o : Order) (s out : List ℕ) where
-  pub writes-over : refused 22 ≡ itemCount o s → Writes o s out StridesWritten.Over out
+  -- where the items are not counted, their refusal is passed on: it is 22
+  pub writes-refused : (why : Refusal) → itemsAnswer (ItemsAnswer.Refused why) ≡ itemCount o s → WritesStrides o s out (ItemsAnswer.Refused why) out
   unfolding stridesCount
-  writes-over e = let t = counted-over o s e in record { answered = simp t; out-after = simp t }
+  writes-refused why e = let t = counted-refused o s (numberOf why) e in record { answered = ap refused (t .1) ∙ simp (t .0); out-after = simp (t .0) }
 
-  pub writes-room : (n : ℕ) → gives n ≡ itemCount o s → length out < length s → Writes o s out StridesWritten.Room out
+  pub writes-room : (n : ℕ) → gives n ≡ itemCount o s → length out < length s → WritesStrides o s out (ItemsAnswer.Refused Refusal.Room) out
   unfolding stridesCount
   writes-room n e l =
       let t = counted-fits o s n e .0 in
@@ -180,7 +184,7 @@ module _ (o : Order) (s out : List ℕ) where
       record { answered = simp (t, u); out-after = simp (t, u) }
 
   pub writes-all : (n : Items) (out′ : List ℕ) → gives (n .0) ≡ itemCount o s → length s ≤ length out → out′ ≡ atFront (strides o s) out
-      → Writes o s out (StridesWritten.Count n) out′
+      → WritesStrides o s out (ItemsAnswer.Is n) out′
   unfolding stridesCount
   writes-all n out′ e l q =
       let t = counted-fits o s (n .0) e in

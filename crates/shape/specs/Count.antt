@@ -1,6 +1,5 @@
 -- Document 01, "The refusal numbers": 22, "count or a stride of the declared order over 2^64-1", then 23, "lent table, name, shape or element room too small", which by docs/DECISIONS.md holds
 -- for the room of strides too; and "every lent buffer stays unchanged. On success, room beyond what was needed is unchanged." Count and strides are the crate dtype's.
--- Definitions only. Assumes nothing.
 use Prim.Native.Nat.{ℕ}
 use mathlib.Core.Path.{_≡_}
 use mathlib.Core.List.{List}
@@ -11,8 +10,8 @@ use Rattle.counts.specs.Outcome.{Outcome, gives, refused, unless}
 use Rattle.dtype.specs.declared.Order.{Order}
 use Rattle.dtype.specs.Shape.{product, strides}
 use Rattle.dtype.specs.Limits.{overShape}
-use Rattle.shape.specs.declared.StridesWritten.{StridesWritten}
-use Rattle.shape.specs.Answer.{wrote}
+use Rattle.refusal.specs.declared.ItemsAnswer.{ItemsAnswer}
+use Rattle.refusal.specs.Answers.{itemsAnswer}
 
 -- the item count, or 22
 unfoldable pub itemCount : Order → List ℕ → Outcome ℕ
@@ -23,11 +22,11 @@ unfoldable pub stridesCount : Order → List ℕ → (room : ℕ) → Outcome �
 stridesCount o s room = unless (overShape o s) 22 (unless (ltb room (length s)) 23 (gives (product s)))
 
 -- what a buffer holds afterwards: the new numbers, or what it held where the answer is a refusal
-abbrev pub left : Outcome ℕ → (new old : List ℕ) → List ℕ
-left (gives n) new old = atFront new old
-left (refused n) new old = old
+abbrev pub stridesAfter : Outcome ℕ → (new old : List ℕ) → List ℕ
+stridesAfter (gives n) new old = atFront new old
+stridesAfter (refused n) new old = old
 
--- what writing the strides owes
-pub record Writes (o : Order) (s out : List ℕ) (r : StridesWritten) (out′ : List ℕ) : Type 0 where
-  pub answered : wrote r ≡ stridesCount o s (length out)
-  pub out-after : out′ ≡ left (stridesCount o s (length out)) (strides o s) out
+-- the contract of writing the strides: the answer, and what `out` then holds
+pub record WritesStrides (o : Order) (s out : List ℕ) (r : ItemsAnswer) (out′ : List ℕ) : Type 0 where
+  pub answered : itemsAnswer r ≡ stridesCount o s (length out)
+  pub out-after : out′ ≡ stridesAfter (stridesCount o s (length out)) (strides o s) out

@@ -1,5 +1,5 @@
--- The order in which the dimensions of a shape are visited so that the stride of each is the product of those before it: the last first in C order, the
--- first first in Fortran order. Definitions only. Assumes nothing.
+-- The order in which the dimensions of a shape are visited so that the stride of each is the product of those before it: the last one first in C
+-- order, the first one first in Fortran order.
 use Prim.Native.Nat.{ℕ, _-_}
 use Rattle.dtype.specs.declared.Order.{Order}
 use Rattle.dtype.specs.declared.Order.the-variants.{C, Fortran}

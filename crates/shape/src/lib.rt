@@ -1,56 +1,52 @@
-// The item count and the strides of a shape (document 01, "The record"; `strides` of npyz's read.rs), with refusals 22 and 23. No public
-// function here has a `requires`. What each answer stands for is in specs/Answer.antt.
-use counts::ItemCount;
+// The item count and the strides of a shape, or 22, or 23 (document 01, "The record"; `strides` of npyz's read.rs). Called by the check of a record, by item numbers, by
+// the listing and by the C interface.
 use counts::Items;
 use counts::Number;
 use dtype::Order;
+use refusal::ItemsAnswer;
+use refusal::Refusal;
 ghost use mathlib.Core.Path.{_≡_};
 ghost use mathlib.Core.Bool.{false};
 ghost use Prim.Native.Nat.{_<_, _≤_};
 ghost use lib.ListN.{length};
 ghost use Rattle.dtype.specs.Shape.{strides};
 ghost use Rattle.dtype.specs.Limits.{overShape};
-ghost use Rattle.shape.specs.Answer.{counted};
 ghost use Rattle.counts.specs.Front.{atFront};
-ghost use Rattle.shape.specs.Count.{itemCount, Writes};
+ghost use Rattle.refusal.specs.Answers.{itemsAnswer};
+ghost use Rattle.shape.specs.Count.{itemCount, WritesStrides};
 ghost use Rattle.shape.specs.Visit.{visited};
 
-// The strides were written, and this is the item count; or 22; or 23.
-pub enum StridesWritten {
-    Count(Items),
-    Over,
-    Room,
-}
-
-// The item count of a shape, unless it or a stride of this order is over 2^64-1.
-pub fn count(shape: &[u64], order: Order) -> ItemCount
-    ensures { λ r. ⌜ counted r ≡ itemCount order (now (shape .entry)) ⌝ }
+// The item count of a shape; 22 where it or a stride of this order is over 2^64-1.
+pub fn count(shape: &[u64], order: Order) -> ItemsAnswer
+    ensures { λ r. ⌜ itemsAnswer r ≡ itemCount order (now (shape .entry)) ⌝ }
 {
     let mut product: u64 = 1;
     let mut k: usize = 0;
     while k < shape.len() {
         let at = visit(order, shape.len(), k);
         let Number::Is(next) = counts::product(product, shape[at]) else {
-            return ItemCount::Over;
+            return ItemsAnswer::Refused(Refusal::Shape);
         };
         product = next;
         k += 1;
     }
-    ItemCount::Is(Items(product))
+    ItemsAnswer::Is(Items(product))
 }
 
-// Writes the strides of a shape, in items, to the front of `out`. A refusal leaves `out` as it was.
-pub fn strides(shape: &[u64], order: Order, out: &mut [u64]) -> StridesWritten
-    ensures { λ r. ⌜ Writes order (now (shape .entry)) (now (out .entry)) r (now (out .exit)) ⌝ }
+// Writes the strides of a shape, in items, to the front of `out`, and returns the item count; or 22; or 23 where `out` is shorter than the shape. A refusal leaves
+// `out` as it was.
+pub fn strides(shape: &[u64], order: Order, out: &mut [u64]) -> ItemsAnswer
+    ensures { λ r. ⌜ WritesStrides order (now (shape .entry)) (now (out .entry)) r (now (out .exit)) ⌝ }
 {
-    let ItemCount::Is(items) = count(shape, order) else {
-        return StridesWritten::Over;
+    let counted = count(shape, order);
+    let ItemsAnswer::Is(items) = counted else {
+        return counted;
     };
     if out.len() < shape.len() {
-        return StridesWritten::Room;
+        return ItemsAnswer::Refused(Refusal::Room);
     }
     fill(shape, order, out);
-    StridesWritten::Count(items)
+    ItemsAnswer::Is(items)
 }
 
 // Each stride is the product of the dimensions visited before.

@@ -8,16 +8,16 @@ use Rattle.decimal.specs.Decimal.{printed}
 use Rattle.emit.specs.Emits.{Emits}
 use Rattle.emit.proofs.Pieces.{emits-then, emits-same}
 use Rattle.emit.proofs.Texts.{written-short, written-whole}
-use Rattle.byte_orders.specs.Spelling.{orderByte}
-use Rattle.letters.specs.Spelling.{letterByte}
-use Rattle.units.specs.Units.{unitText}
-use Rattle.letters.specs.Classes.{isObject}
+use Rattle.refusal.specs.declared.Refusal.the-variants.{NoReading, OutputRoom}
+use Rattle.refusal.specs.declared.BytesAnswer.the-variants.{Is, Refused}
+use Rattle.type_letters.specs.Orders.{orderByte}
+use Rattle.type_letters.specs.Letters.{letterByte}
+use Rattle.type_units.specs.Units.{unitText}
+use Rattle.type_letters.specs.Classes.{isObject}
 use Rattle.type_str.specs.Text.{typeText, isType, typePrinted, typePlaced}
 use Rattle.type_str.specs.declared.TypeStr.{TypeStr}
 use Rattle.type_print.specs.Printed.{Prints}
-use Rattle.type_print.specs.declared.TypePrint.the-variants.{Printed, NoType, OutputRoom}
 
--- ---- a type
 module _ (t : TypeStr) (old : List ℕ) (at : ℕ) (mid₁ : List ℕ) (p₁ : ℕ) (mid₂ : List ℕ) (p₂ : ℕ) (a : Emits (λ x. orderByte (t .order) ∷ x) old at mid₁ p₁) (b : Emits (λ x. letterByte (t .letter) ∷ x) mid₁ p₁ mid₂ p₂) where
   head-of : Emits (λ x. orderByte (t .order) ∷ letterByte (t .letter) ∷ x) old at mid₂ p₂
   head-of = emits-then (λ x. orderByte (t .order) ∷ x) (λ x. letterByte (t .letter) ∷ x) old at mid₁ p₁ mid₂ p₂ a b
@@ -36,19 +36,19 @@ module _ (t : TypeStr) (old : List ℕ) (at : ℕ) (mid₁ : List ℕ) (p₁ : �
       (emits-then (λ x. orderByte (t .order) ∷ letterByte (t .letter) ∷ printed (t .size) x) (unitText (t .units)) old at mid₃ p₃ out q
       (emits-then (λ x. orderByte (t .order) ∷ letterByte (t .letter) ∷ x) (printed (t .size)) old at mid₂ p₂ mid₃ p₃ head-of c) d)
 
--- ---- the whole to lent room
-pub prints-none : (t : TypeStr) (room : List ℕ) → isType t ≡ false → Prints t room NoType room
+-- ---- the whole, to lent room
+pub prints-none : (t : TypeStr) (room : List ℕ) → isType t ≡ false → Prints t room (Refused NoReading) room
 unfolding typePrinted typePlaced
 prints-none t room h = record { answered = rw (typePrinted, h); room-after = rw (typePlaced, h) }
 
 module _ (t : TypeStr) (scratch mid : List ℕ) (n : ℕ) (room : List ℕ) (fits : n < 2 ^ 64) (small : length room < 2 ^ 64 - 1) (h : isType t ≡ true) (measured : Emits (typeText t) scratch 0 mid n) where
-  pub prints-short : length room < n → Prints t room OutputRoom room
+  pub prints-short : length room < n → Prints t room (Refused OutputRoom) room
   unfolding typePrinted typePlaced
   prints-short lt =
       let w = written-short (typeText t) scratch mid n room fits small measured lt in
       record { answered = rw (typePrinted, h) (w .0); room-after = rw (typePlaced, h) (w .1) }
 
-  pub prints-whole : (out : List ℕ) (q : ℕ) → n ≤ length room → Emits (typeText t) room 0 out q → Prints t room (Printed n) out
+  pub prints-whole : (out : List ℕ) (q : ℕ) → n ≤ length room → Emits (typeText t) room 0 out q → Prints t room (Is (record { 0 = n })) out
   unfolding typePrinted typePlaced
   prints-whole out q le e =
       let w = written-whole (typeText t) scratch mid n room fits small measured out q le e in

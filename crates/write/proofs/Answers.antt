@@ -1,4 +1,4 @@
--- What writing a record answers whose text can be printed, refusal by refusal, and what the room then holds: the header's own bytes at its front, where it is long
+-- What writing a record whose text can be printed answers, refusal by refusal, and what the room then holds: the header's own bytes at its front, where it is long
 -- enough. The text is as long as it was measured, and the version, the spaces and the lengths are those of its names and its length. Assumes nothing.
 use Prim.Native.Nat.{ℕ, _+_, _^_, _<_, _≤_}
 use native.Mathlib.Omega.{arith}
@@ -12,8 +12,12 @@ use mathlib.Core.Logic.{⊎-elim}
 use Rattle.counts.specs.Outcome.{Outcome, gives, refused}
 use Rattle.counts.specs.Number.{capped}
 use Rattle.counts.proofs.Sides.{lt-or-ge}
+use Rattle.refusal.specs.Numbers.{numberOf}
+use Rattle.refusal.specs.declared.Refusal.{Refusal}
+use Rattle.refusal.specs.declared.Refusal.the-variants.{OutputRoom}
+use Rattle.refusal.specs.declared.BytesAnswer.{BytesAnswer}
 use Rattle.emit.specs.Emits.{Emits}
-use Rattle.grammar.specs.Print.{spaces, print, valueOf}
+use Rattle.literal_grammar.specs.Print.{spaces, print, valueOf}
 use Rattle.dtype.specs.declared.Order.{Order}
 use Rattle.dtype.specs.Dtype.{Dtype}
 use Rattle.dtype.specs.Limits.{limited}
@@ -21,31 +25,29 @@ use Rattle.dtype.specs.Record.{Record}
 use Rattle.record.specs.Version.{textStart}
 use Rattle.record.specs.Prefix.{most-text}
 use Rattle.record.specs.Layout.{headerLayout}
-use Rattle.record.specs.Padding.{isAscii, spacesBehind, versionFor}
+use Rattle.record.specs.Padding.{isAscii, spacesAfter, versionFor}
 use Rattle.record.specs.Within.{within}
 use Rattle.record.specs.File.{bareText, version, text, textLength, fileBy, fileOf, headerLength}
 use Rattle.record.specs.Writing.{writing, placed}
 use Rattle.record.proofs.RoundTrips.{file-whole}
-use Rattle.table.specs.Checked.{checkedRecord}
-use Rattle.table.specs.Valid.{made, Valid}
-use Rattle.table.proofs.Accepts.{accepts-valid}
-use Rattle.depth.specs.Printable.{printable}
-use Rattle.depth.proofs.Views.{View, unread, too-deep, shown, view}
-use Rattle.print.specs.declared.Printed.{Printed}
-use Rattle.print.specs.Prints.{Prints}
-use Rattle.print.proofs.Prints.{told-behind}
-use Rattle.padding.specs.declared.Plan.{Plan}
-use Rattle.write.specs.declared.Written.{Written}
-use Rattle.write.specs.Answer.{answer}
-use Rattle.padding.specs.Plan.{planned}
-use Rattle.prefix.specs.Answer.{versionIs}
-use Rattle.padding.proofs.Plans.{chosen-back, told-long, told-fits}
-use Rattle.write.specs.Writes.{headerWritten, headerPlaced, Writes, WritesRecord}
+use Rattle.check_record.specs.Checked.{checkedRecord}
+use Rattle.check_record.specs.Valid.{made, Valid}
+use Rattle.check_record.proofs.Accepts.{accepts-valid}
+use Rattle.write_depth.specs.Printable.{printable}
+use Rattle.write_depth.proofs.Views.{View, unread, too-deep, shown, view}
+use Rattle.write_text.specs.declared.Printed.{Printed}
+use Rattle.write_text.specs.Prints.{Prints}
+use Rattle.write_text.proofs.Prints.{told-end}
+use Rattle.write_padding.specs.declared.PaddingPlan.{PaddingPlan}
+use Rattle.write_padding.specs.Plan.{planned}
+use Rattle.header_prefix.specs.Answer.{versionIs}
+use Rattle.write_padding.proofs.Plans.{chosen-back, told-long, told-fits}
+use Rattle.write.specs.Writes.{headerWritten, headerPlaced, WritesHeader, WritesRecord}
 use Rattle.write.proofs.Ascii.{text-ascii}
 
 -- ---- 7, 4, 28, and the bytes, of a record within the limits
-refused-by : (r : Record) (room : List ℕ) (w : Written) (k : ℕ) → answer w ≡ refused k → writing r room ≡ refused k → WritesRecord r room w room
-refused-by r room w k a e = record { answered = a ∙ sym e; room-after = ap (λ (o : Outcome ℕ). placed o r room) (sym e) }
+refused-by : (r : Record) (room : List ℕ) (why : Refusal) → writing r room ≡ refused (numberOf why) → WritesRecord r room (BytesAnswer.Refused why) room
+refused-by r room why e = record { answered = sym e; room-after = ap (λ (o : Outcome ℕ). placed o r room) (sym e) }
 
 module _ (r : Record) (room : List ℕ) (limits : limited r ≡ gives r) where
   seven : within (valueOf (headerLayout r)) 32 ≡ false → writing r room ≡ refused 7
@@ -53,23 +55,17 @@ module _ (r : Record) (room : List ℕ) (limits : limited r ≡ gives r) where
   seven h = rw (writing, limits, h)
 
   module _ (near : within (valueOf (headerLayout r)) 32 ≡ true) where
-    writing-4 : most-text < textLength r → WritesRecord r room Written.Long room
+    four : most-text < textLength r → writing r room ≡ refused 4
     unfolding writing
-    writing-4 l = refused-by r room Written.Long 4 refl four
-      where
-        four : writing r room ≡ refused 4
-        four = rw (writing, limits, near, lt-ltb most-text (textLength r) l)
+    four l = rw (writing, limits, near, lt-ltb most-text (textLength r) l)
 
     module _ (few : textLength r ≤ most-text) where
-      writing-28 : length room < headerLength r → WritesRecord r room Written.OutputRoom room
+      twenty-eight : length room < headerLength r → writing r room ≡ refused 28
       unfolding writing
-      writing-28 l = refused-by r room Written.OutputRoom 28 refl small
-        where
-          small : writing r room ≡ refused 28
-          small = rw (writing, limits, near, le-ltb most-text (textLength r) few, lt-ltb (length room) (headerLength r) l)
+      twenty-eight l = rw (writing, limits, near, le-ltb most-text (textLength r) few, lt-ltb (length room) (headerLength r) l)
 
       writing-all : headerLength r ≤ length room → (n : ℕ) (out : List ℕ) → n ≡ headerLength r → out ≡ fileOf r ++ drop (headerLength r) room
-          → WritesRecord r room (Written.Count n) out
+          → WritesRecord r room (BytesAnswer.Is (record { 0 = n })) out
       unfolding writing
       writing-all l n out z e =
           record { answered = ap gives z ∙ sym all; room-after = e ∙ ap (λ (o : Outcome ℕ). placed o r room) (sym all) }
@@ -78,29 +74,29 @@ module _ (r : Record) (room : List ℕ) (limits : limited r ≡ gives r) where
           all = rw (writing, limits, near, le-ltb most-text (textLength r) few, le-ltb (length room) (headerLength r) l)
 
 -- ---- the plan is the record's
-record Fits (x : Record) (p : Plan) : Type 0 where
+record Fits (x : Record) (p : PaddingPlan) : Type 0 where
   version-is : versionIs (p .version) ≡ version x
-  spaces-is : p .spaces ≡ spacesBehind (textStart (version x) + length (bareText x))
+  spaces-is : p .spaces ≡ spacesAfter (textStart (version x) + length (bareText x))
   text-is : p .text ≡ textLength x
   whole-is : p .whole ≡ headerLength x
 
-fits-by : (x : Record) (p : Plan) (a : Bool) (n : ℕ) → a ≡ isAscii (bareText x) → n ≡ length (bareText x) → gives p ≡ planned a n → Fits x p
+fits-by : (x : Record) (p : PaddingPlan) (a : Bool) (n : ℕ) → a ≡ isAscii (bareText x) → n ≡ length (bareText x) → gives p ≡ planned a n → Fits x p
 unfolding version textLength headerLength
 fits-by x p a n e z pl =
     let y = rw (e, z) at (told-fits a n p pl .0) in
     record {
-      version-is = ap (λ (q : Plan). versionIs (q .version)) y ∙ chosen-back (versionFor (isAscii (bareText x)) (length (bareText x)));
-      spaces-is = ap (λ (q : Plan). q .spaces) y;
-      text-is = ap (λ (q : Plan). q .text) y;
-      whole-is = ap (λ (q : Plan). q .whole) y;
+      version-is = ap (λ (q : PaddingPlan). versionIs (q .version)) y ∙ chosen-back (versionFor (isAscii (bareText x)) (length (bareText x)));
+      spaces-is = ap (λ (q : PaddingPlan). q .spaces) y;
+      text-is = ap (λ (q : PaddingPlan). q .text) y;
+      whole-is = ap (λ (q : PaddingPlan). q .whole) y;
     }
 
 -- the bytes that are written are the record's own
-bytes-are : (x : Record) (p : Plan) → Fits x p → fileBy (versionIs (p .version)) (p .text) (print (headerLayout x) (spaces (p .spaces) (10 ∷ []))) ≡ fileOf x
+bytes-are : (x : Record) (p : PaddingPlan) → Fits x p → fileBy (versionIs (p .version)) (p .text) (print (headerLayout x) (spaces (p .spaces) (10 ∷ []))) ≡ fileOf x
 unfolding fileOf text
 bytes-are x p f = rw (f .version-is, f .text-is, f .spaces-is)
 
-placed-whole : (x : Record) (p : Plan) → Fits x p → (room : List ℕ) → headerLength x ≤ length room → (out : List ℕ) (q : ℕ)
+placed-whole : (x : Record) (p : PaddingPlan) → Fits x p → (room : List ℕ) → headerLength x ≤ length room → (out : List ℕ) (q : ℕ)
     → Emits (λ z. fileBy (versionIs (p .version)) (p .text) (print (headerLayout x) (spaces (p .spaces) (10 ∷ z)))) room 0 out q
     → out ≡ fileOf x ++ drop (headerLength x) room
 placed-whole x p f room l out q h =
@@ -143,17 +139,19 @@ module _ (t ns s : List ℕ) (o : Order) (x : Record) (h : printable t ns s o �
     same-ascii : a ≡ isAscii (bareText x)
     same-ascii = ascii-is t ns s o x is-checked a ascii
 
-    pub record-4 : refused 4 ≡ planned a n → WritesRecord x room Written.Long room
+    pub record-4 : (why : Refusal) → refused (numberOf why) ≡ planned a n → WritesRecord x room (BytesAnswer.Refused why) room
     unfolding textLength version
-    record-4 e = writing-4 x room (limits-are t ns s o x is-checked) near-is (⊎-elim over within-most (lt-or-ge most-text n))
+    record-4 why e =
+        refused-by x room why
+        (four x room (limits-are t ns s o x is-checked) near-is (⊎-elim over within-most (lt-or-ge most-text n)) ∙ ap refused (told-long a n (numberOf why) e .0))
       where
         over : most-text < n → most-text < textLength x
         over l = omega arith
 
         within-most : n ≤ most-text → most-text < textLength x
-        within-most few = rw (same-ascii, length-is few) at (told-long a n e)
+        within-most few = rw (same-ascii, length-is few) at (told-long a n (numberOf why) e .1)
 
-    module _ (p : Plan) (fit : gives p ≡ planned a n) where
+    module _ (p : PaddingPlan) (fit : gives p ≡ planned a n) where
       few : n ≤ most-text
       few = omega (arith, told-fits a n p fit .1)
 
@@ -164,12 +162,13 @@ module _ (t ns s : List ℕ) (o : Order) (x : Record) (h : printable t ns s o �
       unfolding textLength version
       short = rw (same-ascii, length-is few) at (told-fits a n p fit .1)
 
-      pub record-28 : length room < p .whole → WritesRecord x room Written.OutputRoom room
-      record-28 l = writing-28 x room (limits-are t ns s o x is-checked) near-is short (omega (arith, plan-fits .whole-is))
+      pub record-28 : length room < p .whole → WritesRecord x room (BytesAnswer.Refused OutputRoom) room
+      record-28 l =
+          refused-by x room OutputRoom (twenty-eight x room (limits-are t ns s o x is-checked) near-is short (omega (arith, plan-fits .whole-is)))
 
       pub record-written : p .whole ≤ length room → (out : List ℕ) (q : ℕ)
           → ((x : Record) → printable t ns s o ≡ gives x → Emits (λ z. fileBy (versionIs (p .version)) (p .text) (print (headerLayout x) (spaces (p .spaces) (10 ∷ z)))) room 0 out q)
-          → WritesRecord x room (Written.Count (p .whole)) out
+          → WritesRecord x room (BytesAnswer.Is (record { 0 = p .whole })) out
       record-written l out q w =
           let room-fits : headerLength x ≤ length room = omega (arith, plan-fits .whole-is) in
           writing-all x room (limits-are t ns s o x is-checked) near-is short room-fits (p .whole) out (plan-fits .whole-is)
@@ -177,28 +176,28 @@ module _ (t ns s : List ℕ) (o : Order) (x : Record) (h : printable t ns s o �
 
 -- ---- a caller's record
 module _ (t ns s : List ℕ) (o : Order) (room : List ℕ) where
-  header-by : (x : Record) → checkedRecord t ns s o ≡ gives x → (w : Written) (out : List ℕ) → WritesRecord x room w out → Writes t ns s o room w out
+  header-by : (x : Record) → checkedRecord t ns s o ≡ gives x → (w : BytesAnswer) (out : List ℕ) → WritesRecord x room w out → WritesHeader t ns s o room w out
   unfolding headerWritten headerPlaced
   header-by x e w out h = record { answered = rw (headerWritten, e) (h .answered); room-after = rw (headerPlaced, e) (h .room-after) }
 
-  no-record : (w : Written) (k : ℕ) → answer w ≡ refused k → checkedRecord t ns s o ≡ refused k → Writes t ns s o room w room
+  no-record : (why : Refusal) → checkedRecord t ns s o ≡ refused (numberOf why) → WritesHeader t ns s o room (BytesAnswer.Refused why) room
   unfolding headerWritten headerPlaced
-  no-record w k a e = record { answered = a ∙ sym (rw (headerWritten, e)); room-after = sym (rw (headerPlaced, e)) }
+  no-record why e = record { answered = sym (rw (headerWritten, e)); room-after = sym (rw (headerPlaced, e)) }
 
   -- what is not printed is not written
-  pub header-refused : (w : Written) (k : ℕ) → answer w ≡ refused k → printable t ns s o ≡ refused k → Writes t ns s o room w room
-  header-refused w k a h = go (view t ns s o)
+  pub header-refused : (why : Refusal) → printable t ns s o ≡ refused (numberOf why) → WritesHeader t ns s o room (BytesAnswer.Refused why) room
+  header-refused why h = go (view t ns s o)
     where
-      go : View t ns s o → Writes t ns s o room w room
-      go (unread m e p) = let z : m ≡ k = cc in no-record w k a (rw z at e)
+      go : View t ns s o → WritesHeader t ns s o room (BytesAnswer.Refused why) room
+      go (unread m e p) = let z : m ≡ numberOf why = cc in no-record why (rw z at e)
       go (too-deep x e far p) =
-          let z : 7 ≡ k = cc in
-          header-by x e w room (refused-by x room w 7 (rw (sym z) at a) (seven x room (limits-are t ns s o x e) far))
+          let z : 7 ≡ numberOf why = cc in
+          header-by x e (BytesAnswer.Refused why) room (refused-by x room why (seven x room (limits-are t ns s o x e) far ∙ ap refused z))
       go (shown x e near p) = absurd (let z : _≡_ {A = ℕ} 0 1 = cc in omega arith)
 
   -- and what was printed to scratch room is measured
-  pub header-measured : (bare : ℕ) → bare < 2 ^ 64 → (scratch mid : List ℕ) (r : Printed) → r ≡ Printed.Behind bare → Prints (printable t ns s o) scratch 0 r mid → (w : Written) (out : List ℕ)
-      → ((x : Record) → printable t ns s o ≡ gives x → bare ≡ capped (length (bareText x)) → WritesRecord x room w out) → Writes t ns s o room w out
+  pub header-measured : (bare : ℕ) → bare < 2 ^ 64 → (scratch mid : List ℕ) (r : Printed) → r ≡ Printed.End bare → Prints (printable t ns s o) scratch 0 r mid → (w : BytesAnswer) (out : List ℕ)
+      → ((x : Record) → printable t ns s o ≡ gives x → bare ≡ capped (length (bareText x)) → WritesRecord x room w out) → WritesHeader t ns s o room w out
   header-measured bare small scratch mid r z h w out k =
-      let u = told-behind (printable t ns s o) scratch 0 bare mid (subst (λ (y : Printed). Prints (printable t ns s o) scratch 0 y mid) z h) in
+      let u = told-end (printable t ns s o) scratch 0 bare mid (subst (λ (y : Printed). Prints (printable t ns s o) scratch 0 y mid) z h) in
       header-by (u .0) (can-print t ns s o (u .0) (u .1) .0) w out (k (u .0) (u .1) (omega (arith, u .2 .behind [])))

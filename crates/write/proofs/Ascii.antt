@@ -1,4 +1,4 @@
--- WHETHER A HEADER'S TEXT IS ASCII IS DECIDED BY ITS NAMES (`text-ascii`): all else that is printed is ASCII, and an escape is as its byte. Assumes nothing.
+-- A header's text is ASCII exactly where its names are (`text-ascii`): all else that is printed is ASCII, and an escape is as its byte. Assumes nothing.
 use Prim.Native.Nat.{ℕ, zero, suc, _+_, _%_, _<_, _≤_}
 use native.Mathlib.Omega.{arith}
 use native.Mathlib.Numerals.{add-one}
@@ -11,19 +11,19 @@ use lib.ListN.{length, getD, drop, drop-of-length-le}
 use lib.Seq.{drop-cons}
 use Rattle.decimal.specs.Decimal.{printed}
 use Rattle.decimal.proofs.Prints.{by-tens, printed-low, printed-high}
-use Rattle.byte_orders.specs.declared.Endianness.{Endianness}
-use Rattle.byte_orders.specs.declared.Endianness.the-variants.{Little, Big, Irrelevant}
-use Rattle.letters.specs.declared.TypeChar.{TypeChar}
-use Rattle.letters.specs.declared.TypeChar.the-variants.{Bool as Boolean, Int, Uint, Float as Floating, Complex, TimeDelta, DateTime, ByteStr, UnicodeStr, Object, RawData}
-use Rattle.units.specs.declared.TimeUnits.{TimeUnits}
-use Rattle.units.specs.declared.TimeUnits.the-variants.{Absent, Year, Month, Week, Day, Hour, Minute, Second, Millisecond, Microsecond, Nanosecond, Picosecond, Femtosecond, Attosecond}
+use Rattle.type_letters.specs.declared.Endianness.{Endianness}
+use Rattle.type_letters.specs.declared.Endianness.the-variants.{Little, Big, Irrelevant}
+use Rattle.type_letters.specs.declared.TypeChar.{TypeChar}
+use Rattle.type_letters.specs.declared.TypeChar.the-variants.{Bool as Boolean, Int, Uint, Float as Floating, Complex, TimeDelta, DateTime, ByteStr, UnicodeStr, Object, RawData}
+use Rattle.type_units.specs.declared.TimeUnits.{TimeUnits}
+use Rattle.type_units.specs.declared.TimeUnits.the-variants.{Absent, Year, Month, Week, Day, Hour, Minute, Second, Millisecond, Microsecond, Nanosecond, Picosecond, Femtosecond, Attosecond}
 use Rattle.type_str.specs.declared.TypeStr.{TypeStr}
-use Rattle.byte_orders.specs.Spelling.{orderByte}
-use Rattle.letters.specs.Spelling.{letterByte}
-use Rattle.units.specs.Units.{unitText}
-use Rattle.letters.specs.Classes.{isObject}
+use Rattle.type_letters.specs.Orders.{orderByte}
+use Rattle.type_letters.specs.Letters.{letterByte}
+use Rattle.type_units.specs.Units.{unitText}
+use Rattle.type_letters.specs.Classes.{isObject}
 use Rattle.type_str.specs.Text.{typeText}
-use Rattle.grammar.specs.Print.{Layout, escapeOf, spelled, escapes, print, printRow}
+use Rattle.literal_grammar.specs.Print.{Layout, escapeOf, spelled, escapes, print, printRow}
 use Rattle.dtype.specs.declared.Order.{Order}
 use Rattle.dtype.specs.declared.Order.the-variants.{C, Fortran}
 use Rattle.dtype.specs.Dtype.{Dtype, Fields, plain, array, record-of, end-of-fields, field-then}
@@ -32,8 +32,8 @@ use Rattle.dtype.specs.Record.{names}
 use Rattle.record.specs.Layout.{dimensionRow, shapeLayout, fieldLayout, levelsOf, descrLayout, fieldRow}
 use Rattle.record.specs.Padding.{isAscii}
 use Rattle.record.specs.File.{bareText}
-use Rattle.table.specs.Valid.{made}
-use Rattle.pieces.proofs.Types.{type-plain}
+use Rattle.check_record.specs.Valid.{made}
+use Rattle.write_pieces.proofs.Types.{type-plain}
 
 -- ---- the loop of `is_ascii`
 module _ (s : List ℕ) (i : ℕ) (inside : i < length s) (same : isAscii s ≡ isAscii (drop i s)) where

@@ -1,6 +1,6 @@
 -- No value, and the verdict is as for one of another form; or a value, and the walk has judged it. Assumes nothing.
 use mathlib.Core.Path.{refl}
-use Rattle.classes.proofs.Ends.{stops}
+use Rattle.literal_bytes.proofs.Ends.{stops}
 use Rattle.descr.proofs.Whole.{judged-none, judged-at}
 use borrow.Author.Needs.{needs}
 use Rattle.descr.proofs.judge.Statement.{statement}

@@ -1,6 +1,6 @@
--- A file that is held whole is one that is held in part and is not longer, so `read_held` answers what is owed. Assumes nothing.
-use Rattle.header.specs.Answer.{lent}
-use Rattle.header.proofs.Whole.{whole-read}
+-- A whole file is one that is held and is not longer. Assumes nothing.
+use Rattle.header.specs.Reads.{lent}
+use Rattle.header.proofs.File.{whole-read}
 use borrow.Author.Needs.{needs}
 use Rattle.header.proofs.read.Statement.{statement}
 use Rattle.header.proofs.read.Tie as tie

@@ -2,10 +2,10 @@
 use mathlib.Core.Path.{sym, _∙_}
 use Rattle.counts.proofs.OneOutcome.{told}
 use Rattle.refusal.specs.declared.Refusal.{Refusal}
-use Rattle.classes.specs.Text.{skip}
+use Rattle.literal_bytes.specs.Text.{skip}
 use Rattle.utf8.specs.Answer.{answer}
 use Rattle.judge.proofs.Tests.{refused-by}
-use Rattle.judge.proofs.Top.{ill-record, ended-so, fault-record, deep-record, value-judged}
+use Rattle.judge.proofs.Top.{ill-record, ended-so, fault-record, deep-record, value-got, value-judged}
 use borrow.Author.Needs.{needs}
 use Rattle.judge.proofs.judge.Statement.{statement}
 use Rattle.judge.proofs.judge.Tie as tie
@@ -51,8 +51,9 @@ returns-2 c =
     let well = told answer (c .before .before .before .before .before .before .before .before .check .ensures .answered) (c .before .before .before .before .before .before .enum-told .given .1) in
     let at = c .before .before .before .before .before .blanks in
     let w = c .before .before .before .before .keys in
-    let e = ended-so s well _ _ (at .result) (at .ensures) (w .ensures .ended) (c .before .before .before .whole .ensures) in
-    value-judged s well (at .result) (c .judge-keys .result) _ (sym (c .before .enum-told3 .given .1) ∙ e) (at .ensures) (c .judge-keys .ensures s (at .result) (w .ensures .keys))
+    let e = sym (c .before .enum-told3 .given .1) ∙ ended-so s well _ _ (at .result) (at .ensures) (w .ensures .ended) (c .before .before .before .whole .ensures) in
+    let v = value-got s well (at .result) _ e (at .ensures) in
+    value-judged s well (at .result) (c .judge-keys .result) _ e (at .ensures) (c .judge-keys .ensures s (at .result) (w .ensures .keys (v .0) (v .1) (v .2)))
 
 returns-3 : tie.Need-returns-3
 returns-3 c =

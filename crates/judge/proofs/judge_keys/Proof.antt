@@ -1,55 +1,95 @@
--- 8, and then what is behind it. Assumes nothing.
+-- 8, the three keys one after the other, and the limits: the first that refuses decides. Assumes nothing.
+use mathlib.Core.Path.{sym, _∙_}
+use borrow.Author.Tests.{not-true, not-false}
 use Rattle.refusal.specs.declared.Refusal.{Refusal}
-use Rattle.judge.proofs.Tests.{refused-by}
-use Rattle.judge.proofs.Found.{order-is}
-use Rattle.judge.proofs.Top.{keys-read, not-dict, with-order, no-order}
+use Rattle.judge.proofs.Found.{shape-is, shape-refused, descr-is, descr-refused}
+use Rattle.judge.proofs.Tests.{refused-by, limit-broken, limit-kept}
+use Rattle.judge.proofs.Top.{not-dict, no-order, no-shape, no-descr, with-descr}
 use borrow.Author.Needs.{needs}
 use Rattle.judge.proofs.judge_keys.Statement.{statement}
 use Rattle.judge.proofs.judge_keys.Tie as tie
 
-enum-known-read : tie.Need-enum-known-read
-enum-known-read c = search needs
-
-enum-told : tie.Need-enum-told
-enum-told c = search needs
-
 returns : tie.Need-returns
-returns c = λ text at h. refused-by text at Refusal.NotDict _ (not-dict text at _ h (c .enum-told .given .1))
+returns c = λ text at h. refused-by text at Refusal.NotDict _ (not-dict text at (sym (h .of-strings) ∙ not-true _ (c .if1 .taken)))
 
-order-in-requires : tie.Need-order-in-requires
-order-in-requires c κs = search needs
+enum-known-declared : tie.Need-enum-known-declared
+enum-known-declared c = search needs
 
-enum-known-order : tie.Need-enum-known-order
-enum-known-order c = search needs
-
-with-order-requires : tie.Need-with-order-requires
-with-order-requires c κs = search needs
-
-enum-known-r : tie.Need-enum-known-r
-enum-known-r c = search needs
+enum-known-declared-2 : tie.Need-enum-known-declared-2
+enum-known-declared-2 c = search needs
 
 returns-2 : tie.Need-returns-2
 returns-2 c =
     λ text at h.
-    let x = keys-read text at _ _ h (c .before .before .before .before .before .before .read .given .1) in
-    with-order text at (c .with-order .result) _ _ (x .0) (order-is text at (c .before .before .before .before .order-in .result) (c .before .before .before .before .before .before .read .given .0 .0 .order) (c .before .before .before .before .order-in .ensures) (x .1 .of-order)) (c .before .before .order .given .1) (c .with-order .ensures text at (x .1))
+    let all = sym (h .of-strings) ∙ not-false _ (c .before .before .before .if1 .left) in
+    refused-by text at (c .before .declared2 .given .0 .0) _ (no-order text at all _ _ (h .of-order) (c .before .declared2 .given .1))
+
+enum-known-shape-found : tie.Need-enum-known-shape-found
+enum-known-shape-found c = search needs
+
+enum-known-shape-found-2 : tie.Need-enum-known-shape-found-2
+enum-known-shape-found-2 c = search needs
 
 returns-3 : tie.Need-returns-3
 returns-3 c =
     λ text at h.
-    let x = keys-read text at _ _ h (c .before .before .before .before .before .read .given .1) in
-    refused-by text at (c .before .r .given .0 .0) _ (no-order text at _ _ (x .0) (order-is text at (c .before .before .before .order-in .result) (c .before .before .before .before .before .read .given .0 .0 .order) (c .before .before .before .order-in .ensures) (x .1 .of-order)) (c .before .r .given .1))
+    let all = sym (h .of-strings) ∙ not-false _ (c .before .before .before .before .before .before .if1 .left) in
+    refused-by text at (c .before .shape-found2 .given .0 .0) _ (no-shape text at all _ _ (h .of-order) (c .before .before .before .before .declared .given .1) _ (shape-refused text at _ (h .of-shape) _ (c .before .shape-found2 .given .1)))
+
+enum-known-descr-found : tie.Need-enum-known-descr-found
+enum-known-descr-found c = search needs
+
+enum-known-descr-found-2 : tie.Need-enum-known-descr-found-2
+enum-known-descr-found-2 c = search needs
+
+returns-4 : tie.Need-returns-4
+returns-4 c =
+    λ text at h.
+    let all = sym (h .of-strings) ∙ not-false _ (c .before .before .before .before .before .before .before .before .before .if1 .left) in
+    let s = shape-is text at _ (h .of-shape) _ (c .before .before .before .before .shape-found .given .1) in
+    refused-by text at (c .before .descr-found2 .given .0 .0) _ (no-descr text at all _ _ (h .of-order) (c .before .before .before .before .before .before .before .declared .given .1) (s .0) (s .1) _ (descr-refused text at _ (h .of-descr) _ (c .before .descr-found2 .given .1)))
+
+within-requires : tie.Need-within-requires
+within-requires c κs = search needs
+
+enum-told : tie.Need-enum-told
+enum-told c = search needs
+
+enum-known-why : tie.Need-enum-known-why
+enum-known-why c = search needs
+
+returns-5 : tie.Need-returns-5
+returns-5 c =
+    λ text at h.
+    let all = sym (h .of-strings) ∙ not-false _ (c .before .before .before .before .before .before .before .before .before .before .before .before .before .before .if1 .left) in
+    let s = shape-is text at _ (h .of-shape) _ (c .before .before .before .before .before .before .before .before .before .shape-found .given .1) in
+    let d = descr-is text at _ (h .of-descr) _ (c .before .before .before .before .before .before .descr-found .given .1) in
+    limit-kept text at (s .0) (d .0) _ _ _ (s .2) (d .2) _ (c .before .before .within .ensures) _ (with-descr text at all _ _ (h .of-order) (c .before .before .before .before .before .before .before .before .before .before .before .before .declared .given .1) (s .0) (s .1) (d .0) (d .1)) (c .enum-told .given .1)
+
+returns-6 : tie.Need-returns-6
+returns-6 c =
+    λ text at h.
+    let all = sym (h .of-strings) ∙ not-false _ (c .before .before .before .before .before .before .before .before .before .before .before .before .before .before .before .if1 .left) in
+    let s = shape-is text at _ (h .of-shape) _ (c .before .before .before .before .before .before .before .before .before .before .shape-found .given .1) in
+    let d = descr-is text at _ (h .of-descr) _ (c .before .before .before .before .before .before .before .descr-found .given .1) in
+    refused-by text at (c .before .why .given .0 .0) _ (with-descr text at all _ _ (h .of-order) (c .before .before .before .before .before .before .before .before .before .before .before .before .before .declared .given .1) (s .0) (s .1) (d .0) (d .1) ∙ limit-broken text at (s .0) (d .0) _ _ _ (s .2) (d .2) _ (c .before .before .before .within .ensures) _ (c .before .why .given .1))
 
 pub judge-keys-spec : {M : Type 1} → statement M
 judge-keys-spec =
     tie.close
     (tie.spec
-    enum-known-read
-    enum-told
     returns
-    order-in-requires
-    enum-known-order
-    with-order-requires
-    enum-known-r
+    enum-known-declared
+    enum-known-declared-2
     returns-2
-    returns-3)
+    enum-known-shape-found
+    enum-known-shape-found-2
+    returns-3
+    enum-known-descr-found
+    enum-known-descr-found-2
+    returns-4
+    within-requires
+    enum-told
+    enum-known-why
+    returns-5
+    returns-6)

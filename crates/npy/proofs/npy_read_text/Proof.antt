@@ -1,6 +1,6 @@
 -- The answer told, and the rooms as the reader left them. Assumes nothing.
 use Rattle.counts.proofs.OneOutcome.{told}
-use Rattle.codes.proofs.Named.{retold}
+use Rattle.npy_codes.proofs.Named.{retold}
 use borrow.Author.Needs.{needs}
 use Rattle.npy.proofs.npy_read_text.Statement.{statement}
 use Rattle.npy.proofs.npy_read_text.Tie as tie

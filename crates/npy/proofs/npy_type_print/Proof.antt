@@ -1,8 +1,8 @@
--- What is given, and then the answer told and the room as it was left. Assumes nothing.
-use Rattle.counts.proofs.OneOutcome.{told}
+-- The type, and then the answer of it; numbers that no type has are the refusal's number.
 use Rattle.type_str.specs.Text.{typePrinted, typePlaced}
-use Rattle.entries.specs.Answer.{typeAnswer}
-use Rattle.codes.proofs.Named.{retold, then-told, none-told, then-left, none-left}
+use Rattle.counts.proofs.OneOutcome.{told}
+use Rattle.type_str.specs.Answer as typed
+use Rattle.npy_codes.proofs.Named.{retold, then-told, none-told, then-left, none-left}
 use borrow.Author.Needs.{needs}
 use Rattle.npy.proofs.npy_type_print.Statement.{statement}
 use Rattle.npy.proofs.npy_type_print.Tie as tie
@@ -13,29 +13,32 @@ type-for-requires c κs = search needs
 enum-known-t : tie.Need-enum-known-t
 enum-known-t c = search needs
 
-enum-told : tie.Need-enum-told
-enum-told c = search needs
-
-returns : tie.Need-returns
-returns c =
-    let a = c .before .before .before .before .args in
-    let none = told typeAnswer (c .before .before .type-for .ensures) (c .enum-told .given .1) in
-    record { told = none-told (λ t. typePrinted t (a .out .now)) none; room-after = none-left (λ t. typePlaced t (a .out .now)) (a .out .now) none }
-
 print-requires : tie.Need-print-requires
 print-requires c κs = search needs
 
-tell-print-requires : tie.Need-tell-print-requires
-tell-print-requires c κs = search needs
+tell-bytes-requires : tie.Need-tell-bytes-requires
+tell-bytes-requires c κs = search needs
+
+enum-known-why : tie.Need-enum-known-why
+enum-known-why c = search needs
+
+number-requires : tie.Need-number-requires
+number-requires c κs = search needs
 
 same-length : tie.Need-same-length
 same-length c = search needs
 
+returns : tie.Need-returns
+returns c =
+    let a = c .before .before .before .before .before .before .before .before .before .before .before .args in
+    let is = told typed.answer (c .before .before .before .before .before .before .before .before .before .type-for .ensures) (c .before .before .before .before .before .before .before .t .given .1) in
+    record { told = then-told (λ t. typePrinted t (a .out .now)) is (retold (c .before .before .before .before .print .ensures .answered) (c .tell-bytes .ensures)); room-after = then-left (λ t. typePlaced t (a .out .now)) (a .out .now) is (c .before .before .before .before .print .ensures .room-after) }
+
 returns-2 : tie.Need-returns-2
 returns-2 c =
-    let a = c .before .before .before .before .before .before .before .before .before .before .before .args in
-    let is = told typeAnswer (c .before .before .before .before .before .before .before .before .before .type-for .ensures) (c .before .before .before .before .before .before .before .t .given .1) in
-    record { told = then-told (λ t. typePrinted t (a .out .now)) is (retold (c .before .before .before .before .print .ensures .answered) (c .tell-print .ensures)); room-after = then-left (λ t. typePlaced t (a .out .now)) (a .out .now) is (c .before .before .before .before .print .ensures .room-after) }
+    let a = c .before .before .before .before .before .before .args in
+    let none = told typed.answer (c .before .before .before .before .type-for .ensures) (c .before .before .why .given .1) in
+    record { told = none-told (λ t. typePrinted t (a .out .now)) none (c .number .ensures); room-after = none-left (λ t. typePlaced t (a .out .now)) (a .out .now) none }
 
 pub npy-type-print-spec : {M : Type 1} → statement M
 npy-type-print-spec =
@@ -43,9 +46,10 @@ npy-type-print-spec =
     (tie.spec
     type-for-requires
     enum-known-t
-    enum-told
-    returns
     print-requires
-    tell-print-requires
+    tell-bytes-requires
+    enum-known-why
+    number-requires
     same-length
+    returns
     returns-2)

@@ -1,5 +1,5 @@
--- The answer told. Assumes nothing.
-use Rattle.codes.proofs.Named.{retold}
+-- The answer of `type_read::parse`, as C gets it.
+use Rattle.npy_codes.proofs.Named.{retold}
 use borrow.Author.Needs.{needs}
 use Rattle.npy.proofs.npy_type_read.Statement.{statement}
 use Rattle.npy.proofs.npy_type_read.Tie as tie
@@ -11,8 +11,7 @@ tell-type-requires : tie.Need-tell-type-requires
 tell-type-requires c κs = search needs
 
 returns : tie.Need-returns
-returns c =
-    retold (c .before .before .parse .ensures) (c .tell-type .ensures)
+returns c = retold (c .before .before .parse .ensures) (c .tell-type .ensures)
 
 pub npy-type-read-spec : {M : Type 1} → statement M
 npy-type-read-spec = tie.close (tie.spec parse-requires tell-type-requires returns)

@@ -1,4 +1,4 @@
--- `run_header::lend` is safe: a case has 13 bytes before its file, and of each room no more is lent than there is, since each number is cut at the room's length. Assumes nothing.
+-- `run_header::lend` is safe: a case has 13 bytes before its file, and of each room no more is lent than there is, since each number is capped at the room's length.
 use native.Mathlib.Omega.{arith}
 use mathlib.Core.Path.{sym}
 use lib.Seq.{length-take-le}

@@ -1,5 +1,4 @@
--- `run_header::list_record` is safe: the record's parts lie at the front of the rooms, since each number is cut at the room's length, and the look begins behind them. Assumes
--- nothing.
+-- `run_header::list_record` is safe: the record's parts are at the front of the rooms, since each number is capped at the room's length, and the check begins after them.
 use native.Mathlib.Omega.{arith}
 use mathlib.Core.Path.{sym}
 use lib.Seq.{length-take-le}

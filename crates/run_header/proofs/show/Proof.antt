@@ -1,4 +1,4 @@
--- No more is shown than there is. Assumes nothing.
+-- No more is shown than there is.
 use mathlib.Core.Path.{sym}
 use lib.Seq.{length-take-le}
 use borrow.Author.Needs.{needs}

@@ -1,4 +1,4 @@
--- A line lies in the text; the measure is what is left of it. Assumes nothing.
+-- A line lies in the text; the measure is what is left of it.
 use Prim.Native.Nat.{_-_, _≤_}
 use lib.ListN.{length}
 use borrow.Author.Needs.{needs}

@@ -1,4 +1,4 @@
--- `run_npy::changed` is safe and ends: the measure is what was not looked at. Assumes nothing.
+-- `run_npy::changed` is safe and ends: the measure is the part not yet checked.
 use Prim.Native.Nat.{_≤_}
 use lib.ListN.{length}
 use borrow.Author.Needs.{needs}

@@ -1,4 +1,4 @@
--- `run_npy::front` is safe: what is taken is there. Assumes nothing.
+-- `run_npy::front` is safe: what is taken is there.
 use mathlib.Core.Path.{sym}
 use lib.Seq.{length-take-le}
 use native.Mathlib.Omega.{arith}

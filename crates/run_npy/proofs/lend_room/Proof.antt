@@ -1,4 +1,4 @@
--- `run_npy::lend_room` is safe: what is lent lies in the arrays. Assumes nothing.
+-- `run_npy::lend_room` is safe: what is lent lies in the arrays.
 use mathlib.Core.Path.{sym}
 use native.Mathlib.Omega.{arith}
 use lib.Seq.{length-take-le}

@@ -1,4 +1,4 @@
--- `run_npy::narrow` is safe and ends: the measure is what is left of the room. Assumes nothing.
+-- `run_npy::narrow` is safe and ends: the measure is what is left of the room.
 use Prim.Native.Nat.{_-_, _≤_}
 use mathlib.Core.Path.{_≡_}
 use lib.ListN.{length, length-set}

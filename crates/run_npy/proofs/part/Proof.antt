@@ -1,4 +1,4 @@
--- `run_npy::part` is safe and ends: no part ends behind the case. The measure is how many are left to go past. Assumes nothing.
+-- `run_npy::part` is safe and ends: no part ends after the case. The measure is how many parts are left to skip.
 use Prim.Native.Nat.{_-_, _≤_}
 use lib.ListN.{length}
 use borrow.Author.Needs.{needs}

@@ -1,4 +1,4 @@
--- `run_npy::part_end` meets its contract: a part is taken as far as the case reaches. Assumes nothing.
+-- `run_npy::part_end` meets its contract: a part is taken as far as the case reaches.
 use borrow.Author.Needs.{needs}
 use Rattle.run_npy.proofs.part_end.Statement.{statement}
 use Rattle.run_npy.proofs.part_end.Tie as tie

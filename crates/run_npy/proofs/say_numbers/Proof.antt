@@ -1,4 +1,4 @@
--- `run_npy::say_numbers` is safe and ends: the measure is what is left to say. Assumes nothing.
+-- `run_npy::say_numbers` is safe and ends: the measure is what is left to print.
 use Prim.Native.Nat.{_-_, _≤_}
 use lib.ListN.{length}
 use borrow.Author.Needs.{needs}

@@ -1,4 +1,4 @@
--- What is shown lies in the room. Assumes nothing.
+-- What is shown lies in the room.
 use mathlib.Core.Path.{sym}
 use lib.Seq.{length-take-le}
 use borrow.Author.Needs.{needs}

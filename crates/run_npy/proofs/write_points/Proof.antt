@@ -1,4 +1,4 @@
--- `run_npy::write_points` is safe: what is lent lies in the array. Assumes nothing.
+-- `run_npy::write_points` is safe: what is lent lies in the array.
 use mathlib.Core.Path.{sym}
 use native.Mathlib.Omega.{arith}
 use lib.Seq.{length-take-le}

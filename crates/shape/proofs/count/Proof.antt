@@ -1,5 +1,5 @@
 -- `shape::count` meets its contract. The loop keeps that `acc` is the product of the dimensions passed, and that it and those before it fit (`Counting`); a product that does not fit
--- is the count or a stride. The measure is what is left of the rank. Assumes nothing.
+-- is the count or a stride. The measure is what is left of the rank.
 use Prim.Native.Nat.{_-_}
 use mathlib.Core.Path.{sym, _∙_}
 use borrow.Author.Needs.{needs}

@@ -1,5 +1,5 @@
--- `shape::fill` meets its contract. The loop keeps that the strides of the dimensions passed stand at their places, that the product so far is the next one's, and that the room behind
--- the rank is as it was (`Filling`); the measure is what is left of the rank. Assumes nothing.
+-- `shape::fill` meets its contract. The loop keeps that the strides of the dimensions passed are at their places, that the product so far is the stride of the next, and that the room after
+-- the rank is as it was (`Filling`); the measure is what is left of the rank.
 use Prim.Native.Nat.{_-_}
 use borrow.Author.Needs.{needs}
 use lib.ListN.{length}

@@ -1,9 +1,10 @@
--- `shape::strides` meets its contract: what `count` answers is 22 or not, then the room is asked for, then `fill` writes all strides. Assumes nothing.
-use mathlib.Core.Path.{_≡_, ap, sym, _∙_}
+-- `shape::strides` meets its contract: what `count` refuses is refused (22), then the room is tested, then `fill` writes all strides.
+use mathlib.Core.Path.{_≡_}
 use Rattle.counts.specs.Outcome.{gives}
-use Rattle.shape.specs.Answer.{counted}
+use Rattle.counts.proofs.OneOutcome.{told}
+use Rattle.refusal.specs.Answers.{itemsAnswer}
 use Rattle.shape.specs.Count.{itemCount}
-use Rattle.shape.proofs.Turns.{counted-fits, writes-over, writes-room, writes-all}
+use Rattle.shape.proofs.Turns.{counted-fits, writes-refused, writes-room, writes-all}
 use borrow.Author.Needs.{needs}
 use Rattle.shape.proofs.strides.Statement.{statement}
 use Rattle.shape.proofs.strides.Tie as tie
@@ -11,18 +12,18 @@ use Rattle.shape.proofs.strides.Tie as tie
 count-requires : tie.Need-count-requires
 count-requires c κs = search needs
 
-enum-known-items : tie.Need-enum-known-items
-enum-known-items c = search needs
+enum-known-counted : tie.Need-enum-known-counted
+enum-known-counted c = search needs
 
 enum-told : tie.Need-enum-told
 enum-told c = search needs
 
 -- what is known once the count is taken out of its answer
-counted-here : (c : tie.After-known-told) → gives (c .before .items .given .0 .0 .0) ≡ itemCount (c .before .before .before .before .before .before .args .order) (c .before .before .before .before .before .before .args .shape .now)
-counted-here c = ap counted (sym (c .before .items .given .1)) ∙ c .before .before .before .count .ensures
+counted-here : (c : tie.After-known-told) → gives (c .before .counted .given .0 .0 .0) ≡ itemCount (c .before .before .before .before .before .before .args .order) (c .before .before .before .before .before .before .args .shape .now)
+counted-here c = told itemsAnswer (c .before .before .before .count .ensures) (c .before .counted .given .1)
 
 returns : tie.Need-returns
-returns c = writes-over _ _ _ (ap counted (sym (c .enum-told .given .1)) ∙ c .before .before .count .ensures)
+returns c = rw (c .enum-told .given .1) (writes-refused _ _ _ _ (told itemsAnswer (c .before .before .count .ensures) (c .enum-told .given .1)))
 
 returns-2 : tie.Need-returns-2
 returns-2 c = writes-room _ _ _ _ (counted-here (c .before)) (c .if1 .taken)
@@ -41,7 +42,7 @@ strides-spec =
     tie.close
     (tie.spec
     count-requires
-    enum-known-items
+    enum-known-counted
     enum-told
     returns
     returns-2

@@ -1,4 +1,4 @@
--- `shape::visit` meets its contract, by the two orders. Assumes nothing.
+-- `shape::visit` meets its contract, by the two orders.
 use borrow.Author.Needs.{needs}
 use Rattle.shape.proofs.visit.Statement.{statement}
 use Rattle.shape.proofs.visit.Tie as tie

@@ -1,6 +1,6 @@
 -- `write::write_record` meets its contract: each answer by the tests that led there. Assumes nothing.
 use Rattle.counts.proofs.OneOutcome.{told}
-use Rattle.padding.specs.Plan.{answer}
+use Rattle.write_padding.specs.Plan.{answer}
 use Rattle.write.proofs.Answers.{record-4, record-28, record-written}
 use borrow.Author.Needs.{needs}
 use Rattle.write.proofs.write_record.Statement.{statement}
@@ -15,23 +15,23 @@ plan-for-requires c κs = search needs
 enum-known-plan : tie.Need-enum-known-plan
 enum-known-plan c = search needs
 
-enum-told : tie.Need-enum-told
-enum-told c = search needs
-
 returns : tie.Need-returns
-returns c = λ x e m. record-4 _ _ _ _ x e _ _ m _ (c .before .before .before .is-ascii .ensures) (told answer (c .before .before .plan-for .ensures) (c .enum-told .given .1))
-
-returns-2 : tie.Need-returns-2
-returns-2 c = λ x e m. record-28 _ _ _ _ x e _ _ m _ (c .before .before .before .before .before .is-ascii .ensures) _ (told answer (c .before .before .before .before .plan-for .ensures) (c .before .before .plan .given .1)) (c .if1 .taken)
+returns c = λ x e m. record-28 _ _ _ _ x e _ _ m _ (c .before .before .before .before .before .is-ascii .ensures) _ (told answer (c .before .before .before .before .plan-for .ensures) (c .before .before .plan .given .1)) (c .if1 .taken)
 
 put-header-requires : tie.Need-put-header-requires
 put-header-requires c κs = search needs
 
+enum-known-why : tie.Need-enum-known-why
+enum-known-why c = search needs
+
 same-length : tie.Need-same-length
 same-length c = search needs
 
+returns-2 : tie.Need-returns-2
+returns-2 c = λ x e m. record-written _ _ _ _ x e _ _ m _ (c .before .before .before .before .before .before .before .before .before .is-ascii .ensures) _ (told answer (c .before .before .before .before .before .before .before .before .plan-for .ensures) (c .before .before .before .before .before .before .plan .given .1)) (c .before .before .before .before .if1 .left) _ _ (c .before .before .put-header .ensures)
+
 returns-3 : tie.Need-returns-3
-returns-3 c = λ x e m. record-written _ _ _ _ x e _ _ m _ (c .before .before .before .before .before .before .before .before .before .is-ascii .ensures) _ (told answer (c .before .before .before .before .before .before .before .before .plan-for .ensures) (c .before .before .before .before .before .before .plan .given .1)) (c .before .before .before .before .if1 .left) _ _ (c .before .before .put-header .ensures)
+returns-3 c = λ x e m. record-4 _ _ _ _ x e _ _ m _ (c .before .before .before .before .is-ascii .ensures) _ (told answer (c .before .before .before .plan-for .ensures) (c .before .why .given .1))
 
 pub write-record-spec : {M : Type 1} → statement M
 write-record-spec =
@@ -40,9 +40,9 @@ write-record-spec =
     is-ascii-requires
     plan-for-requires
     enum-known-plan
-    enum-told
     returns
-    returns-2
     put-header-requires
+    enum-known-why
     same-length
+    returns-2
     returns-3)

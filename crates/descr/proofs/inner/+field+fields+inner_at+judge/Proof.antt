@@ -7,10 +7,10 @@ use lib.ListN.{length}
 use lib.Dec.{lit<}
 use Rattle.literal.specs.Literal.{value as valueOf}
 use Rattle.literal.proofs.Ends.{value-ahead}
-use Rattle.classes.proofs.Ends.{stops}
+use Rattle.literal_bytes.proofs.Ends.{stops}
 use Rattle.literal.proofs.Steps.{gapLeft, turn-less as literal-less}
-use Rattle.field.proofs.Begins.{string-in}
-use Rattle.sums.specs.Verdict.{verdict}
+use Rattle.descr_field.proofs.Begins.{string-in}
+use Rattle.descr_totals.specs.Verdict.{verdict}
 use Rattle.descr.proofs.Adds.{fieldBy, descrBy}
 use Rattle.descr.proofs.Along.{Turn, turn-start, turn-stop, turn-more, turn-end}
 use Rattle.descr.proofs.Nodes.{type-judged, descr-misfit, field-misfit, bracket-in, bracket-small, too-deep, field-judged, record-judged}
@@ -30,18 +30,18 @@ use Rattle.descr.proofs.inner.+field+fields+inner_at+judge.Lts-inner_at
 use Rattle.descr.proofs.inner.judge.Reads as judge
 use Rattle.descr.proofs.inner.judge.Kinds as judge-kinds
 use Rattle.descr.proofs.inner.+field+fields+inner_at+judge.Lts-judge as judge-lts
-use Rattle.parts.proofs.misfit.Reads as misfit-reads
-use Rattle.parts.proofs.name_at.Reads as name-at-reads
+use Rattle.descr_field.proofs.misfit.Reads as misfit-reads
+use Rattle.descr_field.proofs.name_at.Reads as name-at-reads
 use Rattle.descr.proofs.inner.plain_at.Reads as plain-at-reads
-use Rattle.behind.proofs.second_at.Reads as second-at-reads
-use Rattle.parts.proofs.sub_shape.Reads as sub-shape-reads
-use Rattle.field.proofs.closing_at.Reads as closing-at-reads
-use Rattle.field.proofs.string_at.Reads as string-at-reads
-use Rattle.gaps.proofs.ended.Reads as ended-reads
-use Rattle.gaps.proofs.gap_at.Reads as gap-at-reads
-use Rattle.gaps.proofs.then_at.Reads as then-at-reads
+use Rattle.descr_field.proofs.second_at.Reads as second-at-reads
+use Rattle.descr_field.proofs.sub_shape.Reads as sub-shape-reads
+use Rattle.descr_field.proofs.closing_at.Reads as closing-at-reads
+use Rattle.descr_field.proofs.string_at.Reads as string-at-reads
+use Rattle.literal_bytes.proofs.ended.Reads as ended-reads
+use Rattle.literal_bytes.proofs.gap_at.Reads as gap-at-reads
+use Rattle.literal_bytes.proofs.then_at.Reads as then-at-reads
 use Rattle.literal.proofs.value.Reads as value-reads
-use Rattle.sums.proofs.join.Reads as join-reads
+use Rattle.descr_totals.proofs.join.Reads as join-reads
 use Rattle.descr.proofs.inner.+field+fields+inner_at+judge.{statement}
 use Rattle.descr.proofs.inner.+field+fields+inner_at+judge.Tie.{close}
 

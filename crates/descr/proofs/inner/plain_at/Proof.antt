@@ -1,13 +1,13 @@
--- A string is passed over once: its end, and what it is as a type string. Assumes nothing.
+-- A string is read once: its end, and what it is as a type string. Assumes nothing.
 use Prim.Native.Nat.{ℕ, _+_}
 use mathlib.Core.Path.{ap, _∙_}
 use Rattle.counts.specs.Outcome.{Outcome, each}
 use Rattle.type_str.specs.declared.TypeStr.{TypeStr}
 use Rattle.type_str.specs.TypeString.{typeString}
 use Rattle.dtype.specs.Dtype.{plain}
-use Rattle.escapes.specs.Strings.{spelled}
-use Rattle.classes.proofs.Positions.{getD-any}
-use Rattle.sums.specs.Totals.{totalsOf}
+use Rattle.literal_escapes.specs.Strings.{spelled}
+use Rattle.literal_bytes.proofs.Positions.{getD-any}
+use Rattle.descr_totals.specs.Totals.{totalsOf}
 use borrow.Author.Needs.{needs}
 use Rattle.descr.proofs.inner.plain_at.Statement.{statement}
 use Rattle.descr.proofs.inner.plain_at.Tie as tie

@@ -1,5 +1,0 @@
-pub mod Tests
-pub mod Plain
-pub mod Fields
-pub mod Sound
-pub mod Outcomes

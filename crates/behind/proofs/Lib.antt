@@ -1,2 +1,0 @@
-pub mod Reach
-pub mod Outcomes

@@ -1,0 +1,78 @@
+-- The check accepts exactly the tables and names of a dtype whose types type strings give, whose names are UTF-8, that is no array, and that is with
+-- its shape within the limits.
+use Prim.Native.Nat.{ℕ}
+use mathlib.Core.Path.{_≡_, refl, sym}
+use mathlib.Core.Bool.{Bool, true, false, _||_}
+use mathlib.Core.List.{List}
+use native.Mathlib.Omega.{arith}
+use Rattle.counts.specs.Outcome.{Outcome, gives, refused, then, unless}
+use Rattle.dtype.specs.declared.Order.{Order}
+use Rattle.dtype.specs.Dtype.{Dtype}
+use Rattle.dtype.specs.Record.{Record, tableOf}
+use Rattle.dtype.specs.Limits.{overDimensions, overLevels, overEntries, overSize, overShape, limited}
+use Rattle.dtype.proofs.Record.{tableOf-right, tableOf-these}
+use Rattle.dtype.proofs.Seen.{or-left, or-right}
+use Rattle.check_table.specs.Reading.{untyped, illNamed, isArray, unread, readDtype}
+use Rattle.check_record.specs.Checked.{checkedRecord}
+use Rattle.check_record.specs.Valid.{made, Valid}
+
+limits-by : (r r′ : Record) (a b c e : Bool) → unless a 13 (unless b 20 (unless c 21 (unless e 22 (gives r)))) ≡ gives r′
+    → (a ≡ false) × (b ≡ false) × (c ≡ false) × (e ≡ false) × (r ≡ r′)
+limits-by r r′ true b c e h = let z : _≡_ {A = ℕ} 0 1 = cc in absurd (omega arith)
+limits-by r r′ false true c e h = let z : _≡_ {A = ℕ} 0 1 = cc in absurd (omega arith)
+limits-by r r′ false false true e h = let z : _≡_ {A = ℕ} 0 1 = cc in absurd (omega arith)
+limits-by r r′ false false false true h = let z : _≡_ {A = ℕ} 0 1 = cc in absurd (omega arith)
+limits-by r r′ false false false false h = (refl, refl, refl, refl, cc)
+
+limits-back : (d : Dtype) (s : List ℕ) (o : Order) (r : Record) → limited (made d s o) ≡ gives r
+    → ((overDimensions s || overLevels d) ≡ false) × (overEntries d ≡ false) × (overSize d ≡ false) × (overShape o s ≡ false) × (made d s o ≡ r)
+unfolding limited
+limits-back d s o r h = limits-by (made d s o) r (overDimensions s || overLevels d) (overEntries d) (overSize d) (overShape o s) h
+
+module _ (t ns s : List ℕ) (o : Order) (r : Record) where
+  by-test : (d : Dtype) → tableOf t ns ≡ gives d → (b : Bool) → unread d ≡ b → then (unless b 27 (gives d)) (λ u. limited (made u s o)) ≡ gives r
+      → (d : Dtype) × (r ≡ made d s o) × Valid t ns s o d
+  by-test d p true e k = let z : _≡_ {A = ℕ} 0 1 = cc in absurd (omega arith)
+  by-test d p false e k =
+      let v = tableOf-right t ns d p in
+      let rest = or-right (isArray d) (untyped d || illNamed d) e in
+      let l = limits-back d s o r k in (
+        d,
+        sym (l .4),
+        record {
+          table-is = v .0;
+          names-are = v .1;
+          no-array = or-left (isArray d) (untyped d || illNamed d) e;
+          typed = or-left (untyped d) (illNamed d) rest;
+          well-named = or-right (untyped d) (illNamed d) rest;
+          dimensions = l .0;
+          entries = l .1;
+          sizes = l .2;
+          shape-fits = l .3;
+        },
+      )
+
+  -- what is accepted is valid ..
+  pub accepts-valid : checkedRecord t ns s o ≡ gives r → (d : Dtype) × (r ≡ made d s o) × Valid t ns s o d
+  unfolding checkedRecord readDtype
+  accepts-valid h = go (tableOf t ns) refl h
+    where
+      go : (c : Outcome Dtype) → tableOf t ns ≡ c → then (then c (λ d. unless (unread d) 27 (gives d))) (λ u. limited (made u s o)) ≡ gives r
+          → (d : Dtype) × (r ≡ made d s o) × Valid t ns s o d
+      go (gives d) e k = by-test d e (unread d) refl k
+      go (refused n) e k = let z : _≡_ {A = ℕ} 0 1 = cc in absurd (omega arith)
+
+-- .. and what is valid is accepted
+pub valid-accepted : (t ns s : List ℕ) (o : Order) (d : Dtype) → Valid t ns s o d → checkedRecord t ns s o ≡ gives (made d s o)
+unfolding checkedRecord readDtype limited
+valid-accepted t ns s o d v =
+    simp (
+      tableOf-these t ns d (v .table-is) (v .names-are),
+      v .no-array,
+      v .typed,
+      v .well-named,
+      v .dimensions,
+      v .entries,
+      v .sizes,
+      v .shape-fits,
+    )

@@ -1,0 +1,4 @@
+pub mod Limited
+pub mod Checked
+pub mod Valid
+pub mod Answer

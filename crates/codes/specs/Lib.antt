@@ -1,3 +1,0 @@
-pub mod Codes
-pub mod Numbers
-pub mod Given

@@ -1,0 +1,121 @@
+-- Totals that are capped add up as if they were not: what is past a cap once stays past it. Each part of `together` by itself, then `together` as a
+-- whole: it is associative, and nothing added changes nothing. Assumes nothing.
+use Prim.Native.Nat.{ℕ, _+_, _^_, _<_, _≤_}
+use native.Mathlib.Omega.{arith}
+use mathlib.Core.Path.{_≡_, refl, sym, ap, _∙_}
+use mathlib.Core.Bool.{Bool, true, false, _||_, or-assoc, or-false}
+use lib.Dec.{ltb}
+use borrow.Author.Tests.{leb-true, leb-false, le-leb, lt-leb, ltb-true, ltb-false}
+use Rattle.counts.specs.Outcome.{Outcome, gives, refused}
+use Rattle.counts.specs.Number.{number}
+use Rattle.counts.proofs.Fits.{number-is, number-over}
+use Rattle.dtype.specs.Limits.{over}
+use Rattle.descr_totals.specs.declared.Totals.{Totals}
+use Rattle.descr_totals.specs.Totals.{atMost, largest, heldNumber, isOver, nothing, together}
+use Rattle.descr_totals.specs.Verdict.{both}
+
+pub totals-eq : {e e′ n n′ z z′ : ℕ} {o o′ w w′ v v′ : Bool} → e ≡ e′ → n ≡ n′ → o ≡ o′ → w ≡ w′ → v ≡ v′ → z ≡ z′
+    → _≡_ {A = Totals} (record { entries = e; names = n; object = o; «over_levels» = w; over = v; size = z }) (record { entries = e′; names = n′; object = o′; «over_levels» = w′; over = v′; size = z′ })
+totals-eq he hn ho hw hv hz = cc
+
+-- ---- tests
+pub over-never : (n : ℕ) → n < 2 ^ 64 → over n ≡ false
+over-never n h = lt-leb (2 ^ 64) n h
+
+pub over-not : (n : ℕ) → over n ≡ false → n < 2 ^ 64
+over-not n h = leb-false (2 ^ 64) n h
+
+pub over-is : (n : ℕ) → 2 ^ 64 ≤ n → over n ≡ true
+over-is n h = le-leb (2 ^ 64) n h
+
+pub over-more : (a b : ℕ) → a ≤ b → over a ≡ true → over b ≡ true
+over-more a b le h = over-is b (omega (arith, leb-true (2 ^ 64) a h))
+
+module _ (n : ℕ) where
+  pub over-number : isOver (number n) ≡ over n
+  over-number = go (ltb n (2 ^ 64)) refl
+    where
+      go : (t : Bool) → ltb n (2 ^ 64) ≡ t → isOver (number n) ≡ over n
+      go true h = let lt = ltb-true n (2 ^ 64) h in ap isOver (number-is n lt) ∙ sym (over-never n lt)
+      go false h = let le = ltb-false n (2 ^ 64) h in ap isOver (number-over n le) ∙ sym (over-is n le)
+
+  pub held-number : heldNumber (number n) ≡ atMost largest n
+  held-number = go (ltb n (2 ^ 64)) refl
+    where
+      go : (t : Bool) → ltb n (2 ^ 64) ≡ t → heldNumber (number n) ≡ atMost largest n
+      go true h = let lt = ltb-true n (2 ^ 64) h in ap heldNumber (number-is n lt) ∙ omega arith
+      go false h = let le = ltb-false n (2 ^ 64) h in ap heldNumber (number-over n le) ∙ omega arith
+
+-- ---- caps
+pub cap-assoc : (m a b c : ℕ) → atMost m (atMost m (a + b) + c) ≡ atMost m (a + atMost m (b + c))
+cap-assoc m a b c = omega arith
+
+pub cap-again : (m n : ℕ) → atMost m (atMost m n + 0) ≡ atMost m n
+cap-again m n = omega arith
+
+pub cap-front : (m n : ℕ) → atMost m (0 + atMost m n) ≡ atMost m n
+cap-front m n = omega arith
+
+-- what is capped is not over
+pub over-sum : (n : ℕ) → over (atMost largest n + 0) ≡ false
+over-sum n = over-never (atMost largest n + 0) (omega arith)
+
+over-left : (a c : ℕ) → (over a || over (atMost largest a + c)) ≡ over (a + c)
+over-left a c = go (over a) refl
+  where
+    go : (t : Bool) → over a ≡ t → (t || over (atMost largest a + c)) ≡ over (a + c)
+    go true h = sym (over-more a (a + c) (omega arith) h)
+    go false h =
+        let lt = over-not a h in
+        let e : atMost largest a + c ≡ a + c = omega arith in
+        ap over e
+
+over-right : (a c : ℕ) → (over c || over (a + atMost largest c)) ≡ over (a + c)
+over-right a c = go (over c) refl
+  where
+    go : (t : Bool) → over c ≡ t → (t || over (a + atMost largest c)) ≡ over (a + c)
+    go true h = sym (over-more c (a + c) (omega arith) h)
+    go false h =
+        let lt = over-not c h in
+        let e : a + atMost largest c ≡ a + c = omega arith in
+        ap over e
+
+over-either : (a b c : ℕ) → (over (a + b) || over (atMost largest (a + b) + c)) ≡ (over (b + c) || over (a + atMost largest (b + c)))
+over-either a b c =
+    let e : a + b + c ≡ a + (b + c) = omega arith in
+    over-left (a + b) c ∙ (ap over e ∙ sym (over-right a (b + c)))
+
+regroup : (o p q x y u z : Bool) → (x || y) ≡ (u || z) → ((((o || p) || x) || q) || y) ≡ ((o || ((p || q) || u)) || z)
+regroup true p q x y u z h = refl
+regroup false true q x y u z h = refl
+regroup false false true true y u z h = refl
+regroup false false true false y u z h = refl
+regroup false false false true y u z h = h
+regroup false false false false y u z h = h
+
+-- ---- totals
+pub together-assoc : (a b c : Totals) → together (together a b) c ≡ together a (together b c)
+unfolding together
+together-assoc a b c =
+    totals-eq (cap-assoc 513 (a .entries) (b .entries) (c .entries)) (cap-assoc 65537 (a .names) (b .names) (c .names)) (or-assoc (a .object) (b .object) (c .object)) (or-assoc (a .«over_levels») (b .«over_levels») (c .«over_levels»))
+    (regroup (a .over) (b .over) (c .over) _ _ _ _ (over-either (a .size) (b .size) (c .size)))
+    (cap-assoc largest (a .size) (b .size) (c .size))
+
+-- what was added once is capped
+pub together-nothing : (a b : Totals) → together (together a b) nothing ≡ together a b
+unfolding together
+together-nothing a b =
+    totals-eq (cap-again 513 _) (cap-again 65537 _) (or-false _) (or-false _)
+    (ap (λ (t : Bool). (((a .over || b .over) || over (a .size + b .size)) || false) || t) (over-sum (a .size + b .size)) ∙ (or-false _ ∙ or-false _))
+    (cap-again largest _)
+
+pub both-assoc : (a b c : Outcome Totals) → both (both a b) c ≡ both a (both b c)
+both-assoc (gives a) (gives b) (gives c) = ap gives (together-assoc a b c)
+both-assoc (gives a) (gives b) (refused n) = refl
+both-assoc (gives a) (refused n) c = refl
+both-assoc (refused n) b c = refl
+
+pub both-nothing : (a b : Outcome Totals) → both (both a b) (gives nothing) ≡ both a b
+both-nothing (gives a) (gives b) = ap gives (together-nothing a b)
+both-nothing (gives a) (refused n) = refl
+both-nothing (refused n) b = refl

@@ -1,4 +1,0 @@
-pub mod Goes
-pub mod Held
-pub mod Walking
-pub mod OneOutcome

@@ -1,4 +1,0 @@
-pub mod Stores
-pub mod Levels
-pub mod Lifts
-pub mod Outcomes

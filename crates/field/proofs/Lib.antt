@@ -1,3 +1,0 @@
-pub mod Begins
-pub mod Escapes
-pub mod Outcomes

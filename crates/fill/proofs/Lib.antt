@@ -1,5 +1,0 @@
-pub mod Parted
-pub mod Filling
-pub mod Whole
-pub mod Housing
-pub mod Reading

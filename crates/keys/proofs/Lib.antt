@@ -1,5 +1,0 @@
-pub mod Nodes
-pub mod Braces
-pub mod KeyAt
-pub mod Seek
-pub mod OneOutcome

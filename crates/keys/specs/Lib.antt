@@ -1,2 +1,0 @@
-pub mod Pairs
-pub mod Answer

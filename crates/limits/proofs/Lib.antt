@@ -1,4 +1,0 @@
-pub mod Fields
-pub mod Sizes
-pub mod Checks
-pub mod Outcomes

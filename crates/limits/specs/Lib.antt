@@ -1,2 +1,0 @@
-pub mod Limited
-pub mod Answer

@@ -1,0 +1,123 @@
+// What the listing program prints of a file (document 01, "What the collector buys"): the listing of its record, or `refused` and the number, with the rooms that the
+// program has. npy_list calls it.
+use counts::Bytes;
+use dtype::MOST_DIMENSIONS;
+use dtype::TABLE;
+use header::Header;
+use header::HeaderRead;
+use refusal::BytesAnswer;
+use refusal::Refusal;
+ghost use Prim.Native.Nat.{_*_};
+ghost use mathlib.Core.Path.{_≡_};
+ghost use mathlib.Core.List.{[]};
+ghost use lib.ListN.{take};
+ghost use Rattle.refusal.specs.Numbers.{numberOf};
+ghost use Rattle.emit.specs.Emits.{Emits};
+ghost use Rattle.dtype.specs.Flat.{entry-width};
+ghost use Rattle.dtype.specs.Record.{Record};
+ghost use Rattle.header_prefix.specs.Answer.{versionIs};
+ghost use Rattle.list_text.specs.Listing.{listing};
+ghost use Rattle.header.specs.Reads.{lent};
+ghost use Rattle.read_back.specs.Rooms.{Holds};
+ghost use Rattle.list_file.specs.Report.{held-bytes, refusedLine, WritesText, Reports};
+
+// How many of a file's first bytes the program holds.
+pub const HELD: usize = 65536;
+
+// How many bytes of names the program holds.
+const NAMES: usize = 16384;
+
+// Puts the text for a file at the front of `out` and returns its length; or 28. No byte of the file after the first 65,537 is looked at.
+pub fn report(file: &[u8], out: &mut [u8]) -> BytesAnswer
+    ensures { λ r. ⌜ Reports (now (file .entry)) (now (out .entry)) r (now (out .exit)) ⌝ }
+{
+    let mut table = [0u64; TABLE];
+    let mut names = [0u8; NAMES];
+    let mut shape = [0u64; MOST_DIMENSIONS];
+    let longer = HELD < file.len();
+    let r = header::read_held(held(file), longer, &mut table, &mut names, &mut shape);
+    match r {
+        HeaderRead::Read(h) => list_header(h, &table, &names, &shape, out),
+        HeaderRead::Refused(why) => put_refused(why, out),
+    }
+}
+
+// The first bytes of a file, or the whole file.
+fn held(file: &[u8]) -> &[u8]
+    ensures { λ r. ⌜ now r ≡ take held-bytes (now (file .entry)) ⌝ }
+{
+    if HELD < file.len() {
+        return &file[..HELD];
+    }
+    file
+}
+
+// Puts the listing of a header that was read to the rooms.
+fn list_header(h: Header, table: &[u64], names: &[u8], shape: &[u64], out: &mut [u8]) -> BytesAnswer
+    ensures { λ x. ⌜ ((r : Record) → Holds r (h .info) (lent (now (table .entry)) (now (names .entry)) (now (shape .entry))) → WritesText (listing (versionIs (h .version)) (h .start .0) r []) (now (out .entry)) x (now (out .exit))) ⌝ }
+{
+    let info = h.info;
+    let version = h.version;
+    let start = h.start;
+    let order = info.order;
+    list_record::list(
+        version,
+        start,
+        table_of(table, info.entries),
+        names_of(names, info.names),
+        shape_of(shape, info.rank),
+        order,
+        out,
+    )
+}
+
+// The entries at the front of their room.
+fn table_of(table: &[u64], entries: usize) -> &[u64]
+    ensures { λ r. ⌜ now r ≡ take (entry-width * entries) (now (table .entry)) ⌝ }
+{
+    if entries <= table.len() / dtype::ENTRY {
+        return &table[..dtype::ENTRY * entries];
+    }
+    table
+}
+
+// The name bytes at the front of their room.
+fn names_of(names: &[u8], bytes: usize) -> &[u8]
+    ensures { λ r. ⌜ now r ≡ take bytes (now (names .entry)) ⌝ }
+{
+    if bytes <= names.len() {
+        return &names[..bytes];
+    }
+    names
+}
+
+// The dimensions at the front of their room.
+fn shape_of(shape: &[u64], rank: usize) -> &[u64]
+    ensures { λ r. ⌜ now r ≡ take rank (now (shape .entry)) ⌝ }
+{
+    if rank <= shape.len() {
+        return &shape[..rank];
+    }
+    shape
+}
+
+// Puts `refused` and the number: the text is measured on a scratch byte, and put where there is room.
+fn put_refused(why: Refusal, out: &mut [u8]) -> BytesAnswer
+    ensures { λ x. ⌜ WritesText (refusedLine (numberOf why) []) (now (out .entry)) x (now (out .exit)) ⌝ }
+{
+    let number = why.number() as u64;
+    let mut scratch = [0u8; 1];
+    let n = put_line(&mut scratch, number);
+    if out.len() < n {
+        return BytesAnswer::Refused(Refusal::OutputRoom);
+    }
+    put_line(out, number);
+    BytesAnswer::Is(Bytes(n as u64))
+}
+
+// Puts the line of a refusal at the front, as far as there is room, and returns its length.
+fn put_line(out: &mut [u8], number: u64) -> usize
+    ensures { λ r. ⌜ Emits (refusedLine number) (now (out .entry)) 0 (now (out .exit)) r ⌝ }
+{
+    write_pieces::put_between(out, 0, b"refused ", number, b"\n")
+}

@@ -1,0 +1,4 @@
+pub mod Got
+pub mod Text
+pub mod Plain
+pub mod Gaps

@@ -1,0 +1,57 @@
+-- The order, and then the answer of it; a number that names no order is its refusal's number.
+use Rattle.check_record.specs.Checked.{checkedRecord}
+use Rattle.header_prefix.specs.Answer.{versionIs}
+use Rattle.list_record.specs.Answer.{listed, roomBy}
+use Rattle.counts.proofs.OneOutcome.{told}
+use Rattle.npy_codes.specs.Given.{orderGiven}
+use Rattle.npy_codes.proofs.Named.{retold, then-told, none-told, then-left, none-left}
+use borrow.Author.Needs.{needs}
+use Rattle.npy.proofs.list_as.Statement.{statement}
+use Rattle.npy.proofs.list_as.Tie as tie
+
+order-for-requires : tie.Need-order-for-requires
+order-for-requires c κs = search needs
+
+enum-known-o : tie.Need-enum-known-o
+enum-known-o c = search needs
+
+list-requires : tie.Need-list-requires
+list-requires c κs = search needs
+
+tell-bytes-requires : tie.Need-tell-bytes-requires
+tell-bytes-requires c κs = search needs
+
+enum-known-why : tie.Need-enum-known-why
+enum-known-why c = search needs
+
+number-requires : tie.Need-number-requires
+number-requires c κs = search needs
+
+same-length : tie.Need-same-length
+same-length c = search needs
+
+returns : tie.Need-returns
+returns c =
+    let a = c .before .before .before .before .before .before .before .before .before .before .before .before .before .before .args in
+    let is = told orderGiven (c .before .before .before .before .before .before .before .before .before .order-for .ensures) (c .before .before .before .before .before .before .before .o .given .1) in
+    record { told = then-told (λ o. listed (versionIs (a .version)) (a .start) (a .table .now) (a .names .now) (a .shape .now) o (a .out .now)) is (retold (c .before .before .before .before .list .ensures .answered) (c .tell-bytes .ensures)); room-after = then-left (λ o. roomBy (checkedRecord (a .table .now) (a .names .now) (a .shape .now) o) (versionIs (a .version)) (a .start) (a .out .now)) (a .out .now) is (c .before .before .before .before .list .ensures .after) }
+
+returns-2 : tie.Need-returns-2
+returns-2 c =
+    let a = c .before .before .before .before .before .before .before .before .before .args in
+    let none = told orderGiven (c .before .before .before .before .order-for .ensures) (c .before .before .why .given .1) in
+    record { told = none-told (λ o. listed (versionIs (a .version)) (a .start) (a .table .now) (a .names .now) (a .shape .now) o (a .out .now)) none (c .number .ensures); room-after = none-left (λ o. roomBy (checkedRecord (a .table .now) (a .names .now) (a .shape .now) o) (versionIs (a .version)) (a .start) (a .out .now)) (a .out .now) none }
+
+pub list-as-spec : {M : Type 1} → statement M
+list-as-spec =
+    tie.close
+    (tie.spec
+    order-for-requires
+    enum-known-o
+    list-requires
+    tell-bytes-requires
+    enum-known-why
+    number-requires
+    same-length
+    returns
+    returns-2)

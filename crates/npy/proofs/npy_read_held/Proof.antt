@@ -1,0 +1,34 @@
+-- The answer as C gets it, and the rooms as the reader left them.
+use Rattle.npy_codes.proofs.Named.{retold}
+use borrow.Author.Needs.{needs}
+use Rattle.npy.proofs.npy_read_held.Statement.{statement}
+use Rattle.npy.proofs.npy_read_held.Tie as tie
+
+read-held-requires : tie.Need-read-held-requires
+read-held-requires c κs = search needs
+
+tell-header-requires : tie.Need-tell-header-requires
+tell-header-requires c κs = search needs
+
+same-length : tie.Need-same-length
+same-length c = search needs
+
+same-length-2 : tie.Need-same-length-2
+same-length-2 c = search needs
+
+same-length-3 : tie.Need-same-length-3
+same-length-3 c = search needs
+
+returns : tie.Need-returns
+returns c = record { told = retold (c .before .before .before .before .before .before .before .before .read-held .ensures .answered) (c .tell-header .ensures); rooms = c .before .before .before .before .before .before .before .before .read-held .ensures .after }
+
+pub npy-read-held-spec : {M : Type 1} → statement M
+npy-read-held-spec =
+    tie.close
+    (tie.spec
+    read-held-requires
+    tell-header-requires
+    same-length
+    same-length-2
+    same-length-3
+    returns)

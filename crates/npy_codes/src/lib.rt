@@ -1,0 +1,244 @@
+// The numbers of the C interface: what a caller's number for an order, a version or a type names, and each answer as 0 and its values or as document 01's number alone.
+// Crate npy calls these.
+use check_record::Checked;
+use check_record::ItemSize;
+use check_record::Summary;
+use dtype::Entry;
+use dtype::Order;
+use dtype::PLAIN;
+use header::Header;
+use header::HeaderRead;
+use header::TextRead;
+use header_prefix::Version;
+use place::Placed;
+use refusal::BytesAnswer;
+use refusal::ItemsAnswer;
+use refusal::PointsAnswer;
+use refusal::Refusal;
+use table_entry::EntryType;
+use type_str::TypeRead;
+ghost use mathlib.Core.Path.{_≡_};
+ghost use Rattle.refusal.specs.Answers.{itemsAnswer, bytesAnswer, pointsAnswer};
+ghost use Rattle.record.specs.Version.{versionOf};
+ghost use Rattle.type_str.specs.Answer as typed;
+ghost use Rattle.check_record.specs.Answer as checked;
+ghost use Rattle.place.specs.Answer as placed;
+ghost use Rattle.header.specs.Reads as header;
+ghost use Rattle.npy_codes.specs.Codes.{Tells, alone};
+ghost use Rattle.npy_codes.specs.Numbers.{orderNumber, orderFor, typeFor};
+ghost use Rattle.npy_codes.specs.Values.{typeValues, textValues, headerValues, summaryValues, runValues};
+ghost use Rattle.npy_codes.specs.Given.{orderGiven, versionGiven};
+
+// An order that a caller gives by its number.
+pub enum OrderGiven {
+    Is(Order),
+    Refused(Refusal),
+}
+
+// A version that a caller gives by its major byte.
+pub enum VersionGiven {
+    Is(Version),
+    Refused(Refusal),
+}
+
+// The order that a number names: 0 is C, 1 is Fortran.
+pub fn order_for(n: u64) -> OrderGiven
+    ensures { λ r. ⌜ orderGiven r ≡ orderFor n ⌝ }
+{
+    match n {
+        0 => OrderGiven::Is(Order::C),
+        1 => OrderGiven::Is(Order::Fortran),
+        _ => OrderGiven::Refused(Refusal::NoReading),
+    }
+}
+
+// The version whose major byte is this number.
+pub fn version_for(n: u64) -> VersionGiven
+    ensures { λ r. ⌜ versionGiven r ≡ versionOf n 0 ⌝ }
+{
+    match n {
+        1 => VersionGiven::Is(Version::OneZero),
+        2 => VersionGiven::Is(Version::TwoZero),
+        3 => VersionGiven::Is(Version::ThreeZero),
+        _ => VersionGiven::Refused(Refusal::OtherVersion),
+    }
+}
+
+// The type whose four numbers these are, as an entry of the table has them. (It has a type_letters::Endianness, a type_letters::TypeChar and a type_units::TimeUnits.)
+pub fn type_for(order: u64, letter: u64, size: u64, units: u64) -> TypeRead
+    ensures { λ r. ⌜ typed.answer r ≡ typeFor order letter size units ⌝ }
+{
+    let found = table_entry::type_of(Entry {
+        parent: 0,
+        kind: PLAIN,
+        order,
+        letter,
+        number: size,
+        units,
+        extent: 0,
+        bytes: 0,
+        name: 0,
+    });
+    match found {
+        EntryType::Type(t) => TypeRead::Read(t),
+        EntryType::NoType => TypeRead::Refused(Refusal::NoReading),
+    }
+}
+
+// A number of items, or an item's number.
+pub fn tell_items(a: ItemsAnswer, said: &mut [u64; 1]) -> u8
+    ensures { λ r. ⌜ Tells alone (itemsAnswer a) (now (said .entry)) r (now (said .exit)) ⌝ }
+{
+    match a {
+        ItemsAnswer::Is(n) => {
+            *said = [n.0];
+            0
+        }
+        ItemsAnswer::Refused(why) => why.number(),
+    }
+}
+
+// A number of bytes.
+pub fn tell_bytes(a: BytesAnswer, said: &mut [u64; 1]) -> u8
+    ensures { λ r. ⌜ Tells alone (bytesAnswer a) (now (said .entry)) r (now (said .exit)) ⌝ }
+{
+    match a {
+        BytesAnswer::Is(n) => {
+            *said = [n.0];
+            0
+        }
+        BytesAnswer::Refused(why) => why.number(),
+    }
+}
+
+// A number of code points.
+pub fn tell_points(a: PointsAnswer, said: &mut [u64; 1]) -> u8
+    ensures { λ r. ⌜ Tells alone (pointsAnswer a) (now (said .entry)) r (now (said .exit)) ⌝ }
+{
+    match a {
+        PointsAnswer::Is(n) => {
+            *said = [n.0];
+            0
+        }
+        PointsAnswer::Refused(why) => why.number(),
+    }
+}
+
+// A type: its four numbers.
+pub fn tell_type(a: TypeRead, said: &mut [u64; 4]) -> u8
+    ensures { λ r. ⌜ Tells typeValues (typed.answer a) (now (said .entry)) r (now (said .exit)) ⌝ }
+{
+    match a {
+        TypeRead::Read(t) => {
+            let e = table_entry::plain_entry(t, 0, 0);
+            *said = [e.order, e.letter, e.number, e.units];
+            0
+        }
+        TypeRead::Refused(why) => why.number(),
+    }
+}
+
+// The record of a header's text: order, rank, entries, name bytes.
+pub fn tell_text(a: TextRead, said: &mut [u64; 4]) -> u8
+    ensures { λ r. ⌜ Tells textValues (header.textAnswer a) (now (said .entry)) r (now (said .exit)) ⌝ }
+{
+    match a {
+        TextRead::Read(info) => {
+            let order = info.order;
+            *said = [
+                order_number(order),
+                info.rank as u64,
+                info.entries as u64,
+                info.names as u64,
+            ];
+            0
+        }
+        TextRead::Refused(why) => why.number(),
+    }
+}
+
+fn order_number(order: Order) -> u64
+    ensures { λ r. ⌜ r ≡ orderNumber order ⌝ }
+{
+    match order {
+        Order::C => 0,
+        Order::Fortran => 1,
+    }
+}
+
+// A header: its version, what `tell_text` writes of its record, where the data starts.
+pub fn tell_header(a: HeaderRead, said: &mut [u64; 6]) -> u8
+    ensures { λ r. ⌜ Tells headerValues (header.answer a) (now (said .entry)) r (now (said .exit)) ⌝ }
+{
+    match a {
+        HeaderRead::Read(h) => {
+            put_header(h, said);
+            0
+        }
+        HeaderRead::Refused(why) => why.number(),
+    }
+}
+
+fn put_header(h: Header, said: &mut [u64; 6])
+    ensures { λ r. ⌜ now (said .exit) ≡ headerValues (header.headerIs h) ⌝ }
+{
+    let version = h.version;
+    let info = h.info;
+    let order = info.order;
+    let start = h.start;
+    *said = [
+        version.major() as u64,
+        order_number(order),
+        info.rank as u64,
+        info.entries as u64,
+        info.names as u64,
+        start.0,
+    ];
+}
+
+// A record that was checked: rank, entries, 1 and the item size or 0 and 0, item count.
+pub fn tell_checked(a: Checked, said: &mut [u64; 5]) -> u8
+    ensures { λ r. ⌜ Tells summaryValues (checked.answer a) (now (said .entry)) r (now (said .exit)) ⌝ }
+{
+    match a {
+        Checked::Accepted(s) => {
+            put_summary(s, said);
+            0
+        }
+        Checked::Refused(why) => why.number(),
+    }
+}
+
+fn put_summary(s: Summary, said: &mut [u64; 5])
+    ensures { λ r. ⌜ now (said .exit) ≡ summaryValues s ⌝ }
+{
+    let size = s.size;
+    let count = s.count;
+    let rank = s.rank as u64;
+    let entries = s.entries as u64;
+    match size {
+        ItemSize::Sized(n) => {
+            *said = [rank, entries, 1, n.0, count.0];
+        }
+        ItemSize::Unsized => {
+            *said = [rank, entries, 0, 0, count.0];
+        }
+    }
+}
+
+// A place: its first byte, how many, the four numbers of its type.
+pub fn tell_place(a: Placed, said: &mut [u64; 6]) -> u8
+    ensures { λ r. ⌜ Tells runValues (placed.answer a) (now (said .entry)) r (now (said .exit)) ⌝ }
+{
+    match a {
+        Placed::At(run) => {
+            let kind = run.kind;
+            let first = run.first;
+            let len = run.len;
+            let e = table_entry::plain_entry(kind, 0, 0);
+            *said = [first.0, len.0, e.order, e.letter, e.number, e.units];
+            0
+        }
+        Placed::Refused(why) => why.number(),
+    }
+}

@@ -1,4 +1,0 @@
-pub mod Types
-pub mod Levels
-pub mod Rest
-pub mod Outcomes

@@ -1,0 +1,47 @@
+-- `place::step` meets its contract, by the entry's kind.
+use Rattle.place.proofs.Walks.{stands-room, at-plain, past, into, into-fits, skip-asks, to-field}
+use native.Mathlib.Omega.{arith}
+use borrow.Author.Needs.{needs}
+use Rattle.place.proofs.step.Statement.{statement}
+use Rattle.place.proofs.step.Tie as tie
+
+entry-at-requires : tie.Need-entry-at-requires
+entry-at-requires c κs = search needs
+
+returns : tie.Need-returns
+returns c = at-plain _ _ _ _ (c .before .before .entry-at .ensures) (c .if1 .taken)
+
+returns-2 : tie.Need-returns-2
+returns-2 c = past _ _ _ _ (c .before .before .before .before .entry-at .ensures) (c .if2 .taken)
+
+add-c : tie.Need-add-c
+add-c c = omega (arith, stands-room _ _ _ (c .before .before .before .before .before .before .before .before .pre .1))
+
+entry-at-requires-2 : tie.Need-entry-at-requires-2
+entry-at-requires-2 c κs = search needs
+
+mul-t8 : tie.Need-mul-t8
+mul-t8 c = record { fits = into-fits _ _ _ _ (c .before .before .before .before .before .before .before .before .entry-at .ensures) (c .before .before .before .before .if2 .left) (c .before .before .if3 .taken) _ (c .before .entry-at2 .ensures) (c .before .before .before .before .before .before .before .before .before .before .pre) }
+
+returns-3 : tie.Need-returns-3
+returns-3 c = into _ _ _ _ (c .before .before .before .before .before .before .before .before .entry-at .ensures) (c .before .before .before .before .if2 .left) (c .before .before .if3 .taken) _ (c .before .entry-at2 .ensures)
+
+skip-requires : tie.Need-skip-requires
+skip-requires c κs = skip-asks _ _ _ _ (c .before .before .before .before .before .before .entry-at .ensures) (c .before .before .if2 .left) (c .before .before .before .before .if1 .left) (c .if3 .left) (c .before .before .before .before .before .before .before .before .pre)
+
+returns-4 : tie.Need-returns-4
+returns-4 c = to-field _ _ _ _ (c .before .before .before .before .before .before .before .entry-at .ensures) (c .before .before .before .if2 .left) (c .before .before .before .before .before .if1 .left) (c .before .if3 .left) _ (c .skip .ensures)
+
+pub step-spec : {M : Type 1} → statement M
+step-spec =
+    tie.close
+    (tie.spec
+    entry-at-requires
+    returns
+    returns-2
+    add-c
+    entry-at-requires-2
+    mul-t8
+    returns-3
+    skip-requires
+    returns-4)

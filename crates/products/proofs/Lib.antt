@@ -1,4 +1,0 @@
-pub mod Outlines
-pub mod Levels
-pub mod Orders
-pub mod OneOutcome

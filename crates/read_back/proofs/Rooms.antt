@@ -1,0 +1,77 @@
+-- What a reading that gives a header leaves in the rooms: the record of the file, each part at its room's front. Assumes nothing.
+use Prim.Native.Nat.{ℕ, _*_}
+use native.Mathlib.Omega.{arith}
+use mathlib.Core.Path.{_≡_, refl, ap}
+use mathlib.Core.List.{List, []}
+use lib.ListN.{length, take, drop}
+use lib.Seq.{take-append-seam}
+use Rattle.counts.specs.Outcome.{Outcome, gives, refused, each}
+use Rattle.dtype.specs.Flat.{entry-width}
+use Rattle.dtype.specs.Entries.{entriesOf}
+use Rattle.dtype.specs.Names.{nameBytes}
+use Rattle.dtype.specs.Record.{Record, table, names}
+use Rattle.dtype.proofs.Flat.{flat-length, names-length}
+use Rattle.counts.specs.Front.{atFront}
+use Rattle.record.specs.Rooms.{Lent, holding}
+use Rattle.record.specs.Header as header
+use Rattle.judge.specs.Judged.{reading}
+use Rattle.header.specs.declared.RecordInfo.{RecordInfo}
+use Rattle.header.specs.declared.Header.{Header}
+use Rattle.header.specs.declared.HeaderRead.{HeaderRead}
+use Rattle.header.specs.Reads.{infoOf, HeaderInfo, headerInfo, headerIs, Reads}
+use Rattle.check_record.specs.Checked.{checkedRecord}
+use Rattle.read_back.specs.Rooms.{tableIn, namesIn, shapeIn, Fronts}
+
+-- rooms that hold a record have its parts at their fronts
+pub table-whole : (r : Record) → entry-width * entriesOf (r .dtype) ≡ length (table (r .dtype))
+table-whole r = omega (arith, flat-length (r .dtype) 0 0 0 [])
+
+pub names-whole : (r : Record) → nameBytes (r .dtype) ≡ length (names (r .dtype))
+names-whole r = omega (arith, names-length (r .dtype) [])
+
+front : (n : ℕ) (new old : List ℕ) → n ≡ length new → take n (atFront new old) ≡ new
+front n new old e = rw e (take-append-seam new (drop (length new) old))
+
+abbrev pub Parts : Record → RecordInfo → Lent → Type 0
+Parts r info l = Fronts (table (r .dtype)) (names (r .dtype)) (r .shape) (r .order) info l
+
+holding-stands : (r : Record) (l : Lent) → Parts r (infoOf r) (holding r l)
+holding-stands r l =
+    record {
+      order-is = refl;
+      table-is = front (entry-width * entriesOf (r .dtype)) (table (r .dtype)) (l .table) (table-whole r);
+      names-are = front (nameBytes (r .dtype)) (names (r .dtype)) (l .names) (names-whole r);
+      shape-is = front (length (r .shape)) (r .shape) (l .shape) refl;
+      entries-are = table-whole r;
+      name-bytes-are = names-whole r;
+      rank-is = refl;
+    }
+
+-- the fronts are accepted as the parts of the record are
+pub checked-fronts : (r : Record) (info : RecordInfo) (l : Lent) → Parts r info l → checkedRecord (table (r .dtype)) (names (r .dtype)) (r .shape) (r .order) ≡ gives r
+    → checkedRecord (tableIn info l) (namesIn info l) (shapeIn info l) (info .order) ≡ gives r
+checked-fronts r info l p e = rw (p .table-is, p .names-are, p .shape-is, p .order-is) e
+
+-- the header that is returned, and the rooms, are those of a header that the file gives
+pub record Found (file : List ℕ) (l : Lent) (h : Header) (l′ : Lent) : Type 0 where
+  pub header-is : header.Header
+  pub given : header.headerInto reading file l ≡ gives header-is
+  pub starts : h .start .0 ≡ header-is .data-start
+  pub stands : Parts (header-is .says) (h .info) l′
+
+pub stands-by : (r : Record) (l l′ : Lent) (info : RecordInfo) → info ≡ infoOf r → l′ ≡ holding r l → Parts r info l′
+stands-by r l l′ info p q = rw (p, q) (holding-stands r l)
+
+pub read-found : (file : List ℕ) (l : Lent) (h : Header) (l′ : Lent) → Reads file l (HeaderRead.Read h) l′ → Found file l h l′
+read-found file l h l′ x = go (header.headerInto reading file l) refl (x .answered) (x .after)
+  where
+    go : (o : Outcome header.Header) → header.headerInto reading file l ≡ o → gives (headerIs h) ≡ each headerInfo o → l′ ≡ header.filled o l → Found file l h l′
+    go (gives k) e a b =
+        let same : headerIs h ≡ headerInfo k = cc in
+        record {
+          header-is = k;
+          given = e;
+          starts = ap (λ (t : HeaderInfo). t .data-start) same;
+          stands = stands-by (k .says) l l′ (h .info) (ap (λ (t : HeaderInfo). t .info) same) b;
+        }
+    go (refused n) e a b = absurd (let z : _≡_ {A = ℕ} 0 1 = cc in omega arith)

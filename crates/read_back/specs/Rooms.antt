@@ -1,0 +1,38 @@
+-- What a caller has of a record after a header was read: the answer, and the fronts of the three lent rooms, as long as the answer says. Document 01, "The record":
+-- "records are equal exactly when tables, names, shapes and orders are."
+use Prim.Native.Nat.{ℕ, _*_}
+use mathlib.Core.Path.{_≡_}
+use mathlib.Core.List.{List}
+use lib.ListN.{length, take}
+use Rattle.dtype.specs.declared.Order.{Order}
+use Rattle.counts.specs.Outcome.{gives}
+use Rattle.dtype.specs.Flat.{entry-width}
+use Rattle.dtype.specs.Record.{Record, table, names}
+use Rattle.record.specs.Rooms.{Lent}
+use Rattle.check_record.specs.Checked.{checkedRecord}
+use Rattle.header.specs.declared.RecordInfo.{RecordInfo}
+
+-- the fronts
+abbrev pub tableIn : RecordInfo → Lent → List ℕ
+tableIn info l = take (entry-width * info .entries) (l .table)
+
+abbrev pub namesIn : RecordInfo → Lent → List ℕ
+namesIn info l = take (info .names) (l .names)
+
+abbrev pub shapeIn : RecordInfo → Lent → List ℕ
+shapeIn info l = take (info .rank) (l .shape)
+
+-- they are this table, these names and this shape, with this order, and the answer has their lengths
+pub record Fronts (t ns s : List ℕ) (o : Order) (info : RecordInfo) (l : Lent) : Type 0 where
+  pub order-is : info .order ≡ o
+  pub table-is : tableIn info l ≡ t
+  pub names-are : namesIn info l ≡ ns
+  pub shape-is : shapeIn info l ≡ s
+  pub entries-are : entry-width * info .entries ≡ length t
+  pub name-bytes-are : info .names ≡ length ns
+  pub rank-is : info .rank ≡ length s
+
+-- the fronts are a record's own parts, and the check accepts them
+pub record Holds (r : Record) (info : RecordInfo) (l : Lent) : Type 0 where
+  pub stands : Fronts (table (r .dtype)) (names (r .dtype)) (r .shape) (r .order) info l
+  pub accepted : checkedRecord (tableIn info l) (namesIn info l) (shapeIn info l) (info .order) ≡ gives r

@@ -1,0 +1,4 @@
+pub mod Members
+pub mod Answer
+pub mod Walk
+pub mod Fill

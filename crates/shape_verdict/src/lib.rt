@@ -1,0 +1,156 @@
+// Whether numbers are the dimensions of a shape or sub-shape (11, 12), and what 13, 21 and 22 need of them (document 01, "The record" and "The refusal numbers"). Called by
+// shape_text for each member of a shape in a header's text, and by descr_totals and judge_limits for the finished outline.
+use counts::Number;
+use dtype::Order;
+use refusal::Refusal;
+ghost use mathlib.Core.Path.{_≡_};
+ghost use Rattle.shape_verdict.specs.Outline.{scaledBy, isOver, largestIn, overIn, extendedCapped};
+ghost use mathlib.Core.Bool.{true, false};
+ghost use Prim.Native.Nat.{ℕ, _+_};
+ghost use Rattle.counts.specs.Number.{number, capped};
+ghost use Rattle.record.specs.Dimensions.{signed};
+ghost use Rattle.shape_verdict.specs.Answer.{sized, outlined};
+ghost use Rattle.shape_verdict.specs.Signs.{positiveOf, negativeOf};
+ghost use Rattle.counts.specs.Outcome.{then, each};
+
+// How many dimensions there are, whether one is 0, and the products of those before the first 0 and after the last 0.
+pub struct Outline {
+    pub rank: usize,
+    pub empty: bool,
+    pub before: Number,
+    pub behind: Number,
+}
+
+// A shape or sub-shape; or 11; or 12.
+pub enum ShapeVerdict {
+    Good(Outline),
+    Refused(Refusal),
+}
+
+// A dimension; or 11; or 12.
+pub enum Member {
+    Is(u64),
+    Refused(Refusal),
+}
+
+// Whether the item count or a stride of the order is over 2^64-1 (22).
+pub fn over(shape: Outline, order: Order) -> bool
+    ensures { λ r. ⌜ r ≡ overIn order shape ⌝ }
+{
+    let before = shape.before;
+    let behind = shape.behind;
+    match order {
+        Order::C => is_over(behind),
+        Order::Fortran => is_over(before),
+    }
+}
+
+// The largest size that an array level of a sub-shape has, over items of `size` bytes (21).
+pub fn largest(levels: Outline, size: u64) -> Number
+    ensures { λ r. ⌜ r ≡ largestIn levels size ⌝ }
+{
+    let behind = levels.behind;
+    if size == 0 {
+        return Number::Is(0);
+    }
+    scaled(behind, size)
+}
+
+// Whether a product is over 2^64-1.
+pub fn is_over(n: Number) -> bool
+    ensures { λ r. ⌜ r ≡ isOver n ⌝ }
+{
+    match n {
+        Number::Is(_) => false,
+        Number::Over => true,
+    }
+}
+
+// A product times one more dimension.
+fn scaled(a: Number, n: u64) -> Number
+    ensures { λ r. ⌜ r ≡ scaledBy a n ⌝ }
+{
+    match a {
+        Number::Is(a) => counts::product(a, n),
+        Number::Over => Number::Over,
+    }
+}
+
+// The dimension that a number without a `-` is: 12 where it is over 2^64-1.
+pub fn positive(n: Number) -> Member
+    ensures { λ r. ⌜ ((m : ℕ) → n ≡ number m → sized r ≡ signed false m) ⌝ }
+    ensures { λ r. ⌜ r ≡ positiveOf n ⌝ }
+{
+    match n {
+        Number::Is(n) => Member::Is(n),
+        Number::Over => Member::Refused(Refusal::LargeDimension),
+    }
+}
+
+// The dimension that a number after a `-` is: 11 unless it is 0.
+pub fn negative(n: Number) -> Member
+    ensures { λ r. ⌜ ((m : ℕ) → n ≡ number m → sized r ≡ signed true m) ⌝ }
+    ensures { λ r. ⌜ r ≡ negativeOf n ⌝ }
+{
+    match n {
+        Number::Is(n) => {
+            if n == 0 {
+                Member::Is(0)
+            } else {
+                Member::Refused(Refusal::NotShape)
+            }
+        }
+        Number::Over => Member::Refused(Refusal::NotShape),
+    }
+}
+
+// The verdict with one member more: the first refusal stays.
+pub fn joined(verdict: ShapeVerdict, member: Member) -> ShapeVerdict
+    ensures { λ r. ⌜ outlined r ≡ then (outlined verdict) (λ o. each (extendedCapped o) (sized member)) ⌝ }
+{
+    let ShapeVerdict::Good(o) = verdict else {
+        return verdict;
+    };
+    match member {
+        Member::Is(n) => ShapeVerdict::Good(extended(o, n)),
+        Member::Refused(why) => ShapeVerdict::Refused(why),
+    }
+}
+
+// The outline with the dimension n after the others.
+fn extended(o: Outline, n: u64) -> Outline
+    ensures { λ r. ⌜ r ≡ extendedCapped o n ⌝ }
+{
+    let before = o.before;
+    let behind = o.behind;
+    let rank = next(o.rank);
+    if n == 0 {
+        return Outline {
+            rank: rank,
+            empty: true,
+            before: before,
+            behind: Number::Is(1),
+        };
+    }
+    if o.empty {
+        return Outline {
+            rank: rank,
+            empty: true,
+            before: before,
+            behind: scaled(behind, n),
+        };
+    }
+    Outline {
+        rank: rank,
+        empty: false,
+        before: scaled(before, n),
+        behind: scaled(behind, n),
+    }
+}
+
+// The next rank; 2^64-1 stays as it is, but no text has so many dimensions.
+fn next(rank: usize) -> usize
+    ensures { λ r. ⌜ r ≡ capped (rank + 1) ⌝ }
+{
+    if rank < usize::MAX { rank + 1 } else { rank }
+}

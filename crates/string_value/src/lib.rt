@@ -1,0 +1,28 @@
+// The values of S, U and V elements (document 01, "String elements"): definitions in specs/, laws and round trips in proofs/, and here the kinds of elements.
+// The functions that read and write elements are in string_element.
+ghost use mathlib.Core.Path.{_≡_};
+ghost use lib.ListN.{length};
+ghost use Rattle.string_value.specs.Elements.{trimmed};
+
+// The kind of a type's elements: S, U, V, or no strings.
+pub enum StringKind {
+    ByteStr,
+    UnicodeStr,
+    RawData,
+    Other,
+}
+
+// How many bytes are left when trailing zeros are dropped.
+pub fn kept(run: &[u8]) -> usize
+    ensures { λ r. ⌜ r ≡ length (trimmed (now (run .entry))) ⌝ }
+{
+    let mut n = run.len();
+    while n > 0 {
+        let last = n - 1;
+        if run[last] != 0 {
+            return n;
+        }
+        n = last;
+    }
+    0
+}

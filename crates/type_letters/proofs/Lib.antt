@@ -1,0 +1,5 @@
+pub mod Tables
+pub mod OrderTables
+pub mod Outcomes
+pub mod LetterTables
+pub mod Tags

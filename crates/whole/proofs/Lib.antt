@@ -1,4 +1,0 @@
-pub mod Typed
-pub mod Naming
-pub mod Passes
-pub mod Outcomes
