@@ -1,22 +1,21 @@
 /* Headers, type strings, places and string elements of NPY files, from C.
  *
  * Every function takes any bytes, numbers and rooms and has a proved, complete contract (crates/npy). It returns
- *     0    and has written its values, or
- *     n    one of document 01's refusal numbers, 1 to 30, and has left all that it was lent as it was.
+ *     NPY_OK, 0                       and has written its values, or
+ *     a refusal's number, 1 to 30,    and has left all that it was lent as it was.
+ * docs/RULES.md says when each refusal is given, and which one where several apply.
+ *
  * A room is a pointer and a count of its elements; room beyond what was needed is left as it was. No function allocates, keeps a pointer, or
  * reads or writes outside the rooms. The pointers of one call must not overlap where one of them is written to, and must not be null or misaligned,
- * also where the count is 0; a bool is 0 or 1: that is C's part, which no proof can see.
+ * also where the count is 0; a bool is 0 or 1: that is the caller's part, which no proof can see.
  *
- * Link with target/staticlib/libnpy.a, which `rt staticlib npy` proves and writes, for x86-64.
+ * Link with target/staticlib/libnpy.a, which `rt staticlib npy` proves and writes, for x86-64. No name of this header is one of NumPy's own C headers.
  *
  * A record is what a header says: a dtype table, the names of its fields end to end, a shape and an order.
- *     table    NPY_ENTRY numbers for each entry, depth first: parent, kind (0 plain, 1 array level, 2 record), then of a plain type
- *              the byte of its order, the byte of its letter, its size and its units, of an array 0, 0, its length, 0, of a record 0, 0, how many
- *              fields, 0; then how many entries it and all below it have, its bytes (2^64-1 where they are over that, 0 for an 'O'), its name's length
- *              (0 where it is no field). The outermost entry has parent 0 and is no array; an array level's parent is the level or record around it
- *     order    0 for C, 1 for Fortran; another number is refused by 27
- *     type     four numbers: the byte of its order ('<', '>' or '|'), the byte of its letter, its size, its units (0 for none, then 1 to 13 for
- *              Y M W D h m s ms us ns ps fs as); numbers that no type string gives are refused by 27
+ *     table    NPY_ENTRY numbers for each entry, depth first, an entry before those below it: enum npy_entry. The outermost entry has parent 0 and is no array
+ *     order    NPY_ORDER_C or NPY_ORDER_FORTRAN; another number is refused by NPY_NO_READING
+ *     type     four numbers: the byte of its order ('<', '>' or '|'), the byte of its letter, its size (0 for 'O'), its units (0 for none, then 1 to 13
+ *              for Y M W D h m s ms us ns ps fs as); numbers that no type string gives are refused by NPY_NO_READING
  */
 #ifndef NPY_H
 #define NPY_H
@@ -27,17 +26,104 @@
 #define NPY_ENTRY 9            /* numbers of a table entry */
 #define NPY_MOST_ENTRIES 512   /* entries of an accepted record */
 #define NPY_MOST_NAMES 65536   /* name bytes of an accepted record */
-#define NPY_MOST_RANK 32       /* dimensions of an accepted record */
-#define NPY_MOST_HEADER 131084 /* bytes of the longest header: 12 and a text of 131,072 */
+#define NPY_MOST_RANK 32       /* dimensions of an accepted record, and of each sub-shape */
+#define NPY_MOST_TEXT 131072   /* bytes of the longest text of a header */
+#define NPY_MOST_HEADER 131084 /* bytes of the longest header: 12 and a text of NPY_MOST_TEXT */
+
+/* What a function returns. The comments are also what `./npy-list --help` prints. */
+enum npy_refusal {
+    NPY_OK = 0,               /* not refused */
+    NPY_NOT_NPY = 1,          /* under 8 bytes, or the first six are not those of an NPY file */
+    NPY_OTHER_VERSION = 2,    /* a version other than 1.0, 2.0 and 3.0 */
+    NPY_INCOMPLETE = 3,       /* the file ends inside its length field or its header text */
+    NPY_LONG_TEXT = 4,        /* header text of over 131,072 bytes */
+    NPY_NOT_UTF8 = 5,         /* header text that is not UTF-8 */
+    NPY_FAULT = 6,            /* header text that is not one Python literal of the accepted kind */
+    NPY_DEPTH = 7,            /* a 33rd bracket is opened inside 32 others */
+    NPY_NOT_DICT = 8,         /* the header is not a dict, or one of its keys is not a string */
+    NPY_NO_KEY = 9,           /* 'fortran_order', 'shape' or 'descr' is missing */
+    NPY_NOT_BOOLEAN = 10,     /* 'fortran_order' is neither True nor False */
+    NPY_NOT_SHAPE = 11,       /* a shape is not a list or tuple of integers from 0 up */
+    NPY_LARGE_DIMENSION = 12, /* a dimension is over 2^64-1 */
+    NPY_DIMENSIONS = 13,      /* a shape or sub-shape has over 32 dimensions */
+    NPY_FORM = 14,            /* 'descr' or one of its fields has the wrong form */
+    NPY_SYNTAX = 15,          /* type string: wrong syntax */
+    NPY_LARGE_NUMBER = 16,    /* type string: the size is over 2^64-1 */
+    NPY_TYPE_ORDER = 17,      /* type string: '|' where the type needs a byte order */
+    NPY_TYPE_SIZE = 18,       /* type string: a size that the letter does not have */
+    NPY_UNITS = 19,           /* type string: units missing on m or M, or given on another letter */
+    NPY_ENTRIES = 20,         /* over 512 table entries, or over 65,536 bytes of field names */
+    NPY_SIZE = 21,            /* a type, sub-array or record of over 2^64-1 bytes */
+    NPY_SHAPE = 22,           /* the item count or a stride is over 2^64-1 */
+    NPY_ROOM = 23,            /* the room for the table, names, shape, strides or element is too small */
+    NPY_HAS_OBJECT = 24,      /* a place is asked for, and the type contains an object (O) */
+    NPY_SHORT_FILE = 25,      /* the file ends before its data does */
+    NPY_NOWHERE = 26,         /* index or path names no element, or none of the kind asked for */
+    NPY_NO_READING = 27,      /* the caller's record, type or order is none that a header could give */
+    NPY_OUTPUT_ROOM = 28,     /* the room for the output is too small */
+    NPY_SCALAR = 29,          /* a U element holds a number that is no Unicode scalar value */
+    NPY_MISFIT = 30           /* the value does not fit the element's size */
+};
+
+enum npy_order { NPY_ORDER_C = 0, NPY_ORDER_FORTRAN = 1 };
+
+/* The numbers of a table entry. */
+enum npy_entry {
+    NPY_ENTRY_PARENT = 0,     /* the number of the entry that it belongs to, an array level's the level or record around it; 0 for the outermost */
+    NPY_ENTRY_KIND = 1,       /* enum npy_kind */
+    NPY_ENTRY_ORDER = 2,      /* the byte of a plain type's order, else 0 */
+    NPY_ENTRY_LETTER = 3,     /* the byte of a plain type's letter, else 0 */
+    NPY_ENTRY_NUMBER = 4,     /* a plain type's size as its type string has it (0 for 'O'), an array level's length, how many fields a record has */
+    NPY_ENTRY_UNITS = 5,      /* a plain type's units, else 0 */
+    NPY_ENTRY_EXTENT = 6,     /* how many entries it and all below it are */
+    NPY_ENTRY_BYTES = 7,      /* its bytes, 0 for an 'O', and 2^64-1 where they are over that */
+    NPY_ENTRY_NAME = 8    /* the length of its name in bytes, 0 where it is no field */
+};
+enum npy_kind { NPY_KIND_PLAIN = 0, NPY_KIND_ARRAY = 1, NPY_KIND_RECORD = 2 };
+
+/* The values of npy_read and npy_read_held: `said`. */
+enum npy_read_said {
+    NPY_READ_VERSION = 0,     /* 1, 2 or 3 */
+    NPY_READ_ORDER = 1,
+    NPY_READ_RANK = 2,        /* dimensions of the shape */
+    NPY_READ_ENTRIES = 3,     /* entries of the table, NPY_ENTRY numbers each */
+    NPY_READ_NAMES = 4,       /* bytes of the names */
+    NPY_READ_START = 5,       /* where the data starts: how many bytes of the file come before it */
+    NPY_READ_SAID = 6     /* how many there are */
+};
+
+/* Those of npy_read_text. */
+enum npy_text_said { NPY_TEXT_ORDER = 0, NPY_TEXT_RANK = 1, NPY_TEXT_ENTRIES = 2, NPY_TEXT_NAMES = 3, NPY_TEXT_SAID = 4 };
+
+/* Those of npy_check. */
+enum npy_check_said {
+    NPY_CHECK_RANK = 0,
+    NPY_CHECK_ENTRIES = 1,
+    NPY_CHECK_SIZED = 2,      /* 1 where there is an item size, 0 with an 'O' */
+    NPY_CHECK_ITEM = 3,       /* the item size in bytes, 0 with an 'O' */
+    NPY_CHECK_COUNT = 4,      /* the item count */
+    NPY_CHECK_SAID = 5   /* how many there are */
+};
+
+/* The values of npy_place: `run`. The last four are the type. */
+enum npy_run {
+    NPY_RUN_FIRST = 0,        /* where its first byte is: how many bytes of the file come before it */
+    NPY_RUN_BYTES = 1,        /* how many bytes */
+    NPY_RUN_ORDER = 2,
+    NPY_RUN_LETTER = 3,
+    NPY_RUN_SIZE = 4,
+    NPY_RUN_UNITS = 5,
+    NPY_RUN = 6        /* how many there are */
+};
 
 #ifdef __cplusplus
 extern "C" {
 #endif
 
-/* ---- reading. 1 to 5, 6 to 22 in document 01's order, 23 where a room is too small. */
+/* ---- reading: 1 to 22, and 23 last, where a room is too small. */
 
 /* The header that a file begins with. Its record goes to the front of the three rooms.
- * said: version (1, 2 or 3), order, rank, entries, name bytes, data start. */
+ * said: enum npy_read_said. */
 uint8_t npy_read(const uint8_t *file, size_t file_len, uint64_t *table, size_t table_len, uint8_t *names, size_t names_len,
                  uint64_t *shape, size_t shape_len, uint64_t said[6]);
 
@@ -46,13 +132,13 @@ uint8_t npy_read(const uint8_t *file, size_t file_len, uint64_t *table, size_t t
 uint8_t npy_read_held(const uint8_t *file, size_t file_len, bool longer, uint64_t *table, size_t table_len, uint8_t *names, size_t names_len,
                       uint64_t *shape, size_t shape_len, uint64_t said[6]);
 
-/* The record of a header's text, without its prefix and of any length, so never 4: 5 to 23. said: order, rank, entries, name bytes. */
+/* The record of a header's text, without its prefix and of any length, so never 4: 5 to 23. said: enum npy_text_said. */
 uint8_t npy_read_text(const uint8_t *text, size_t text_len, uint64_t *table, size_t table_len, uint8_t *names, size_t names_len,
                       uint64_t *shape, size_t shape_len, uint64_t said[4]);
 
-/* ---- a caller's record: 27, 13, 20, 21, 22 come first in every function that takes one (in npy_list behind 2). */
+/* ---- a caller's record: 27, 13, 20, 21, 22 come first in every function that takes one (in npy_list after 2). */
 
-/* Whether some reading gives the record, 7 and 4 aside, which are the writer's to find. said: rank, entries, 1 and the item size (0 and 0 with an 'O'), item count. */
+/* Whether some reading gives the record, 7 and 4 aside, which only the writer asks. said: enum npy_check_said. */
 uint8_t npy_check(const uint64_t *table, size_t table_len, const uint8_t *names, size_t names_len, const uint64_t *shape, size_t shape_len,
                   uint64_t order, uint64_t said[5]);
 
@@ -76,7 +162,7 @@ uint8_t npy_item_number(const uint64_t *shape, size_t shape_len, uint64_t order,
 
 /* ---- places: the record's refusals, then 24, 25, 26. */
 
-/* The bytes that an index and a path name in a file of so many bytes whose data starts at start. run: first byte, how many, the type's four numbers. */
+/* The bytes that an index and a path name in a file of so many bytes whose data starts at start. run: enum npy_run. */
 uint8_t npy_place(uint64_t file_len, uint64_t start, const uint64_t *table, size_t table_len, const uint8_t *names, size_t names_len,
                   const uint64_t *shape, size_t shape_len, uint64_t order, const uint64_t *index, size_t index_len,
                   const uint64_t *path, size_t path_len, uint64_t run[6]);

@@ -9,16 +9,16 @@
 #include <stdlib.h>
 #include <string.h>
 
-enum { ENTRY = 9, MOST_ENTRIES = 512, MOST_NAMES = 65536, MOST_RANK = 64, MOST_CASE = 1 << 20, MOST_EDITS = 4 };
+enum { MOST_RANK = 64, MOST_CASE = 1 << 20, MOST_EDITS = 4 };
 
 struct rooms {
-    uint64_t table[ENTRY * MOST_ENTRIES], shape[MOST_RANK], said[6];
-    uint8_t names[MOST_NAMES];
+    uint64_t table[NPY_ENTRY * NPY_MOST_ENTRIES], shape[MOST_RANK], said[NPY_READ_SAID];
+    uint8_t names[NPY_MOST_NAMES];
 };
 
 static uint8_t held[MOST_CASE], damaged[MOST_CASE + MOST_EDITS];
 static struct rooms ours, plain;
-static unsigned long asked, differ, seen[31];
+static unsigned long asked, differ, seen[NPY_MISFIT + 1];
 static uint64_t state = 88172645463325252u;
 
 // Bytes that mean something in a header's text.
@@ -44,14 +44,14 @@ static size_t at_most(size_t n, size_t most)
 
 static void ask(const uint8_t *rooms, const uint8_t *file, size_t length)
 {
-    size_t entries = at_most(four(rooms), MOST_ENTRIES), names = at_most(four(rooms + 4), MOST_NAMES), rank = at_most(four(rooms + 8), MOST_RANK);
+    size_t entries = at_most(four(rooms), NPY_MOST_ENTRIES), names = at_most(four(rooms + 4), NPY_MOST_NAMES), rank = at_most(four(rooms + 8), MOST_RANK);
     uint8_t a, b;
     memset(&ours, 5, sizeof ours);
     memset(&plain, 5, sizeof plain);
-    a = npy_read(file, length, ours.table, ENTRY * entries, ours.names, names, ours.shape, rank, ours.said);
-    b = plain_read(file, length, plain.table, ENTRY * entries, plain.names, names, plain.shape, rank, plain.said);
+    a = npy_read(file, length, ours.table, NPY_ENTRY * entries, ours.names, names, ours.shape, rank, ours.said);
+    b = plain_read(file, length, plain.table, NPY_ENTRY * entries, plain.names, names, plain.shape, rank, plain.said);
     asked++;
-    seen[b <= 30 ? b : 30]++;
+    seen[b <= NPY_MISFIT ? b : NPY_MISFIT]++;
     if (a != b || memcmp(&ours, &plain, sizeof ours) != 0) {
         differ++;
         if (differ <= 5)
@@ -101,7 +101,7 @@ int main(int argc, char **argv)
         for (long k = 0; k < ways; k++)
             ask(held, damaged, damage(held + 13, n - 13));
     }
-    for (int k = 0; k <= 23; k++)
+    for (int k = 0; k <= NPY_ROOM; k++)
         printf("%s%d: %lu", k ? ", " : "answers ", k, seen[k]);
     printf("\n%lu asked, %lu differ\n", asked, differ);
     return differ || asked == 0;

@@ -16,7 +16,7 @@ static void is(int holds, const char *what, int line) {
 
 /* The rooms of one call, filled with marks so that a byte written by mistake shows. */
 static struct rooms {
-    uint64_t table[NPY_MOST_ENTRIES * NPY_ENTRY], shape[NPY_MOST_RANK], said[6], strides[NPY_MOST_RANK];
+    uint64_t table[NPY_MOST_ENTRIES * NPY_ENTRY], shape[NPY_MOST_RANK], said[NPY_READ_SAID], strides[NPY_MOST_RANK];
     uint8_t names[256], out[1024];
     uint32_t points[16];
 } now, marks;
@@ -44,13 +44,13 @@ static uint8_t read_into(const uint8_t *file, size_t n) {
 static void reading(void) {
     uint8_t file[96];
     size_t n = small(file);
-    const uint64_t entry[NPY_ENTRY] = {0, 0, '<', 'i', 4, 0, 1, 4, 0}, said[6] = {1, 0, 1, 1, 0, 80};
+    const uint64_t entry[NPY_ENTRY] = {0, NPY_KIND_PLAIN, '<', 'i', 4, 0, 1, 4, 0}, said[NPY_READ_SAID] = {1, NPY_ORDER_C, 1, 1, 0, 80};
     for (size_t k = 0; k < n; k++) {
         mark();
-        IS(read_into(file, k) == (k < 8 ? 1 : 3));
+        IS(read_into(file, k) == (k < 8 ? NPY_NOT_NPY : NPY_INCOMPLETE));
         IS(untouched());
         mark();
-        IS(npy_read_held(file, k, true, now.table, 9, now.names, 0, now.shape, 1, now.said) == (k < 8 ? 1 : k < 10 ? 3 : 23));
+        IS(npy_read_held(file, k, true, now.table, NPY_ENTRY, now.names, 0, now.shape, 1, now.said) == (k < 8 ? NPY_NOT_NPY : k < 10 ? NPY_INCOMPLETE : NPY_ROOM));
         IS(untouched());
     }
     mark();
@@ -59,14 +59,14 @@ static void reading(void) {
     memcpy(marks.said, said, sizeof said), memcpy(marks.table, entry, sizeof entry), marks.shape[0] = 3;
     IS(untouched());
     mark();
-    IS(npy_read_held(file, n, true, now.table, 9, now.names, 0, now.shape, 1, now.said) == 0 && now.said[5] == 80);
+    IS(npy_read_held(file, n, true, now.table, NPY_ENTRY, now.names, 0, now.shape, 1, now.said) == 0 && now.said[NPY_READ_START] == 80);
     mark();
-    IS(npy_read(file, n, now.table, 8, now.names, 0, now.shape, 1, now.said) == 23 && untouched());
-    IS(npy_read(file, n, now.table, 9, now.names, 0, now.shape, 0, now.said) == 23 && untouched());
-    IS(npy_read_text(file + 10, 70, now.table, 9, now.names, 0, now.shape, 1, now.said) == 0);
-    IS(now.said[0] == 0 && now.said[1] == 1 && now.said[2] == 1 && now.said[3] == 0);
+    IS(npy_read(file, n, now.table, NPY_ENTRY - 1, now.names, 0, now.shape, 1, now.said) == NPY_ROOM && untouched());
+    IS(npy_read(file, n, now.table, NPY_ENTRY, now.names, 0, now.shape, 0, now.said) == NPY_ROOM && untouched());
+    IS(npy_read_text(file + 10, 70, now.table, NPY_ENTRY, now.names, 0, now.shape, 1, now.said) == 0);
+    IS(now.said[NPY_TEXT_ORDER] == NPY_ORDER_C && now.said[NPY_TEXT_RANK] == 1 && now.said[NPY_TEXT_ENTRIES] == 1 && now.said[NPY_TEXT_NAMES] == 0);
     mark();
-    IS(npy_read_text(file + 10, 57, now.table, 9, now.names, 0, now.shape, 1, now.said) == 6 && untouched());
+    IS(npy_read_text(file + 10, 57, now.table, NPY_ENTRY, now.names, 0, now.shape, 1, now.said) == NPY_FAULT && untouched());
 }
 
 /* A record of two fields, `a` of S3 and `b` of <U2, two items in Fortran order, read from text. */
@@ -74,30 +74,30 @@ static const char pair[] = "{'descr': [('a', '|S3'), ('b', '<U2'), ], 'fortran_o
 
 static void read_pair(void) {
     mark();
-    IS(npy_read_text((const uint8_t *)pair, sizeof pair - 1, now.table, 27, now.names, 2, now.shape, 1, now.said) == 0);
-    IS(now.said[0] == 1 && now.said[1] == 1 && now.said[2] == 3 && now.said[3] == 2 && memcmp(now.names, "ab", 2) == 0);
+    IS(npy_read_text((const uint8_t *)pair, sizeof pair - 1, now.table, 3 * NPY_ENTRY, now.names, 2, now.shape, 1, now.said) == 0);
+    IS(now.said[NPY_TEXT_ORDER] == NPY_ORDER_FORTRAN && now.said[NPY_TEXT_RANK] == 1 && now.said[NPY_TEXT_ENTRIES] == 3 && now.said[NPY_TEXT_NAMES] == 2 && memcmp(now.names, "ab", 2) == 0);
 }
 
-#define RECORD now.table, 27, now.names, 2, now.shape, 1
+#define RECORD now.table, 3 * NPY_ENTRY, now.names, 2, now.shape, 1
 
 static void records(void) {
     read_pair();
-    const uint64_t said[5] = {1, 3, 1, 11, 2};
+    const uint64_t said[NPY_CHECK_SAID] = {1, 3, 1, 11, 2};
     IS(npy_check(RECORD, 1, now.said) == 0 && memcmp(now.said, said, sizeof said) == 0);
     marks = now;
-    IS(npy_check(RECORD, 2, now.said) == 27 && untouched());
-    IS(npy_check(now.table, 26, now.names, 2, now.shape, 1, 1, now.said) == 27 && untouched());
+    IS(npy_check(RECORD, 2, now.said) == NPY_NO_READING && untouched());
+    IS(npy_check(now.table, 3 * NPY_ENTRY - 1, now.names, 2, now.shape, 1, 1, now.said) == NPY_NO_READING && untouched());
     uint64_t count[1] = {7};
     IS(npy_write_header(RECORD, 1, now.out, sizeof now.out, count) == 0 && count[0] == 96);
     IS(memcmp(now.out, "\x93NUMPY\x01\x00\x56\x00", 10) == 0 && memcmp(now.out + 10, pair, sizeof pair - 1) == 0 && now.out[95] == '\n' && now.out[96] == 0xA5);
     marks = now, count[0] = 7;
-    IS(npy_write_header(RECORD, 1, now.out, 95, count) == 28 && count[0] == 7 && untouched());
-    IS(npy_write_header(RECORD, 256, now.out, sizeof now.out, count) == 27 && count[0] == 7 && untouched());
+    IS(npy_write_header(RECORD, 1, now.out, 95, count) == NPY_OUTPUT_ROOM && count[0] == 7 && untouched());
+    IS(npy_write_header(RECORD, 256, now.out, sizeof now.out, count) == NPY_NO_READING && count[0] == 7 && untouched());
     const char text[] = "version 1.0\norder F\nshape 2\nstrides 1\ncount 2\nitem 11\ndata 96\n0 - record 2\n1 0 plain |S3 'a'\n2 0 plain <U2 'b'\n";
     IS(npy_list(1, 96, RECORD, 1, now.out, sizeof now.out, count) == 0 && count[0] == sizeof text - 1 && memcmp(now.out, text, sizeof text - 1) == 0);
     marks = now, count[0] = 7;
-    IS(npy_list(4, 96, RECORD, 1, now.out, sizeof now.out, count) == 2 && npy_list(1, 96, RECORD, 9, now.out, sizeof now.out, count) == 27);
-    IS(npy_list(1, 96, RECORD, 1, now.out, 10, count) == 28 && count[0] == 7 && untouched());
+    IS(npy_list(4, 96, RECORD, 1, now.out, sizeof now.out, count) == NPY_OTHER_VERSION && npy_list(1, 96, RECORD, 9, now.out, sizeof now.out, count) == NPY_NO_READING);
+    IS(npy_list(1, 96, RECORD, 1, now.out, 10, count) == NPY_OUTPUT_ROOM && count[0] == 7 && untouched());
 }
 
 static void shapes(void) {
@@ -106,39 +106,39 @@ static void shapes(void) {
     mark();
     IS(npy_count(shape, 3, 0, count) == 0 && count[0] == 24);
     count[0] = 7;
-    IS(npy_count(big, 2, 0, count) == 22 && npy_count(shape, 3, 2, count) == 27 && count[0] == 7);
+    IS(npy_count(big, 2, 0, count) == NPY_SHAPE && npy_count(shape, 3, 2, count) == NPY_NO_READING && count[0] == 7);
     IS(npy_strides(shape, 3, 0, now.strides, 32, count) == 0 && count[0] == 24 && memcmp(now.strides, c, sizeof c) == 0);
     IS(npy_strides(shape, 3, 1, now.strides, 3, count) == 0 && memcmp(now.strides, fortran, sizeof fortran) == 0);
     marks = now, count[0] = 7;
-    IS(npy_strides(shape, 3, 1, now.strides, 2, count) == 23 && npy_strides(big, 2, 1, now.strides, 2, count) == 22 && npy_strides(shape, 3, 7, now.strides, 3, count) == 27);
+    IS(npy_strides(shape, 3, 1, now.strides, 2, count) == NPY_ROOM && npy_strides(big, 2, 1, now.strides, 2, count) == NPY_SHAPE && npy_strides(shape, 3, 7, now.strides, 3, count) == NPY_NO_READING);
     IS(untouched() && count[0] == 7);
     IS(npy_item_number(shape, 3, 0, index, 3, count) == 0 && count[0] == 23);
     count[0] = 7;
-    IS(npy_item_number(shape, 3, 0, index, 2, count) == 26 && npy_item_number(shape, 3, 3, index, 3, count) == 27 && count[0] == 7);
+    IS(npy_item_number(shape, 3, 0, index, 2, count) == NPY_NOWHERE && npy_item_number(shape, 3, 3, index, 3, count) == NPY_NO_READING && count[0] == 7);
 }
 
 static void places(void) {
     read_pair();
     uint8_t file[96 + 22] = {0};
-    uint64_t one[1] = {1}, two[1] = {2}, path[1] = {1}, count[1] = {7}, run[6];
-    const uint64_t there[6] = {96 + 11 + 3, 8, '<', 'U', 2, 0};
+    uint64_t one[1] = {1}, two[1] = {2}, path[1] = {1}, count[1] = {7}, run[NPY_RUN];
+    const uint64_t there[NPY_RUN] = {96 + 11 + 3, 8, '<', 'U', 2, 0};
     memcpy(file + 96 + 11, "xy", 2);
     file[96 + 14] = 0xE9;
     marks = now;
     memset(run, 0, sizeof run);
     IS(npy_place(sizeof file, 96, RECORD, 1, one, 1, path, 1, run) == 0 && memcmp(run, there, sizeof run) == 0);
-    IS(npy_place(sizeof file - 1, 96, RECORD, 1, one, 1, path, 1, run) == 25 && npy_place(sizeof file, 96, RECORD, 1, two, 1, path, 1, run) == 26);
-    IS(npy_place(sizeof file, 96, RECORD, 2, one, 1, path, 1, run) == 27 && memcmp(run, there, sizeof run) == 0);
+    IS(npy_place(sizeof file - 1, 96, RECORD, 1, one, 1, path, 1, run) == NPY_SHORT_FILE && npy_place(sizeof file, 96, RECORD, 1, two, 1, path, 1, run) == NPY_NOWHERE);
+    IS(npy_place(sizeof file, 96, RECORD, 2, one, 1, path, 1, run) == NPY_NO_READING && memcmp(run, there, sizeof run) == 0);
     IS(npy_element_points(file, sizeof file, 96, RECORD, 1, one, 1, path, 1, now.points, 16, count) == 0 && count[0] == 1 && now.points[0] == 0xE9);
     IS(now.points[1] == 0xA5A5A5A5);
     marks = now, count[0] = 7;
-    IS(npy_element_points(file, sizeof file, 96, RECORD, 1, one, 1, path, 1, now.points, 0, count) == 23 && untouched());
+    IS(npy_element_points(file, sizeof file, 96, RECORD, 1, one, 1, path, 1, now.points, 0, count) == NPY_ROOM && untouched());
     path[0] = 0;
-    IS(npy_element_points(file, sizeof file, 96, RECORD, 1, one, 1, path, 1, now.points, 16, count) == 26 && untouched() && count[0] == 7);
+    IS(npy_element_points(file, sizeof file, 96, RECORD, 1, one, 1, path, 1, now.points, 16, count) == NPY_NOWHERE && untouched() && count[0] == 7);
     IS(npy_element_bytes(file, sizeof file, 96, RECORD, 1, one, 1, path, 1, now.out, 2, count) == 0 && count[0] == 2 && memcmp(now.out, "xy", 2) == 0);
     marks = now, count[0] = 7;
-    IS(npy_element_bytes(file, sizeof file, 96, RECORD, 1, one, 1, path, 1, now.out, 1, count) == 23 && untouched() && count[0] == 7);
-    IS(npy_element_bytes(file, sizeof file, 96, RECORD, 5, one, 1, path, 1, now.out, 2, count) == 27 && untouched() && count[0] == 7);
+    IS(npy_element_bytes(file, sizeof file, 96, RECORD, 1, one, 1, path, 1, now.out, 1, count) == NPY_ROOM && untouched() && count[0] == 7);
+    IS(npy_element_bytes(file, sizeof file, 96, RECORD, 5, one, 1, path, 1, now.out, 2, count) == NPY_NO_READING && untouched() && count[0] == 7);
 }
 
 static void elements(void) {
@@ -148,19 +148,19 @@ static void elements(void) {
     mark();
     IS(npy_write_points('>', 'U', 3, 0, points, 2, now.out, 12, count) == 0 && count[0] == 12 && memcmp(now.out, run, 12) == 0 && now.out[12] == 0xA5);
     marks = now, count[0] = 7;
-    IS(npy_write_points('>', 'U', 3, 0, half, 1, now.out, 12, count) == 29 && npy_write_points('>', 'U', 1, 0, points, 2, now.out, 12, count) == 30);
-    IS(npy_write_points('>', 'U', 3, 0, points, 2, now.out, 11, count) == 28 && npy_write_points('|', 'U', 3, 0, points, 2, now.out, 12, count) == 27);
-    IS(npy_write_points('>', 'S', 3, 0, points, 2, now.out, 12, count) == 26 && untouched() && count[0] == 7);
+    IS(npy_write_points('>', 'U', 3, 0, half, 1, now.out, 12, count) == NPY_SCALAR && npy_write_points('>', 'U', 1, 0, points, 2, now.out, 12, count) == NPY_MISFIT);
+    IS(npy_write_points('>', 'U', 3, 0, points, 2, now.out, 11, count) == NPY_OUTPUT_ROOM && npy_write_points('|', 'U', 3, 0, points, 2, now.out, 12, count) == NPY_NO_READING);
+    IS(npy_write_points('>', 'S', 3, 0, points, 2, now.out, 12, count) == NPY_NOWHERE && untouched() && count[0] == 7);
     IS(npy_read_points(run, 12, '>', 'U', 3, 0, now.points, 2, count) == 0 && count[0] == 2 && memcmp(now.points, points, 8) == 0 && now.points[2] == 0xA5A5A5A5);
     marks = now, count[0] = 7;
-    IS(npy_read_points(run, 12, '<', 'U', 3, 0, now.points, 2, count) == 29 && npy_read_points(run, 12, '>', 'U', 3, 0, now.points, 1, count) == 23);
-    IS(npy_read_points(run, 12, '>', 'V', 12, 0, now.points, 2, count) == 26 && npy_read_points(run, 12, 0, 'U', 3, 0, now.points, 2, count) == 27);
+    IS(npy_read_points(run, 12, '<', 'U', 3, 0, now.points, 2, count) == NPY_SCALAR && npy_read_points(run, 12, '>', 'U', 3, 0, now.points, 1, count) == NPY_ROOM);
+    IS(npy_read_points(run, 12, '>', 'V', 12, 0, now.points, 2, count) == NPY_NOWHERE && npy_read_points(run, 12, 0, 'U', 3, 0, now.points, 2, count) == NPY_NO_READING);
     IS(untouched() && count[0] == 7);
     IS(npy_write_bytes('|', 'S', 4, 0, (const uint8_t *)"xy", 2, now.out, 4, count) == 0 && count[0] == 4 && memcmp(now.out, "xy\0\0", 4) == 0);
     IS(npy_read_bytes(now.out, 4, '|', 'S', 4, 0, now.names, 2, count) == 0 && count[0] == 2 && memcmp(now.names, "xy", 2) == 0);
     marks = now, count[0] = 7;
-    IS(npy_write_bytes('|', 'V', 4, 0, (const uint8_t *)"xy", 2, now.out, 4, count) == 30 && npy_write_bytes('|', 'S', 4, 14, (const uint8_t *)"xy", 2, now.out, 4, count) == 27);
-    IS(npy_read_bytes(now.out, 4, '|', 'V', 4, 0, now.names, 3, count) == 23 && npy_read_bytes(now.out, 4, '<', 'i', 4, 0, now.names, 9, count) == 26);
+    IS(npy_write_bytes('|', 'V', 4, 0, (const uint8_t *)"xy", 2, now.out, 4, count) == NPY_MISFIT && npy_write_bytes('|', 'S', 4, 14, (const uint8_t *)"xy", 2, now.out, 4, count) == NPY_NO_READING);
+    IS(npy_read_bytes(now.out, 4, '|', 'V', 4, 0, now.names, 3, count) == NPY_ROOM && npy_read_bytes(now.out, 4, '<', 'i', 4, 0, now.names, 9, count) == NPY_NOWHERE);
     IS(untouched() && count[0] == 7);
 }
 
@@ -169,13 +169,13 @@ static uint8_t type_read(const char *text, uint64_t type[4]) { return npy_type_r
 static void types(void) {
     const uint64_t date[4] = {'<', 'M', 8, 10};
     uint64_t type[4] = {1, 2, 3, 4}, before[4] = {1, 2, 3, 4}, count[1] = {7};
-    IS(type_read("", type) == 15 && type_read("<i18446744073709551616", type) == 16 && type_read("|i4", type) == 17 && type_read("<i3", type) == 18 && type_read("<M8", type) == 19);
+    IS(type_read("", type) == NPY_SYNTAX && type_read("<i18446744073709551616", type) == NPY_LARGE_NUMBER && type_read("|i4", type) == NPY_TYPE_ORDER && type_read("<i3", type) == NPY_TYPE_SIZE && type_read("<M8", type) == NPY_UNITS);
     IS(memcmp(type, before, sizeof type) == 0);
     IS(type_read("<M8[ns]", type) == 0 && memcmp(type, date, sizeof type) == 0);
     mark();
     IS(npy_type_print('<', 'M', 8, 10, now.out, 7, count) == 0 && count[0] == 7 && memcmp(now.out, "<M8[ns]", 7) == 0 && now.out[7] == 0xA5);
     marks = now, count[0] = 8;
-    IS(npy_type_print('<', 'M', 8, 10, now.out, 6, count) == 28 && npy_type_print('<', 'M', 8, 0, now.out, 7, count) == 27 && untouched() && count[0] == 8);
+    IS(npy_type_print('<', 'M', 8, 10, now.out, 6, count) == NPY_OUTPUT_ROOM && npy_type_print('<', 'M', 8, 0, now.out, 7, count) == NPY_NO_READING && untouched() && count[0] == 8);
 }
 
 int main(void) {

@@ -7,10 +7,10 @@
 #include <stdlib.h>
 #include <string.h>
 
-enum { MOST_CASE = 1 << 20, MOST_BYTES = 131088, MOST_FEW = 1024, MOST_TABLE = 4608, MOST_NAMES = 65536, MOST_SHAPE = 64 };
+enum { MOST_CASE = 1 << 20, MOST_BYTES = 131088, MOST_FEW = 1024, MOST_TABLE = NPY_MOST_ENTRIES * NPY_ENTRY, MOST_SHAPE = 64 };
 
 static uint8_t held[MOST_CASE], out[MOST_BYTES + 1];
-static uint64_t table_out[MOST_TABLE + 1], shape_out[MOST_SHAPE + 1], values[6];
+static uint64_t table_out[MOST_TABLE + 1], shape_out[MOST_SHAPE + 1], values[NPY_READ_SAID];
 static uint32_t points_out[MOST_FEW + 1], points[256];
 
 struct part {
@@ -56,17 +56,17 @@ static void fill(void)
         shape_out[i] = 5;
     for (size_t i = 0; i <= MOST_FEW; i++)
         points_out[i] = 5;
-    for (size_t i = 0; i < 6; i++)
+    for (size_t i = 0; i < NPY_READ_SAID; i++)
         values[i] = 5;
 }
 
 static void tell(uint8_t refusal, size_t count)
 {
-    size_t changed = 6;
+    size_t changed = NPY_READ_SAID;
     while (changed > 0 && values[changed - 1] == 5)
         changed--;
     printf("%d", refusal);
-    for (size_t i = 0; i < (refusal ? changed ? 6 : 0 : count); i++)
+    for (size_t i = 0; i < (refusal ? changed ? NPY_READ_SAID : 0 : count); i++)
         printf(" %" PRIu64, values[i]);
     if (!refusal && changed > count)
         printf(" beyond");
@@ -113,18 +113,18 @@ static void replay(uint8_t operation)
     uint64_t g[7] = { 0 };
     memcpy(g, parts[1].numbers, 8 * least(parts[1].count, 7));
     const uint64_t a = g[0], b = g[1], c = g[2], d = g[3];
-    const size_t room = least(g[4], MOST_BYTES), few = least(g[4], MOST_FEW), table_len = least(g[4], MOST_TABLE), names_len = least(g[5], MOST_NAMES), shape_len = least(g[6], MOST_SHAPE);
+    const size_t room = least(g[4], MOST_BYTES), few = least(g[4], MOST_FEW), table_len = least(g[4], MOST_TABLE), names_len = least(g[5], NPY_MOST_NAMES), shape_len = least(g[6], MOST_SHAPE);
     size_t count = least(parts[3].count, 256);
     for (size_t i = 0; i < count; i++)
         points[i] = (uint32_t)parts[3].numbers[i];
 #define LENT table_out, table_len, out, names_len, shape_out, shape_len, values
     switch (operation) {
-    case 0: tell(npy_read(BYTES, LENT), 6); break;
-    case 1: tell(npy_read_held(BYTES, a != 0, LENT), 6); break;
-    case 2: tell(npy_read_text(BYTES, LENT), 4); break;
+    case 0: tell(npy_read(BYTES, LENT), NPY_READ_SAID); break;
+    case 1: tell(npy_read_held(BYTES, a != 0, LENT), NPY_READ_SAID); break;
+    case 2: tell(npy_read_text(BYTES, LENT), NPY_TEXT_SAID); break;
     case 3: tell(npy_type_read(BYTES, values), 4); break;
-    case 4: tell(npy_check(RECORD, a, values), 5); break;
-    case 5: tell(npy_place(c, b, RECORD, a, PLACE, values), 6); break;
+    case 4: tell(npy_check(RECORD, a, values), NPY_CHECK_SAID); break;
+    case 5: tell(npy_place(c, b, RECORD, a, PLACE, values), NPY_RUN); break;
     case 6: tell(npy_count(NUMBERS(2), a, values), 1); break;
     case 7: tell(npy_item_number(NUMBERS(2), a, NUMBERS(3), values), 1); break;
     case 8: tell(npy_strides(NUMBERS(2), a, table_out, few, values), 1); break;
@@ -140,7 +140,7 @@ static void replay(uint8_t operation)
     }
     if (operation < 3) {
         show(table_out, MOST_TABLE);
-        show_bytes(MOST_NAMES);
+        show_bytes(NPY_MOST_NAMES);
         show(shape_out, MOST_SHAPE);
     } else if (operation > 5) {
         show(table_out, MOST_FEW);
