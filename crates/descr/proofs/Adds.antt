@@ -23,7 +23,7 @@ use Rattle.record.specs.Parts.{stringOr}
 use Rattle.record.specs.Dimensions.{subShape}
 use Rattle.record.specs.Descr.{Field, arrays, descrOf, fieldsOf, fieldOf, twoOrThree, namedOf}
 use Rattle.record.proofs.Levels.{arrays-entries, arrays-name-bytes}
-use Rattle.shape_verdict.specs.Outline.{hasZero, behindZero, outlineOf, isOver, largestIn}
+use Rattle.shape_verdict.specs.Outline.{hasZero, afterZero, outlineOf, isOver, largestIn}
 use Rattle.shape_verdict.proofs.Levels.{largest-is, arrays-outline, arrays-over, arrays-wide, arrays-object}
 use Rattle.descr_totals.specs.declared.Totals.{Totals}
 use Rattle.descr_totals.specs.Totals.{atMost, largest, heldNumber, nothing, oneEntry, nameTotals, totalsOf, totalsIn, fieldTotals, together, arrayed}
@@ -156,26 +156,26 @@ cap-times b s = go (over s) refl
         let e : atMost largest s ≡ s = omega arith in
         rw e
 
-over-levels : (ns : List ℕ) (s : ℕ) (own : Bool) → (over s ≡ true → own ≡ true) → (over (behindZero ns * s) || own) ≡ (isOver (largestIn (outlineOf ns) (atMost largest s)) || own)
-over-levels ns s true h = or-true (over (behindZero ns * s)) ∙ sym (or-true (isOver (largestIn (outlineOf ns) (atMost largest s))))
+over-levels : (ns : List ℕ) (s : ℕ) (own : Bool) → (over s ≡ true → own ≡ true) → (over (afterZero ns * s) || own) ≡ (isOver (largestIn (outlineOf ns) (atMost largest s)) || own)
+over-levels ns s true h = or-true (over (afterZero ns * s)) ∙ sym (or-true (isOver (largestIn (outlineOf ns) (atMost largest s))))
 over-levels ns s false h = ap (λ (t : Bool). t || false) (go (over s) refl)
   where
-    go : (t : Bool) → over s ≡ t → over (behindZero ns * s) ≡ isOver (largestIn (outlineOf ns) (atMost largest s))
+    go : (t : Bool) → over s ≡ t → over (afterZero ns * s) ≡ isOver (largestIn (outlineOf ns) (atMost largest s))
     go true k = false-true (h k)
     go false k =
         let lt = over-not s k in
         let e : atMost largest s ≡ s = omega arith in
-        sym (ap (λ (x : ℕ). isOver (largestIn (outlineOf ns) x)) e ∙ (ap (λ (x : Number). isOver x) (largest-is ns s) ∙ over-number (behindZero ns * s)))
+        sym (ap (λ (x : ℕ). isOver (largestIn (outlineOf ns) x)) e ∙ (ap (λ (x : Number). isOver x) (largest-is ns s) ∙ over-number (afterZero ns * s)))
 
 cap-right : (m a b : ℕ) → atMost m (a + b) ≡ atMost m (a + atMost m b)
 cap-right m a b = omega arith
 
-held-levels : (ns : List ℕ) (s : ℕ) → atMost largest (cond (hasZero ns) 0 (behindZero ns * s)) ≡ cond (hasZero ns) 0 (heldNumber (largestIn (outlineOf ns) (atMost largest s)))
+held-levels : (ns : List ℕ) (s : ℕ) → atMost largest (cond (hasZero ns) 0 (afterZero ns * s)) ≡ cond (hasZero ns) 0 (heldNumber (largestIn (outlineOf ns) (atMost largest s)))
 held-levels ns s = go (hasZero ns)
   where
-    go : (t : Bool) → atMost largest (cond t 0 (behindZero ns * s)) ≡ cond t 0 (heldNumber (largestIn (outlineOf ns) (atMost largest s)))
+    go : (t : Bool) → atMost largest (cond t 0 (afterZero ns * s)) ≡ cond t 0 (heldNumber (largestIn (outlineOf ns) (atMost largest s)))
     go true = refl
-    go false = sym (ap (λ (x : Number). heldNumber x) (largest-is ns (atMost largest s)) ∙ (held-number (behindZero ns * atMost largest s) ∙ cap-times (behindZero ns) s))
+    go false = sym (ap (λ (x : Number). heldNumber x) (largest-is ns (atMost largest s)) ∙ (held-number (afterZero ns * atMost largest s) ∙ cap-times (afterZero ns) s))
 
 arrays-totals : (ns : List ℕ) (d : Dtype) → levels d ≡ 0 → totalsOf (arrays ns d) ≡ arrayed (outlineOf ns) (totalsOf d)
 unfolding arrayed outlineOf
@@ -195,10 +195,10 @@ abbrev pub descrBy : Value → Outcome Totals
 descrBy v = each totalsOf (descrOf v)
 
 -- what is after a field's inner descr, by the verdicts on its name and on that descr: nothing more, or its sub-shape
-abbrev pub behindBy : Outcome Totals → Outcome Totals → Values → Outcome Totals
-behindBy x y end-of-values = both x y
-behindBy x y (value-then v end-of-values) = both x (then y (λ t. each (λ o. arrayed o t) (each outlineOf (subShape v))))
-behindBy x y (value-then v (value-then w vs)) = refused 14
+abbrev pub afterInnerBy : Outcome Totals → Outcome Totals → Values → Outcome Totals
+afterInnerBy x y end-of-values = both x y
+afterInnerBy x y (value-then v end-of-values) = both x (then y (λ t. each (λ o. arrayed o t) (each outlineOf (subShape v))))
+afterInnerBy x y (value-then v (value-then w vs)) = refused 14
 
 two-by : (x : Outcome (List ℕ)) (o : Outcome Dtype)
     → both (each (λ w. nameTotals (length w)) x) (each totalsOf o) ≡ each fieldTotals (then x (λ w. each (λ d. record { name = w; type = d }) (then o (λ d. gives d))))

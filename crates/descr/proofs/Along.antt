@@ -28,12 +28,12 @@ use Rattle.shape_verdict.specs.Outline.{outlineOf}
 use Rattle.shape_verdict.specs.declared.Outline.{Outline}
 use Rattle.descr_totals.specs.Totals.{nothing}
 use Rattle.descr_totals.specs.Verdict.{verdict, both}
-use Rattle.descr_field.specs.Behind.{itemsFrom}
+use Rattle.descr_field.specs.After.{itemsFrom}
 use Rattle.descr_field.specs.Parts.{levelsOver}
 use Rattle.descr.specs.Judges.{JudgesDescr, JudgesFrom}
 use Rattle.descr_totals.proofs.Sums.{both-assoc, both-nothing}
-use Rattle.descr.proofs.Adds.{fieldsBy, fieldBy, nameBy, descrBy, behindBy, itemsBy, fields-step, fields-start, two-items, three-items}
-use Rattle.descr_field.proofs.Reach.{inside, from-end, from-stop, from-more, row-over, row-behind, row-stops}
+use Rattle.descr.proofs.Adds.{fieldsBy, fieldBy, nameBy, descrBy, afterInnerBy, itemsBy, fields-step, fields-start, two-items, three-items}
+use Rattle.descr_field.proofs.Reach.{inside, from-end, from-stop, from-more, row-over, row-after, row-stops}
 
 abbrev pub valuesOf : List Node → Values
 valuesOf ns = forgetAll (nodes ns)
@@ -76,7 +76,7 @@ module _ (k : ℕ) (s : List ℕ) (from : ℕ) where
           reach = t .reach ∙ from-more k s 93 (lit< tt) g g′ p q (j .ended) hg hq (hj .ends) hg′;
           goes = λ ns e h.
               let o = t .goes ns e h in
-              let x = row-behind k s 93 (o .0) g p q e (j .ended) hg hq (hj .ends) (o .1) in
+              let x = row-after k s 93 (o .0) g p q e (j .ended) hg hq (hj .ends) (o .1) in
               let y = hj .of-value (x .0) q (x .3) in
               let one : fieldsBy (valuesOf (o .0)) ≡ both (verdict (j .verdict)) (fieldsBy (valuesOf (x .1))) =
               ap (λ (z : List Node). fieldsBy (valuesOf z)) (x .2) ∙ (ap fieldsBy (values-more (x .0) (x .1)) ∙ (fields-step (forget (x .0)) (valuesOf (x .1)) ∙ ap (λ (z : Outcome Totals). both z (fieldsBy (valuesOf (x .1)))) (sym y))) in (
@@ -128,8 +128,8 @@ items-three a b c x y w z hx hy hz hw =
     ap (λ (u : Outcome Totals). both u w) hx ∙ (ap (λ (u : Outcome Totals). both (nameBy (forget a)) u) e ∙ three-items (forget a) (forget b) (forget c))
 
 -- what is after a field's name and inner descr
-pub items-behind : (a b : Node) (ns : List Node) (x y : Outcome Totals) → x ≡ nameBy (forget a) → y ≡ descrBy (forget b) → behindBy x y (valuesOf ns) ≡ itemsBy (valuesOf (a ∷ b ∷ ns))
+pub items-after : (a b : Node) (ns : List Node) (x y : Outcome Totals) → x ≡ nameBy (forget a) → y ≡ descrBy (forget b) → afterInnerBy x y (valuesOf ns) ≡ itemsBy (valuesOf (a ∷ b ∷ ns))
 unfolding forgetAll
-items-behind a b [] x y hx hy = items-two a b x y hx hy
-items-behind a b (c ∷ []) x y hx hy = items-three a b c x y (levelsOver y (each outlineOf (subShape (forget c)))) (each outlineOf (subShape (forget c))) hx hy refl refl
-items-behind a b (c ∷ d ∷ ns) x y hx hy = items-many a b c d ns
+items-after a b [] x y hx hy = items-two a b x y hx hy
+items-after a b (c ∷ []) x y hx hy = items-three a b c x y (levelsOver y (each outlineOf (subShape (forget c)))) (each outlineOf (subShape (forget c))) hx hy refl refl
+items-after a b (c ∷ d ∷ ns) x y hx hy = items-many a b c d ns

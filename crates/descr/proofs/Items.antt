@@ -22,32 +22,32 @@ use Rattle.record.specs.Dimensions.{subShape}
 use Rattle.shape_verdict.specs.Outline.{outlineOf}
 use Rattle.descr_totals.specs.declared.Totals.{Totals}
 use Rattle.descr_totals.specs.Verdict.{verdict, both}
-use Rattle.descr_field.specs.Behind.{itemsFrom, secondAt}
-use Rattle.descr_field.specs.Parts.{nameAt, levelsOver, lastBy, shapeBy, behindAt}
+use Rattle.descr_field.specs.After.{itemsFrom, secondAt}
+use Rattle.descr_field.specs.Parts.{nameAt, levelsOver, lastBy, shapeBy, afterInnerAt}
 use Rattle.descr_field.specs.declared.DescrJudged.{DescrJudged}
 use Rattle.descr.specs.Judges.{JudgesDescr}
-use Rattle.descr.proofs.Adds.{descrBy, behindBy, itemsBy}
-use Rattle.descr_field.proofs.Reach.{inside, from-end, from-stop, from-more, inside-end, inside-stop, inside-more, row-over, row-next, row-behind, row-stops, second-over, second-item}
-use Rattle.descr.proofs.Along.{JudgesInside, valuesOf, items-none, items-one, items-behind}
+use Rattle.descr.proofs.Adds.{descrBy, afterInnerBy, itemsBy}
+use Rattle.descr_field.proofs.Reach.{inside, from-end, from-stop, from-more, inside-end, inside-stop, inside-more, row-over, row-next, row-after, row-stops, second-over, second-item}
+use Rattle.descr.proofs.Along.{JudgesInside, valuesOf, items-none, items-one, items-after}
 use Rattle.descr.proofs.Nodes.{name-says}
 
 -- ---- after the inner descr: x is the verdict on the name, y that on the descr
 module _ (k : ℕ) (s : List ℕ) (close : ℕ) (x y : Outcome Totals) where
   last-row : (n : Node) (us : List Node) (g : Gap) (e : ℕ) → Row (value k s) s close us g e
-      → lastBy (both x (levelsOver y (each outlineOf (subShape (forget n))))) g ≡ behindBy x y (valuesOf (n ∷ us))
+      → lastBy (both x (levelsOver y (each outlineOf (subShape (forget n))))) g ≡ afterInnerBy x y (valuesOf (n ∷ us))
   unfolding forgetAll
-  last-row n us (Shut p) e h = sym (ap (λ (l : List Node). behindBy x y (valuesOf (n ∷ l))) (row-shut (value k s) s close us p e h .0))
+  last-row n us (Shut p) e h = sym (ap (λ (l : List Node). afterInnerBy x y (valuesOf (n ∷ l))) (row-shut (value k s) s close us p e h .0))
   last-row n us (Stray p) e h = absurd (row-stray (value k s) s close us p e h)
-  last-row n us (Item p) e h = sym (ap (λ (l : List Node). behindBy x y (valuesOf (n ∷ l))) (row-next k s close us (Item p) p e refl h .3))
+  last-row n us (Item p) e h = sym (ap (λ (l : List Node). afterInnerBy x y (valuesOf (n ∷ l))) (row-next k s close us (Item p) p e refl h .3))
 
   -- whichever row is there
-  behind-row : (ns : List Node) (g : Gap) (e : ℕ) → Row (value k s) s close ns g e → behindAt k s close x y g ≡ behindBy x y (valuesOf ns)
+  after-row : (ns : List Node) (g : Gap) (e : ℕ) → Row (value k s) s close ns g e → afterInnerAt k s close x y g ≡ afterInnerBy x y (valuesOf ns)
   unfolding forgetAll
-  behind-row ns (Shut p) e h = sym (ap (λ (l : List Node). behindBy x y (valuesOf l)) (row-shut (value k s) s close ns p e h .0))
-  behind-row ns (Stray p) e h = absurd (row-stray (value k s) s close ns p e h)
-  behind-row ns (Item p) e h =
+  after-row ns (Shut p) e h = sym (ap (λ (l : List Node). afterInnerBy x y (valuesOf l)) (row-shut (value k s) s close ns p e h .0))
+  after-row ns (Stray p) e h = absurd (row-stray (value k s) s close ns p e h)
+  after-row ns (Item p) e h =
       let w = row-next k s close ns (Item p) p e refl h in
-      ap (shapeBy x y (λ q. thenAt s q close)) (w .4) ∙ (last-row (w .0) (w .1) (thenAt s (w .2) close) e (w .5) ∙ sym (ap (λ (l : List Node). behindBy x y (valuesOf l)) (w .3)))
+      ap (shapeBy x y (λ q. thenAt s q close)) (w .4) ∙ (last-row (w .0) (w .1) (thenAt s (w .2) close) e (w .5) ∙ sym (ap (λ (l : List Node). afterInnerBy x y (valuesOf l)) (w .3)))
 
 -- ---- all the items
 module _ (k : ℕ) (s : List ℕ) (from close : ℕ) (g1 : Gap) (h1 : g1 ≡ gapAt s from close) where
@@ -77,7 +77,7 @@ module _ (k : ℕ) (s : List ℕ) (from close : ℕ) (g1 : Gap) (h1 : g1 ≡ gap
       -- the name, and the row after it
       first : (ns : List Node) (e : ℕ) → Row (value k s) s close ns (gapAt s from close) e
           → (n : Node) × (us : List Node) × (ns ≡ n ∷ us) × (value k s p1 ≡ got n q1) × Row (value k s) s close us (thenAt s q1 close) e
-      first ns e h = row-behind k s close ns g1 p1 q1 e (name .ended) i1 e1 (hn .0) (row-first ns e h)
+      first ns e h = row-after k s close ns g1 p1 q1 e (name .ended) i1 e1 (hn .0) (row-first ns e h)
 
       pub items-alone : (r : DescrJudged) → OneOf (0 ∷ 2 ∷ []) (tagOf the-type g2) → r .ended ≡ endedAt g2 → verdict (r .verdict) ≡ refused 14 → JudgesInside k s from close r
       items-alone r o he hv =
@@ -102,14 +102,14 @@ module _ (k : ℕ) (s : List ℕ) (from close : ℕ) (g1 : Gap) (h1 : g1 ≡ gap
             }
 
         pub items-whole : (q2 : ℕ) → inner .ended ≡ Value q2 → (g3 : Gap) → g3 ≡ thenAt s q2 close → (r : DescrJudged)
-            → (r .ended ≡ pos (itemsFrom k s close g3)) × (verdict (r .verdict) ≡ behindAt k s close (verdict (name .verdict)) (verdict (inner .verdict)) g3)
+            → (r .ended ≡ pos (itemsFrom k s close g3)) × (verdict (r .verdict) ≡ afterInnerAt k s close (verdict (name .verdict)) (verdict (inner .verdict)) g3)
             → JudgesInside k s from close r
         items-whole q2 e2 g3 h3 r b =
             record {
               ends = b .0 ∙ sym (second-ends ∙ from-more k s close small g2 g3 p2 q2 (inner .ended) i2 e2 (hj .ends) h3);
               of-row = λ ns e h.
                   let w = first ns e h in
-                  let v = row-behind k s close (w .1) g2 p2 q2 e (inner .ended) i2 e2 (hj .ends) (second (w .1) e (w .4)) in
-                  let o = b .1 ∙ behind-row k s close (verdict (name .verdict)) (verdict (inner .verdict)) (v .1) g3 e (subst (λ (x : Gap). Row (value k s) s close (v .1) x e) (sym h3) (v .4)) in
-                  o ∙ (items-behind (w .0) (v .0) (v .1) (verdict (name .verdict)) (verdict (inner .verdict)) (hn .1 ∙ name-says s p1 k (w .0) q1 (w .3)) (hj .of-value (v .0) q2 (v .3)) ∙ sym (ap (λ (l : List Node). itemsBy (valuesOf l)) (w .2 ∙ ap (λ (l : List Node). w .0 ∷ l) (v .2))));
+                  let v = row-after k s close (w .1) g2 p2 q2 e (inner .ended) i2 e2 (hj .ends) (second (w .1) e (w .4)) in
+                  let o = b .1 ∙ after-row k s close (verdict (name .verdict)) (verdict (inner .verdict)) (v .1) g3 e (subst (λ (x : Gap). Row (value k s) s close (v .1) x e) (sym h3) (v .4)) in
+                  o ∙ (items-after (w .0) (v .0) (v .1) (verdict (name .verdict)) (verdict (inner .verdict)) (hn .1 ∙ name-says s p1 k (w .0) q1 (w .3)) (hj .of-value (v .0) q2 (v .3)) ∙ sym (ap (λ (l : List Node). itemsBy (valuesOf l)) (w .2 ∙ ap (λ (l : List Node). w .0 ∷ l) (v .2))));
             }

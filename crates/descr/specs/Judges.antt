@@ -20,7 +20,7 @@ use Rattle.descr_totals.specs.declared.Totals.{Totals}
 use Rattle.shape_text.specs.Answer.{valueOr}
 use Rattle.descr_totals.specs.Totals.{totalsOf}
 use Rattle.descr_totals.specs.Verdict.{verdict}
-use Rattle.descr_field.specs.Behind.{itemsFrom}
+use Rattle.descr_field.specs.After.{itemsFrom}
 use Rattle.descr_field.specs.declared.DescrJudged.{DescrJudged}
 
 -- of what was read, as a descr. Where there is no value the verdict is as for one of another form

@@ -3,4 +3,4 @@ pub mod Escapes
 pub mod Outcomes
 pub mod Reach
 pub mod Names
-pub mod Behind
+pub mod After

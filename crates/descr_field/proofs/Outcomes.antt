@@ -18,7 +18,7 @@ use Rattle.descr_field.specs.declared.Typed.{Typed}
 use Rattle.descr_field.specs.Begins.{isString, gapPlace}
 use Rattle.literal_bytes.specs.Got.{pos}
 use Rattle.literal_bytes.specs.declared.Gap.the-variants.{Item}
-use Rattle.descr_field.specs.Behind.{itemsFrom, secondAt}
+use Rattle.descr_field.specs.After.{itemsFrom, secondAt}
 use Rattle.descr_totals.specs.declared.Totals.{Totals}
 use Rattle.descr_totals.specs.declared.DescrVerdict.{DescrVerdict}
 use Rattle.descr_totals.specs.Verdict.{verdict}

@@ -31,7 +31,7 @@ use Rattle.literal.proofs.Rows as literal
 use Rattle.literal.proofs.Rows.{row-step, row-shut, row-stray, row-reads}
 use Rattle.literal.proofs.Steps.{thing, gapLeft, gap-enough, gap-falls, tuple-end, tuple-stop, tuple-comma, tuple-more, ended-by, stop-by}
 use Rattle.literal_bytes.proofs.Ends.{Stops}
-use Rattle.descr_field.specs.Behind.{itemsFrom, commaThen, secondAt}
+use Rattle.descr_field.specs.After.{itemsFrom, commaThen, secondAt}
 
 module _ (k : ℕ) (s : List ℕ) (close : ℕ) where
   -- there is no item at the gap
@@ -159,9 +159,9 @@ module _ (k : ℕ) (s : List ℕ) (close : ℕ) where
   row-next ns g p e hg h = row-step (value k s) s close ns p e (subst (λ (x : Gap). Row (value k s) s close ns x e) hg h)
 
   -- the same, where the code's answer for the item is known
-  pub row-behind : (ns : List Node) (g : Gap) (p q e : ℕ) (r : Parsed) → g ≡ Item p → r ≡ Value q → r ≡ pos (value k s p) → Row (value k s) s close ns g e
+  pub row-after : (ns : List Node) (g : Gap) (p q e : ℕ) (r : Parsed) → g ≡ Item p → r ≡ Value q → r ≡ pos (value k s p) → Row (value k s) s close ns g e
       → (n : Node) × (us : List Node) × (ns ≡ n ∷ us) × (value k s p ≡ got n q) × Row (value k s) s close us (thenAt s q close) e
-  row-behind ns g p q e r hg hq hr h = literal.row-next (value k s) s close ns p q e r (subst (λ (x : Gap). Row (value k s) s close ns x e) hg h) hr hq
+  row-after ns g p q e r hg hq hr h = literal.row-next (value k s) s close ns p q e r (subst (λ (x : Gap). Row (value k s) s close ns x e) hg h) hr hq
 
   -- no item of a row has a fault
   pub row-stops : {X : Type 0} (ns : List Node) (g : Gap) (p e : ℕ) (r : Parsed) → g ≡ Item p → r ≡ pos (value k s p) → Stops r → Row (value k s) s close ns g e → X

@@ -1,3 +1,3 @@
 pub mod Begins
-pub mod Behind
+pub mod After
 pub mod Parts

@@ -43,7 +43,7 @@ shapeBy x y f (fault p) = refused 14
 shapeBy x y f (deep p) = refused 14
 
 -- from the gap after the inner descr on: nothing more, or its sub-shape
-abbrev pub behindAt : ℕ → List ℕ → ℕ → Outcome Totals → Outcome Totals → Gap → Outcome Totals
-behindAt k s close x y (Shut e) = both x y
-behindAt k s close x y (Item p) = shapeBy x y (λ q. thenAt s q close) (value k s p)
-behindAt k s close x y (Stray p) = both x y
+abbrev pub afterInnerAt : ℕ → List ℕ → ℕ → Outcome Totals → Outcome Totals → Gap → Outcome Totals
+afterInnerAt k s close x y (Shut e) = both x y
+afterInnerAt k s close x y (Item p) = shapeBy x y (λ q. thenAt s q close) (value k s p)
+afterInnerAt k s close x y (Stray p) = both x y

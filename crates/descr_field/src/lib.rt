@@ -28,10 +28,10 @@ ghost use Rattle.literal_escapes.specs.Strings.{spelled};
 ghost use Rattle.shape_text.specs.Members.{closingOf};
 ghost use Rattle.descr_field.specs.Begins.{isString, gapPlace};
 ghost use Rattle.literal_bytes.specs.Got.{pos};
-ghost use Rattle.descr_field.specs.Behind.{itemsFrom, secondAt};
+ghost use Rattle.descr_field.specs.After.{itemsFrom, secondAt};
 ghost use Rattle.literal.specs.Literal.{value as valueOf};
 ghost use Rattle.descr_totals.specs.Verdict.{verdict};
-ghost use Rattle.descr_field.specs.Parts.{nameAt, behindAt};
+ghost use Rattle.descr_field.specs.Parts.{nameAt, afterInnerAt};
 
 // Whether a string begins at `at`.
 pub fn string_at(text: &[u8], at: usize) -> bool
@@ -176,7 +176,7 @@ pub fn sub_shape(
     of: DescrVerdict,
 ) -> DescrJudged
     ensures { λ r. ⌜ r .ended ≡ pos (itemsFrom room (now (text .entry)) close g) ⌝ }
-    ensures { λ r. ⌜ verdict (r .verdict) ≡ behindAt room (now (text .entry)) close (verdict name) (verdict of) g ⌝ }
+    ensures { λ r. ⌜ verdict (r .verdict) ≡ afterInnerAt room (now (text .entry)) close (verdict name) (verdict of) g ⌝ }
 {
     let Gap::Item(p) = g else {
         return DescrJudged {

@@ -4,10 +4,13 @@ use libc::STDIN_FILENO;
 use libc::STDOUT_FILENO;
 use refusal::BytesAnswer;
 
+// Room for the text.
+const ROOM: usize = 131072;
+
 fn main() {
     let mut file = [0u8; list_file::HELD + 1];
     let n = io::read_full(STDIN_FILENO, &mut file);
-    let mut out = [0u8; 131072];
+    let mut out = [0u8; ROOM];
     match list_file::report(&file[..n], &mut out) {
         BytesAnswer::Is(written) => {
             show(&out, written);

@@ -33,11 +33,11 @@ use Rattle.shape_text.specs.Members.{closingOf}
 use Rattle.shape_text.specs.Walk.{dimensionsOf, goesOn}
 
 -- ---- members, one after the other
-none-outline : outlineOf [] ≡ record { rank = 0; empty = false; before = Is 1; behind = Is 1 }
+none-outline : outlineOf [] ≡ record { rank = 0; empty = false; before = Is 1; after = Is 1 }
 unfolding outlineOf
 none-outline = rw (number-is 1 (omega arith))
 
-pub nothing-is : Good (record { rank = 0; empty = false; before = Is 1; behind = Is 1 }) ≡ Good (outlineOf [])
+pub nothing-is : Good (record { rank = 0; empty = false; before = Is 1; after = Is 1 }) ≡ Good (outlineOf [])
 nothing-is = ap Good (sym none-outline)
 
 -- no members are met yet

@@ -151,8 +151,8 @@ module _ (k : ℕ) (s : List ℕ) (close from : ℕ) (old out : List ℕ) (g : G
           (counted-at i p g (w .counted) hp, a .0, a .1)
 
       module _ (small : close < 256) (out′ : List ℕ) (g′ : Gap) (n : ℕ) (hn : d ≡ Member.Is n) (ho : out′ ≡ set out i n) (hg : g′ ≡ thenAt s q close) where
-        behind : GapAhead q (length s) g′
-        behind = subst (λ (x : Gap). GapAhead q (length s) x) (sym hg) (then-ahead s q close small)
+        after : GapAhead q (length s) g′
+        after = subst (λ (x : Gap). GapAhead q (length s) x) (sym hg) (then-ahead s q close small)
 
         more-by : (b : ℕ) → gapLeft (length s) g < b → length (frontIn k s from close) ≡ i + length (frontFrom (value k s) s close b g) → sets out i (frontFrom (value k s) s close b g) ≡ sets old 0 (frontIn k s from close)
             → stopFrom (value k s) s close b g ≡ stopIn k s from close → Filling k s close from old out′ g′ (i + 1)
@@ -163,14 +163,14 @@ module _ (k : ℕ) (s : List ℕ) (close from : ℕ) (old out : List ℕ) (g : G
             ap (frontFrom (value k s) s close (suc b)) hp ∙ front-more k s close b p q n (there .0) (there .1) (sym size ∙ ap sized hn) ∙ ap (λ (x : Gap). n ∷ frontFrom (value k s) s close b x) (sym hg) in
             let z : stopFrom (value k s) s close (suc b) g ≡ stopFrom (value k s) s close b g′ =
             ap (stopFrom (value k s) s close (suc b)) hp ∙ stop-more k s close b p q n (there .0) (there .1) (sym size ∙ ap sized hn) ∙ ap (stopFrom (value k s) s close b) (sym hg) in
-            let falls = gap-falls p q (length s) g′ (a .1) (a .2) behind in
+            let falls = gap-falls p q (length s) g′ (a .1) (a .2) after in
             record {
               bound = b;
               enough = omega (arith, ap (gapLeft (length s)) hp);
               left = omega (arith, ap length e);
               puts = rw (add-one i, ho) (ap (sets out i) (sym e) ∙ hs);
               stops = sym z ∙ hz;
-              counted = counted-more i (i + 1) p q (length s) g′ (a .0) (omega arith) (a .1) behind;
+              counted = counted-more i (i + 1) p q (length s) g′ (a .0) (omega arith) (a .1) after;
               same = ap length ho ∙ length-set out i n ∙ w .same;
             }
 

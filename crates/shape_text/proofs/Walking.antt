@@ -116,15 +116,15 @@ module _ (k : ℕ) (s : List ℕ) (close from : ℕ) (met : ShapeVerdict) where
     unfolding items
     more-by zero n hn lt he hs le = absurd (not-suc-le-zero lt)
     more-by (suc m) n hn lt he hs le =
-        let behind = then-ahead s q close small in
-        let falls = gap-falls p q (length s) (thenAt s q close) (ahead .0) (ahead .1) behind in
+        let after = then-ahead s q close small in
+        let falls = gap-falls p q (length s) (thenAt s q close) (ahead .0) (ahead .1) after in
         let joins = hv ∙ joined-below v (sized d) (omega (arith, ahead)) in
         record {
           bound = m;
           enough = omega arith;
           ends = he ∙ rw (items, hn) (pos-with (λ e. _∷_ n) (items (value k s) s close m (thenAt s q close)));
           says = hs ∙ rw (items, hn) (goes-one (outlined v) n (items (value k s) s close m (thenAt s q close)) ∙ rw (joins, hd k n q hn));
-          counted = counted-more (rankOf v) (rankOf v′) p q (length s) (thenAt s q close) le (rank-more v v′ d joins) (ahead .0) behind;
+          counted = counted-more (rankOf v) (rankOf v′) p q (length s) (thenAt s q close) le (rank-more v v′ d joins) (ahead .0) after;
         }
 
     pub walking-more : Walking g v → Walking g′ v′

@@ -192,7 +192,7 @@ fn nothing() -> ShapeVerdict
         rank: 0,
         empty: false,
         before: Number::Is(1),
-        behind: Number::Is(1),
+        after: Number::Is(1),
     })
 }
 

@@ -19,7 +19,7 @@ use Rattle.dtype.specs.Entries.{someEntry, levels, hasObject}
 use Rattle.dtype.specs.Shape.{product}
 use Rattle.dtype.specs.Limits.{over, someOver, overLevels}
 use Rattle.record.specs.Descr.{arrays}
-use Rattle.shape_verdict.specs.Outline.{hasZero, behindZero, outlineOf, scaledBy, largestIn}
+use Rattle.shape_verdict.specs.Outline.{hasZero, afterZero, outlineOf, scaledBy, largestIn}
 use Rattle.shape_verdict.proofs.Outlines.{number-scaled}
 
 -- ---- products
@@ -31,11 +31,11 @@ zero-product (n ∷ ns) h = go (eqb n 0) refl h (zero-product ns)
     go true e h ih = ap (λ (x : ℕ). x * product ns) (eqb-true n 0 e) ∙ omega arith
     go false e h ih = ap (λ (x : ℕ). n * x) (ih h) ∙ omega arith
 
-pub behind-product : (ns : List ℕ) → hasZero ns ≡ false → behindZero ns ≡ product ns
-behind-product [] h = refl
-behind-product (n ∷ ns) h = ap (λ (t : Bool). cond t (behindZero ns) (n * behindZero ns)) h ∙ go (eqb n 0) h (behind-product ns)
+pub after-product : (ns : List ℕ) → hasZero ns ≡ false → afterZero ns ≡ product ns
+after-product [] h = refl
+after-product (n ∷ ns) h = ap (λ (t : Bool). cond t (afterZero ns) (n * afterZero ns)) h ∙ go (eqb n 0) h (after-product ns)
   where
-    go : (t : Bool) → (t || hasZero ns) ≡ false → (hasZero ns ≡ false → behindZero ns ≡ product ns) → n * behindZero ns ≡ n * product ns
+    go : (t : Bool) → (t || hasZero ns) ≡ false → (hasZero ns ≡ false → afterZero ns ≡ product ns) → n * afterZero ns ≡ n * product ns
     go true h ih = absurd (let z : _≡_ {A = ℕ} 0 1 = cc in omega arith)
     go false h ih = ap (λ (x : ℕ). n * x) (ih h)
 
@@ -52,21 +52,21 @@ times-more zero x h = absurd (h refl)
 times-more (suc n) x h = omega (arith, mul-suc x n)
 
 -- one dimension more in front, each size being so many times s
-pub over-front : (s n : ℕ) (ns : List ℕ) → (over (n * (product ns * s)) || over (behindZero ns * s)) ≡ over (behindZero (n ∷ ns) * s)
+pub over-front : (s n : ℕ) (ns : List ℕ) → (over (n * (product ns * s)) || over (afterZero ns * s)) ≡ over (afterZero (n ∷ ns) * s)
 over-front s n ns = go (hasZero (n ∷ ns)) refl
   where
     nonzero : (t : Bool) → eqb n 0 ≡ t → (t || hasZero ns) ≡ false → (n ≡ 0 → ⊥) × (hasZero ns ≡ false)
     nonzero true e h = absurd (let z : _≡_ {A = ℕ} 0 1 = cc in omega arith)
     nonzero false e h = (eqb-false n 0 e, h)
 
-    go : (t : Bool) → hasZero (n ∷ ns) ≡ t → (over (n * (product ns * s)) || over (behindZero ns * s)) ≡ over (cond t (behindZero ns) (n * behindZero ns) * s)
+    go : (t : Bool) → hasZero (n ∷ ns) ≡ t → (over (n * (product ns * s)) || over (afterZero ns * s)) ≡ over (cond t (afterZero ns) (n * afterZero ns) * s)
     go true h =
         let z : n * (product ns * s) ≡ 0 = omega (arith, ap (λ (x : ℕ). x * s) (zero-product (n ∷ ns) h)) in
         rw z
     go false h =
         let k = nonzero (eqb n 0) refl h in
         let e : n * product ns * s ≡ n * (product ns * s) = omega arith in
-        rw (behind-product ns (k .1), e) (over-larger (product ns * s) (n * (product ns * s)) (times-more n (product ns * s) (k .0)))
+        rw (after-product ns (k .1), e) (over-larger (product ns * s) (n * (product ns * s)) (times-more n (product ns * s) (k .0)))
 
 -- ---- the levels of a sub-shape
 pub arrays-size : (ns : List ℕ) (d : Dtype) → sizeOf (arrays ns d) ≡ product ns * sizeOf d
@@ -74,12 +74,12 @@ arrays-size [] d = omega arith
 arrays-size (n ∷ ns) d = ap (λ (x : ℕ). n * x) (arrays-size ns d) ∙ omega arith
 
 -- by the outline: a 0 anywhere makes the size 0
-pub arrays-outline : (ns : List ℕ) (d : Dtype) → sizeOf (arrays ns d) ≡ cond (hasZero ns) 0 (behindZero ns * sizeOf d)
+pub arrays-outline : (ns : List ℕ) (d : Dtype) → sizeOf (arrays ns d) ≡ cond (hasZero ns) 0 (afterZero ns * sizeOf d)
 arrays-outline ns d = arrays-size ns d ∙ go (hasZero ns) refl
   where
-    go : (t : Bool) → hasZero ns ≡ t → product ns * sizeOf d ≡ cond t 0 (behindZero ns * sizeOf d)
+    go : (t : Bool) → hasZero ns ≡ t → product ns * sizeOf d ≡ cond t 0 (afterZero ns * sizeOf d)
     go true h = ap (λ (x : ℕ). x * sizeOf d) (zero-product ns h) ∙ omega arith
-    go false h = ap (λ (x : ℕ). x * sizeOf d) (sym (behind-product ns h))
+    go false h = ap (λ (x : ℕ). x * sizeOf d) (sym (after-product ns h))
 
 absorbed : (a b : Bool) → (a || (a || b)) ≡ (a || b)
 absorbed true b = refl
@@ -96,24 +96,24 @@ own test (array n d) = absorbed (test (array n d)) (someEntry test d)
 own test (record-of fs) = absorbed (test (record-of fs)) _
 
 -- 21: "some entry's size over 2^64-1"
-pub arrays-over : (ns : List ℕ) (d : Dtype) → someOver (arrays ns d) ≡ (over (behindZero ns * sizeOf d) || someOver d)
+pub arrays-over : (ns : List ℕ) (d : Dtype) → someOver (arrays ns d) ≡ (over (afterZero ns * sizeOf d) || someOver d)
 arrays-over [] d =
     let e : 1 * sizeOf d ≡ sizeOf d = omega arith in
     rw e (sym (own (λ x. over (sizeOf x)) d))
 arrays-over (n ∷ ns) d =
     rw (arrays-over ns d, arrays-size ns d)
-    (sym (or-assoc (over (n * (product ns * sizeOf d))) (over (behindZero ns * sizeOf d)) (someOver d)) ∙ ap (λ (b : Bool). b || someOver d) (over-front (sizeOf d) n ns))
+    (sym (or-assoc (over (n * (product ns * sizeOf d))) (over (afterZero ns * sizeOf d)) (someOver d)) ∙ ap (λ (b : Bool). b || someOver d) (over-front (sizeOf d) n ns))
 
 -- both by the outline and the inner size alone
-pub largest-is : (ns : List ℕ) (s : ℕ) → largestIn (outlineOf ns) s ≡ number (behindZero ns * s)
+pub largest-is : (ns : List ℕ) (s : ℕ) → largestIn (outlineOf ns) s ≡ number (afterZero ns * s)
 unfolding largestIn outlineOf
 largest-is ns s = go (eqb s 0) refl
   where
-    go : (t : Bool) → eqb s 0 ≡ t → cond t (Is 0) (scaledBy (number (behindZero ns)) s) ≡ number (behindZero ns * s)
+    go : (t : Bool) → eqb s 0 ≡ t → cond t (Is 0) (scaledBy (number (afterZero ns)) s) ≡ number (afterZero ns * s)
     go true h =
-        let z : behindZero ns * s ≡ 0 = ap (λ (x : ℕ). behindZero ns * x) (eqb-true s 0 h) ∙ omega arith in
+        let z : afterZero ns * s ≡ 0 = ap (λ (x : ℕ). afterZero ns * x) (eqb-true s 0 h) ∙ omega arith in
         sym (ap number z ∙ number-is 0 (omega arith))
-    go false h = sym (number-scaled (behindZero ns) s h)
+    go false h = sym (number-scaled (afterZero ns) s h)
 
 -- 13: the outermost level has the most levels below it
 pub arrays-levels : (ns : List ℕ) (d : Dtype) → levels (arrays ns d) ≡ length ns + levels d

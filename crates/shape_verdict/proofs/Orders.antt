@@ -11,23 +11,23 @@ use Rattle.dtype.specs.declared.Order.the-variants.{C, Fortran}
 use Rattle.dtype.specs.Shape.{product, strides}
 use Rattle.dtype.specs.Limits.{over, anyOver, overShape}
 use Rattle.dtype.proofs.Strides.{strides-c, strides-reverse, product-reverse}
-use Rattle.shape_verdict.specs.Outline.{beforeZero, behindZero, outlineOf, overIn}
-use Rattle.shape_verdict.proofs.Outlines.{number-over-is, behind-last}
+use Rattle.shape_verdict.specs.Outline.{beforeZero, afterZero, outlineOf, overIn}
+use Rattle.shape_verdict.proofs.Outlines.{number-over-is, after-last}
 use Rattle.shape_verdict.proofs.Levels.{over-front}
 
 times-one : (x : ℕ) → x * 1 ≡ x
 times-one x = omega arith
 
 -- C order
-c-front : (n : ℕ) (ns : List ℕ) → (over (n * product ns) || over (behindZero ns)) ≡ over (behindZero (n ∷ ns))
+c-front : (n : ℕ) (ns : List ℕ) → (over (n * product ns) || over (afterZero ns)) ≡ over (afterZero (n ∷ ns))
 c-front n ns =
     let e = over-front 1 n ns in
-    ap (λ (x : ℕ). over (n * x) || over (behindZero ns)) (sym (times-one (product ns)))
-    ∙ ap (λ (x : ℕ). over (n * (product ns * 1)) || over x) (sym (times-one (behindZero ns)))
+    ap (λ (x : ℕ). over (n * x) || over (afterZero ns)) (sym (times-one (product ns)))
+    ∙ ap (λ (x : ℕ). over (n * (product ns * 1)) || over x) (sym (times-one (afterZero ns)))
     ∙ e
-    ∙ ap over (times-one (behindZero (n ∷ ns)))
+    ∙ ap over (times-one (afterZero (n ∷ ns)))
 
-pub c-over : (ns : List ℕ) → overShape C ns ≡ over (behindZero ns)
+pub c-over : (ns : List ℕ) → overShape C ns ≡ over (afterZero ns)
 unfolding overShape
 c-over [] = or-false (over 1)
 c-over (n ∷ ns) = ap (λ (l : List ℕ). over (n * product ns) || anyOver l) (strides-c n ns) ∙ ap (λ (b : Bool). over (n * product ns) || b) (c-over ns) ∙ c-front n ns
@@ -47,21 +47,21 @@ any-reverse : (l : List ℕ) → anyOver (reverse l) ≡ anyOver l
 any-reverse [] = refl
 any-reverse (x ∷ l) = rw (reverse-cons x l) (any-last (reverse l) x ∙ ap (λ (b : Bool). over x || b) (any-reverse l))
 
-behind-reverse : (ns : List ℕ) → behindZero (reverse ns) ≡ beforeZero ns
-behind-reverse [] = refl
-behind-reverse (n ∷ ns) =
+after-reverse : (ns : List ℕ) → afterZero (reverse ns) ≡ beforeZero ns
+after-reverse [] = refl
+after-reverse (n ∷ ns) =
     let e : beforeZero ns * n ≡ n * beforeZero ns = omega arith in
-    rw (reverse-cons n ns) (behind-last (reverse ns) n ∙ ap (λ (x : ℕ). cond (eqb n 0) 1 (x * n)) (behind-reverse ns) ∙ ap (cond (eqb n 0) 1) e)
+    rw (reverse-cons n ns) (after-last (reverse ns) n ∙ ap (λ (x : ℕ). cond (eqb n 0) 1 (x * n)) (after-reverse ns) ∙ ap (cond (eqb n 0) 1) e)
 
 mirrored : (ns : List ℕ) → overShape Fortran ns ≡ overShape C (reverse ns)
 unfolding overShape
 mirrored ns = rw (product-reverse ns, strides-reverse Fortran ns) (ap (λ (b : Bool). over (product ns) || b) (sym (any-reverse (strides Fortran ns))))
 
 pub fortran-over : (ns : List ℕ) → overShape Fortran ns ≡ over (beforeZero ns)
-fortran-over ns = mirrored ns ∙ c-over (reverse ns) ∙ ap over (behind-reverse ns)
+fortran-over ns = mirrored ns ∙ c-over (reverse ns) ∙ ap over (after-reverse ns)
 
 -- both, by the outline
 pub outline-over : (o : Order) (ns : List ℕ) → overIn o (outlineOf ns) ≡ overShape o ns
 unfolding outlineOf
-outline-over C ns = number-over-is (behindZero ns) ∙ sym (c-over ns)
+outline-over C ns = number-over-is (afterZero ns) ∙ sym (c-over ns)
 outline-over Fortran ns = number-over-is (beforeZero ns) ∙ sym (fortran-over ns)

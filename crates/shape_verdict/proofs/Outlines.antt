@@ -22,7 +22,7 @@ use Rattle.shape_verdict.specs.declared.ShapeVerdict.{ShapeVerdict}
 use Rattle.shape_verdict.specs.declared.ShapeVerdict.the-variants.{Good, Refused}
 use Rattle.shape_verdict.specs.declared.Member.{Member}
 use Rattle.shape_verdict.specs.Answer.{sized, outlined, rankOf}
-use Rattle.shape_verdict.specs.Outline.{hasZero, beforeZero, behindZero, outlineOf, scaledBy, extendedTo, extendedBy, extends, extendedCapped, isOver}
+use Rattle.shape_verdict.specs.Outline.{hasZero, beforeZero, afterZero, outlineOf, scaledBy, extendedTo, extendedBy, extends, extendedCapped, isOver}
 
 -- a product of numbers that fit or are over, where the new factor is not 0
 pub number-scaled : (a n : ℕ) → eqb n 0 ≡ false → number (a * n) ≡ scaledBy (number a) n
@@ -58,16 +58,16 @@ before-last (m ∷ us) n = rw (or-assoc (eqb m 0) (hasZero us) (eqb n 0)) (go (e
     go false true ih = ap (λ (x : ℕ). m * x) ih
     go false false ih = ap (λ (x : ℕ). m * x) ih ∙ omega arith
 
-pub behind-last : (us : List ℕ) (n : ℕ) → behindZero (us ++ n ∷ []) ≡ cond (eqb n 0) 1 (behindZero us * n)
-behind-last [] n = go (eqb n 0)
+pub after-last : (us : List ℕ) (n : ℕ) → afterZero (us ++ n ∷ []) ≡ cond (eqb n 0) 1 (afterZero us * n)
+after-last [] n = go (eqb n 0)
   where
     go : (z : Bool) → cond (z || false) 1 (n * 1) ≡ cond z 1 (1 * n)
     go true = refl
     go false = omega arith
-behind-last (m ∷ us) n = rw (zero-last us n, behind-last us n) (go (eqb m 0) (hasZero us) (eqb n 0))
+after-last (m ∷ us) n = rw (zero-last us n, after-last us n) (go (eqb m 0) (hasZero us) (eqb n 0))
   where
     go : (z b y : Bool)
-        → cond (z || (b || y)) (cond y 1 (behindZero us * n)) (m * cond y 1 (behindZero us * n)) ≡ cond y 1 (cond (z || b) (behindZero us) (m * behindZero us) * n)
+        → cond (z || (b || y)) (cond y 1 (afterZero us * n)) (m * cond y 1 (afterZero us * n)) ≡ cond y 1 (cond (z || b) (afterZero us) (m * afterZero us) * n)
     go true b true = refl
     go true b false = refl
     go false true true = refl
@@ -76,35 +76,35 @@ behind-last (m ∷ us) n = rw (zero-last us n, behind-last us n) (go (eqb m 0) (
     go false false false = omega arith
 
 outline-eq : {r r′ : ℕ} {e e′ : Bool} {a a′ b b′ : _} → r ≡ r′ → e ≡ e′ → a ≡ a′ → b ≡ b′
-    → _≡_ {A = Outline} (record { rank = r; empty = e; before = a; behind = b }) (record { rank = r′; empty = e′; before = a′; behind = b′ })
+    → _≡_ {A = Outline} (record { rank = r; empty = e; before = a; after = b }) (record { rank = r′; empty = e′; before = a′; after = b′ })
 outline-eq hr he ha hb = cc
 
 -- one dimension more
 pub outline-last : (us : List ℕ) (n : ℕ) → outlineOf (us ++ n ∷ []) ≡ extendedBy (outlineOf us) n
 unfolding outlineOf extendedTo
-outline-last us n = outline-eq (length-append us (n ∷ [])) (zero-last us n) (ap number (before-last us n) ∙ before (hasZero us) (eqb n 0) refl) (ap number (behind-last us n) ∙ behind (eqb n 0) refl)
+outline-last us n = outline-eq (length-append us (n ∷ [])) (zero-last us n) (ap number (before-last us n) ∙ before (hasZero us) (eqb n 0) refl) (ap number (after-last us n) ∙ after (eqb n 0) refl)
   where
     before : (b z : Bool) → eqb n 0 ≡ z → number (cond (b || z) (beforeZero us) (beforeZero us * n)) ≡ cond (b || z) (number (beforeZero us)) (scaledBy (number (beforeZero us)) n)
     before true z h = refl
     before false true h = refl
     before false false h = number-scaled (beforeZero us) n h
 
-    behind : (z : Bool) → eqb n 0 ≡ z → number (cond z 1 (behindZero us * n)) ≡ cond z (Is 1) (scaledBy (number (behindZero us)) n)
-    behind true h = number-is 1 (omega arith)
-    behind false h = number-scaled (behindZero us) n h
+    after : (z : Bool) → eqb n 0 ≡ z → number (cond z 1 (afterZero us * n)) ≡ cond z (Is 1) (scaledBy (number (afterZero us)) n)
+    after true h = number-is 1 (omega arith)
+    after false h = number-scaled (afterZero us) n h
 
 -- by whether the new dimension is 0, and whether one before it is
 module _ (k : ℕ) (o : Outline) (n : ℕ) where
-  pub extended-zero : n ≡ 0 → record { rank = k; empty = true; before = o .before; behind = Is 1 } ≡ extendedTo k o n
+  pub extended-zero : n ≡ 0 → record { rank = k; empty = true; before = o .before; after = Is 1 } ≡ extendedTo k o n
   unfolding extendedTo
   extended-zero h = rw (eq-eqb n 0 h, or-true (o .empty))
 
-  pub extended-empty : (b : Number) → (n ≡ 0 → ⊥) → o .empty ≡ true → b ≡ scaledBy (o .behind) n → record { rank = k; empty = true; before = o .before; behind = b } ≡ extendedTo k o n
+  pub extended-empty : (b : Number) → (n ≡ 0 → ⊥) → o .empty ≡ true → b ≡ scaledBy (o .after) n → record { rank = k; empty = true; before = o .before; after = b } ≡ extendedTo k o n
   unfolding extendedTo
   extended-empty b h e hb = rw (ne-eqb n 0 h, e, hb)
 
-  pub extended-more : (a b : Number) → (n ≡ 0 → ⊥) → o .empty ≡ false → a ≡ scaledBy (o .before) n → b ≡ scaledBy (o .behind) n
-      → record { rank = k; empty = false; before = a; behind = b } ≡ extendedTo k o n
+  pub extended-more : (a b : Number) → (n ≡ 0 → ⊥) → o .empty ≡ false → a ≡ scaledBy (o .before) n → b ≡ scaledBy (o .after) n
+      → record { rank = k; empty = false; before = a; after = b } ≡ extendedTo k o n
   unfolding extendedTo
   extended-more a b h e ha hb = rw (ne-eqb n 0 h, e, ha, hb)
 

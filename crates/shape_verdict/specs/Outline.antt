@@ -26,13 +26,13 @@ beforeZero [] = 1
 beforeZero (n ∷ ns) = cond (eqb n 0) 1 (n * beforeZero ns)
 
 -- the product of the dimensions after the last 0, of all where there is none
-abbrev pub behindZero : List ℕ → ℕ
-behindZero [] = 1
-behindZero (n ∷ ns) = cond (hasZero (n ∷ ns)) (behindZero ns) (n * behindZero ns)
+abbrev pub afterZero : List ℕ → ℕ
+afterZero [] = 1
+afterZero (n ∷ ns) = cond (hasZero (n ∷ ns)) (afterZero ns) (n * afterZero ns)
 
 -- the four together
 unfoldable pub outlineOf : List ℕ → Outline
-outlineOf ns = record { rank = length ns; empty = hasZero ns; before = number (beforeZero ns); behind = number (behindZero ns) }
+outlineOf ns = record { rank = length ns; empty = hasZero ns; before = number (beforeZero ns); after = number (afterZero ns) }
 
 -- a product, or over, times a number that is not 0
 unfoldable pub scaledBy : Number → ℕ → Number
@@ -46,7 +46,7 @@ extendedTo k o n =
       rank = k;
       empty = o .empty || eqb n 0;
       before = cond (o .empty || eqb n 0) (o .before) (scaledBy (o .before) n);
-      behind = cond (eqb n 0) (Is 1) (scaledBy (o .behind) n);
+      after = cond (eqb n 0) (Is 1) (scaledBy (o .after) n);
     }
 
 abbrev pub extendedBy : Outline → ℕ → Outline
@@ -63,7 +63,7 @@ extendedCapped o n = extendedTo (capped (o .rank + 1)) o n
 
 -- 21, by the outline: the largest size that an array level has, over items of s bytes
 unfoldable pub largestIn : Outline → ℕ → Number
-largestIn o s = cond (eqb s 0) (Is 0) (scaledBy (o .behind) s)
+largestIn o s = cond (eqb s 0) (Is 0) (scaledBy (o .after) s)
 
 -- 22, by the outline
 abbrev pub isOver : Number → Bool
@@ -71,5 +71,5 @@ isOver (Is n) = false
 isOver Over = true
 
 abbrev pub overIn : Order → Outline → Bool
-overIn C o = isOver (o .behind)
+overIn C o = isOver (o .after)
 overIn Fortran o = isOver (o .before)

@@ -18,7 +18,7 @@ pub struct Outline {
     pub rank: usize,
     pub empty: bool,
     pub before: Number,
-    pub behind: Number,
+    pub after: Number,
 }
 
 // A shape or sub-shape; or 11; or 12.
@@ -38,9 +38,9 @@ pub fn over(shape: Outline, order: Order) -> bool
     ensures { λ r. ⌜ r ≡ overIn order shape ⌝ }
 {
     let before = shape.before;
-    let behind = shape.behind;
+    let after = shape.after;
     match order {
-        Order::C => is_over(behind),
+        Order::C => is_over(after),
         Order::Fortran => is_over(before),
     }
 }
@@ -49,11 +49,11 @@ pub fn over(shape: Outline, order: Order) -> bool
 pub fn largest(levels: Outline, size: u64) -> Number
     ensures { λ r. ⌜ r ≡ largestIn levels size ⌝ }
 {
-    let behind = levels.behind;
+    let after = levels.after;
     if size == 0 {
         return Number::Is(0);
     }
-    scaled(behind, size)
+    scaled(after, size)
 }
 
 // Whether a product is over 2^64-1.
@@ -122,14 +122,14 @@ fn extended(o: Outline, n: u64) -> Outline
     ensures { λ r. ⌜ r ≡ extendedCapped o n ⌝ }
 {
     let before = o.before;
-    let behind = o.behind;
+    let after = o.after;
     let rank = next(o.rank);
     if n == 0 {
         return Outline {
             rank: rank,
             empty: true,
             before: before,
-            behind: Number::Is(1),
+            after: Number::Is(1),
         };
     }
     if o.empty {
@@ -137,14 +137,14 @@ fn extended(o: Outline, n: u64) -> Outline
             rank: rank,
             empty: true,
             before: before,
-            behind: scaled(behind, n),
+            after: scaled(after, n),
         };
     }
     Outline {
         rank: rank,
         empty: false,
         before: scaled(before, n),
-        behind: scaled(behind, n),
+        after: scaled(after, n),
     }
 }
 

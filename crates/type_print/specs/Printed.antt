@@ -1,4 +1,4 @@
--- What printing a type owes: how many bytes, or 27 ("caller's record or type that no reading gives") or 28 (the lent room is too small), and what the room then holds,
+-- What printing a type answers: how many bytes, or 27 ("caller's record or type that no reading gives") or 28 (the lent room is too small), and what the room then holds,
 -- both of type_str's Text.antt.
 use Prim.Native.Nat.{ℕ}
 use mathlib.Core.Path.{_≡_}

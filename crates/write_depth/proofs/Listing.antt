@@ -97,7 +97,7 @@ under-innermost t e r u (record-of fs) l =
     let z : e ≡ r = under-none t e r u (λ k. omega (arith, kind-at t e (record-of fs) l)) in
     record { listed = subst (λ (c : ℕ). Listed t c (record-of fs)) z l; passed = omega arith }
 
--- ---- what is said of a dtype and of the type under its array levels
+-- ---- a dtype and the type under its array levels have the same text
 pub innermost-descr : (d : Dtype) → descrLayout (innermostOf d) ≡ descrLayout d
 innermost-descr (plain ty) = refl
 innermost-descr (array n d) = innermost-descr d

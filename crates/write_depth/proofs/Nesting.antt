@@ -54,7 +54,7 @@ module _ (t : List ℕ) (e : ℕ) where
           let v : k ≡ suc (k - 1) = omega arith in
           rw v (h fs (ap (λ (a : Entry). a .number) (q ∙ listed-entry t e (record-of fs) l)) (listed-fields t e fs l))
 
--- ---- `within` where array levels stand over the type: its entry is r
+-- ---- `within` where the type is under array levels: its entry is r
 module _ (t : List ℕ) (e r : ℕ) (under : (d : Dtype) → Listed t e d → Innermost t e d r) where
   pub under-inside : (d : Dtype) → Listed t e d → (e ≤ r) × (r < length t)
   under-inside d l = (omega (arith, under d l .passed), listed-inside t r (innermostOf d) (under d l .listed))

@@ -18,7 +18,10 @@ ghost use Rattle.check_record.specs.Answer.{summary, answer};
 ghost use Rattle.write_depth.specs.Listed.{Listed, ListedIn, Under};
 ghost use Rattle.write_depth.specs.Printable.{printable};
 
-// What check_record says of the record, and then 7. The dict's bracket is the first of the 32.
+// How many brackets may be open at once inside the dict's own.
+const IN_DICT: u64 = literal_grammar::OPEN as u64 - 1;
+
+// What check_record says of the record, and then 7.
 pub fn check(table: &[u64], names: &[u8], shape: &[u64], order: Order) -> Checked
     ensures { λ r. ⌜ answer r ≡ each summary (printable (now (table .entry)) (now (names .entry)) (now (shape .entry)) order) ⌝ }
 {
@@ -26,7 +29,7 @@ pub fn check(table: &[u64], names: &[u8], shape: &[u64], order: Order) -> Checke
     let Checked::Accepted(_) = checked else {
         return checked;
     };
-    if !within(table, 0, 31) {
+    if !within(table, 0, IN_DICT) {
         return Checked::Refused(Refusal::Depth);
     }
     checked

@@ -1,5 +1,5 @@
 -- Document 01, "Header bytes out": "Then the fewest spaces and one LF that make prefix plus text a multiple of 16. Any non-ASCII byte: (3,0). Otherwise (1,0) if
--- the padded text is at most 65,535 bytes, else (2,0).", and 4 "text over 131,072 bytes". The parts are Padding.antt of the crate record; its `padding-unit` is
+-- the padded text is at most 65,535 bytes, else (2,0).", and 4 "text over 131,072 bytes". The parts are record's Padding.antt; its `padding-unit` is
 -- the code's PADDING_UNIT.
 use Prim.Native.Nat.{ℕ, _+_}
 use mathlib.Core.Bool.{Bool}

@@ -1,4 +1,4 @@
-// Decides how a header's text is padded and which version it is written as, and puts what stands around the text: the prefix before it, spaces and one LF after it
+// Decides how a header's text is padded and which version it is written as, and puts what goes around the text: the prefix before it, spaces and one LF after it
 // (document 01, "Header bytes out"). write calls it.
 use header_prefix::MOST_TEXT;
 use header_prefix::Version;

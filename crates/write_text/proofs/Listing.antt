@@ -1,4 +1,4 @@
--- What is said of a dtype that is listed in a table and of the type under its array levels, and those levels. Assumes nothing.
+-- The array levels of a dtype that is listed in a table, and what a dtype and the type under its array levels share. Assumes nothing.
 use Prim.Native.Nat.{ℕ, zero, suc, _+_, _≤_}
 use native.Mathlib.Omega.{arith}
 use mathlib.Core.Path.{_≡_, refl, ap, _∙_}
@@ -17,7 +17,7 @@ use Rattle.write_depth.proofs.Listing.{listed-entry, listed-room, listed-inner,
 use Rattle.write_pieces.specs.Pieces.{levelsFrom}
 use Rattle.write_pieces.proofs.Levels.{levels-more, levels-none}
 
--- ---- the array levels that stand in the table are the dtype's
+-- ---- the array levels in the table are the dtype's
 pub levels-listed : (k : ℕ) (t : List ℕ) (e : ℕ) (d : Dtype) → Listed t e d → length t ≤ k + e → levelsFrom k t e ≡ levelsOf d
 levels-listed k t e (plain ty) l h = levels-none t e k (λ z. omega (arith, kind-at t e (plain ty) l))
 levels-listed zero t e (array n d) l h = absurd (omega (arith, listed-room t e (array n d) l, some-entry (array n d)))
@@ -27,7 +27,7 @@ levels-listed (suc k) t e (array n d) l h =
     levels-more t e k (kind-at t e (array n d) l) ∙ rw (number-is, rest) refl
 levels-listed k t e (record-of fs) l h = levels-none t e k (λ z. omega (arith, kind-at t e (record-of fs) l))
 
--- ---- what is said of a dtype and of the type under its array levels
+-- ---- a dtype and the type under its array levels have the same names and types
 pub innermost-names : (d : Dtype) (y : List ℕ) → namesOf (innermostOf d) y ≡ namesOf d y
 innermost-names (plain ty) y = refl
 innermost-names (array n d) y = innermost-names d y

@@ -92,7 +92,7 @@ module _ (t ns : List ℕ) (e b : ℕ) where
             next-name = w .next-name;
           }
 
--- ---- `put_descr` where array levels stand over the type: its entry is r
+-- ---- `put_descr` where the type is under array levels: its entry is r
 module _ (t ns : List ℕ) (e b r : ℕ) (under : (d : Dtype) → Listed t e d → Innermost t e d r) where
   under-stands : (d : Dtype) → ListedNamed t ns e b d → ListedNamed t ns r b (innermostOf d)
   under-stands d s =

@@ -7,7 +7,7 @@ use Rattle.literal_bytes.specs.declared.Gap.the-variants.{Item}
 use Rattle.literal.proofs.Ends.{value-ahead}
 use Rattle.literal_bytes.proofs.Ends.{stops}
 use Rattle.literal.proofs.Steps.{gapLeft, turn-less}
-use Rattle.descr_field.specs.Behind.{itemsFrom}
+use Rattle.descr_field.specs.After.{itemsFrom}
 use Rattle.descr_field.proofs.Reach.{from-end, from-stop, from-more}
 use borrow.Author.Needs.{needs}
 use Rattle.descr_field.proofs.rest.Statement.{statement}

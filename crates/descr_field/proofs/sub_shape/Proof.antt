@@ -5,7 +5,7 @@ use Rattle.descr_totals.specs.declared.Totals.{Totals}
 use Rattle.descr_totals.specs.Verdict.{verdict, both}
 use Rattle.literal_bytes.proofs.Ends.{stops}
 use Rattle.descr_field.proofs.Reach.{from-end}
-use Rattle.descr_field.proofs.Behind.{says-none, says-stop, ends-stop, says-shape, ends-shape, says-more, ends-more}
+use Rattle.descr_field.proofs.After.{says-none, says-stop, ends-stop, says-shape, ends-shape, says-more, ends-more}
 use borrow.Author.Needs.{needs}
 use Rattle.descr_field.proofs.sub_shape.Statement.{statement}
 use Rattle.descr_field.proofs.sub_shape.Tie as tie

@@ -66,9 +66,9 @@ joined-requires c κs = search needs
 members-requires : tie.Need-members-requires
 members-requires c κs =
     let s = c .before .before .before .before .before .before .before .before .before .before .before .before .before .before .before .args .text .now in
-    let behind = read-ahead _ (length s) _ (c .before .before .before .before .before .need .result) _ (c .before .before .before .before .before .need .ensures) (c .before .before .before .c .given .1) (need-ahead s (c .before .before .before .before .before .before .before .first .given .0 .0) 44 (lit< tt)) in
+    let after = read-ahead _ (length s) _ (c .before .before .before .before .before .need .result) _ (c .before .before .before .before .before .need .ensures) (c .before .before .before .c .given .1) (need-ahead s (c .before .before .before .before .before .before .before .first .given .0 .0) 44 (lit< tt)) in
     let one = first-joined (c .before .nothing2 .result) (c .joined .result) (c .before .before .before .before .before .before .before .before .before .member-at .result .size) (c .before .nothing2 .ensures) (c .joined .ensures) in
-    omega (arith, behind, one .1)
+    omega (arith, after, one .1)
 
 returns-4 : tie.Need-returns-4
 returns-4 c =
