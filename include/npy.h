@@ -39,7 +39,7 @@ enum npy_refusal {
     NPY_LONG_TEXT = 4,        /* header text of over 131,072 bytes */
     NPY_NOT_UTF8 = 5,         /* header text that is not UTF-8 */
     NPY_FAULT = 6,            /* header text that is not one Python literal of the accepted kind */
-    NPY_DEPTH = 7,            /* a 33rd bracket is opened inside 32 others */
+    NPY_DEPTH = 7,            /* a bracket that is allowed in its place would be the 33rd open */
     NPY_NOT_DICT = 8,         /* the header is not a dict, or one of its keys is not a string */
     NPY_NO_KEY = 9,           /* 'fortran_order', 'shape' or 'descr' is missing */
     NPY_NOT_BOOLEAN = 10,     /* 'fortran_order' is neither True nor False */
@@ -53,15 +53,15 @@ enum npy_refusal {
     NPY_TYPE_SIZE = 18,       /* type string: a size that the letter does not have */
     NPY_UNITS = 19,           /* type string: units missing on m or M, or given on another letter */
     NPY_ENTRIES = 20,         /* over 512 table entries, or over 65,536 bytes of field names */
-    NPY_SIZE = 21,            /* a type, sub-array or record of over 2^64-1 bytes */
+    NPY_SIZE = 21,            /* no object (O), and a type, sub-array or record of over 2^64-1 bytes */
     NPY_SHAPE = 22,           /* the item count or a stride is over 2^64-1 */
-    NPY_ROOM = 23,            /* the room for the table, names, shape, strides or element is too small */
+    NPY_ROOM = 23,            /* the room for the table, names, shape, strides or element is too small; or the text is not all held */
     NPY_HAS_OBJECT = 24,      /* a place is asked for, and the type contains an object (O) */
     NPY_SHORT_FILE = 25,      /* the file ends before its data does */
     NPY_NOWHERE = 26,         /* index or path names no element, or none of the kind asked for */
     NPY_NO_READING = 27,      /* the caller's record, type or order is none that a header could give */
     NPY_OUTPUT_ROOM = 28,     /* the room for the output is too small */
-    NPY_SCALAR = 29,          /* a U element holds a number that is no Unicode scalar value */
+    NPY_SCALAR = 29,          /* a U element, or a value to be written to one, has a number that is no Unicode scalar value */
     NPY_MISFIT = 30           /* the value does not fit the element's size */
 };
 
@@ -89,7 +89,7 @@ enum npy_read_said {
     NPY_READ_ENTRIES = 3,     /* entries of the table, NPY_ENTRY numbers each */
     NPY_READ_NAMES = 4,       /* bytes of the names */
     NPY_READ_START = 5,       /* where the data starts: how many bytes of the file come before it */
-    NPY_READ_SAID = 6     /* how many there are */
+    NPY_READ_SAID = 6         /* how many there are */
 };
 
 /* Those of npy_read_text. */
@@ -102,7 +102,7 @@ enum npy_check_said {
     NPY_CHECK_SIZED = 2,      /* 1 where there is an item size, 0 with an 'O' */
     NPY_CHECK_ITEM = 3,       /* the item size in bytes, 0 with an 'O' */
     NPY_CHECK_COUNT = 4,      /* the item count */
-    NPY_CHECK_SAID = 5   /* how many there are */
+    NPY_CHECK_SAID = 5        /* how many there are */
 };
 
 /* The values of npy_place: `run`. The last four are the type. */
@@ -113,7 +113,7 @@ enum npy_run {
     NPY_RUN_LETTER = 3,
     NPY_RUN_SIZE = 4,
     NPY_RUN_UNITS = 5,
-    NPY_RUN = 6        /* how many there are */
+    NPY_RUN = 6               /* how many there are */
 };
 
 #ifdef __cplusplus
@@ -125,22 +125,22 @@ extern "C" {
 /* The header that a file begins with. Its record goes to the front of the three rooms.
  * said: enum npy_read_said. */
 uint8_t npy_read(const uint8_t *file, size_t file_len, uint64_t *table, size_t table_len, uint8_t *names, size_t names_len,
-                 uint64_t *shape, size_t shape_len, uint64_t said[6]);
+                 uint64_t *shape, size_t shape_len, uint64_t said[NPY_READ_SAID]);
 
 /* The same of a file whose first bytes are held, at least 12 of them or the whole file, and which is longer or is not: of a longer file 23, right after 4, where its
  * header ends past them. */
 uint8_t npy_read_held(const uint8_t *file, size_t file_len, bool longer, uint64_t *table, size_t table_len, uint8_t *names, size_t names_len,
-                      uint64_t *shape, size_t shape_len, uint64_t said[6]);
+                      uint64_t *shape, size_t shape_len, uint64_t said[NPY_READ_SAID]);
 
 /* The record of a header's text, without its prefix and of any length, so never 4: 5 to 23. said: enum npy_text_said. */
 uint8_t npy_read_text(const uint8_t *text, size_t text_len, uint64_t *table, size_t table_len, uint8_t *names, size_t names_len,
-                      uint64_t *shape, size_t shape_len, uint64_t said[4]);
+                      uint64_t *shape, size_t shape_len, uint64_t said[NPY_TEXT_SAID]);
 
 /* ---- a caller's record: 27, 13, 20, 21, 22 come first in every function that takes one (in npy_list after 2). */
 
 /* Whether some reading gives the record, 7 and 4 aside, which only the writer asks. said: enum npy_check_said. */
 uint8_t npy_check(const uint64_t *table, size_t table_len, const uint8_t *names, size_t names_len, const uint64_t *shape, size_t shape_len,
-                  uint64_t order, uint64_t said[5]);
+                  uint64_t order, uint64_t said[NPY_CHECK_SAID]);
 
 /* The record's header, at the front of out: then 7, 4, 28. count: its length. */
 uint8_t npy_write_header(const uint64_t *table, size_t table_len, const uint8_t *names, size_t names_len, const uint64_t *shape, size_t shape_len,
@@ -165,7 +165,7 @@ uint8_t npy_item_number(const uint64_t *shape, size_t shape_len, uint64_t order,
 /* The bytes that an index and a path name in a file of so many bytes whose data starts at start. run: enum npy_run. */
 uint8_t npy_place(uint64_t file_len, uint64_t start, const uint64_t *table, size_t table_len, const uint8_t *names, size_t names_len,
                   const uint64_t *shape, size_t shape_len, uint64_t order, const uint64_t *index, size_t index_len,
-                  const uint64_t *path, size_t path_len, uint64_t run[6]);
+                  const uint64_t *path, size_t path_len, uint64_t run[NPY_RUN]);
 
 /* The element S or V at a place, and the element U as code points, at the front of out: 26 for another type, then 29 (U), 23. count: how many are left. */
 uint8_t npy_element_bytes(const uint8_t *file, size_t file_len, uint64_t start, const uint64_t *table, size_t table_len, const uint8_t *names,

@@ -42,7 +42,7 @@ pub struct Summary {
     pub count: Items,
 }
 
-// What a record has that some header can be read as; or 27, 13, 20, 21, 22.
+// What a record has that some header can be read as; or 27, 13, 20, 21, 22, and of write_depth also 7.
 pub enum Checked {
     Accepted(Summary),
     Refused(Refusal),

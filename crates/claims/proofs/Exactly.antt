@@ -57,7 +57,7 @@ writing-own : (r : Record) → limited r ≡ gives r → Printable r → writing
 unfolding writing
 writing-own r l p =
     let whole = file-whole r in
-    rw (writing, l, p .near, le-ltb _ _ (p .short), le-ltb (length (fileOf r)) (headerLength r) (omega arith))
+    rw (writing, l, p .shallow, le-ltb _ _ (p .short), le-ltb (length (fileOf r)) (headerLength r) (omega arith))
 
 declared : version.Version → Version
 declared version.one-zero = Version.OneZero

@@ -32,7 +32,7 @@ pub record Some-file (t ns s : List ℕ) (o : Order) : Type 0 where
 
 -- the header's text has at most 32 brackets open at once, and at most 131,072 bytes
 pub record Printable (r : Record) : Type 0 where
-  pub near : tooDeep r ≡ false
+  pub shallow : tooDeep r ≡ false
   pub short : textLength r ≤ most-text
 
 -- a record that is read from some file is accepted, and an accepted one is read from some file

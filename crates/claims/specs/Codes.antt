@@ -38,7 +38,7 @@ pub record Refuses {A M : Type 0} (o : Outcome A) (before : M) (r : ℕ) (after 
   pub to-thirty : r ≤ 30
   pub unchanged : after ≡ before
 
--- whatever outcome is returned in C (`Tells`, npy_numbers/specs/Codes.antt): a refusal is its number only
+-- whatever outcome is returned in C (`Tells`, npy_codes/specs/Codes.antt): a refusal is its number only
 abbrev pub Tells-alone : {A : Type 0} → (values : A → List ℕ) (o : Outcome A) (said : List ℕ) → Type 0
 Tells-alone values o said = (r : ℕ) (said′ : List ℕ) (n : ℕ) → Tells values o said r said′ → o ≡ refused n → (r ≡ n) × (said′ ≡ said)
 

@@ -1,6 +1,6 @@
 -- The totals of a dtype are made of those of its parts: of fields one after the other, of a record's own entry and its fields, of a sub-shape and its
 -- type, of a name and a type. So are the verdicts, where a refusal of the first part comes first. By recursion on nothing: each law is one step of the
--- definitions. Assumes nothing.
+-- definitions.
 use Prim.Native.Nat.{ℕ, zero, suc, _+_, _*_, _^_, _≤_}
 use native.Mathlib.Omega.{arith}
 use mathlib.Core.Path.{_≡_, refl, sym, ap, _∙_}

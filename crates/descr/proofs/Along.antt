@@ -1,6 +1,5 @@
 -- Walks over the items of a bracket, one item after the other. `Turn` is what the loop over fields keeps: all end as those that are left do, and the verdict
 -- on the fields so far and those that are left give the verdict on all. Every law speaks of whichever row is there, so that no reading is inverted.
--- Assumes nothing.
 use Prim.Native.Nat.{ℕ}
 use mathlib.Core.Path.{_≡_, refl, sym, ap, subst, _∙_}
 use mathlib.Core.List.{List, [], _∷_}

@@ -1,5 +1,5 @@
 -- The items of a field on plain values, item by item, whichever row is there: the gap before each says whether it is there, how it ends says whether
--- the walk goes on, and what is judged of it is what the definition asks. Assumes nothing.
+-- the walk goes on, and what is judged of it is what the definition asks.
 use Prim.Native.Nat.{ℕ, _<_}
 use mathlib.Core.Path.{_≡_, refl, sym, ap, subst, _∙_}
 use mathlib.Core.List.{List, [], _∷_}

@@ -1,5 +1,4 @@
--- What a value is judged as, by the kind of its first byte: a string, a list, a list or tuple, or none of them. By the two views of crate literal. Assumes
--- nothing.
+-- What a value is judged as, by the kind of its first byte: a string, a list, a list or tuple, or none of them. By the two views of crate literal.
 use Prim.Native.Nat.{ℕ, _+_, _-_, _<_}
 use native.Mathlib.Omega.{arith}
 use mathlib.Core.Path.{_≡_, refl, sym, ap, subst, _∙_}

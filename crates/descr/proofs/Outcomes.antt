@@ -1,4 +1,4 @@
--- No second outcome satisfies the statement of `judge`: what was read determines the end, and what a verdict means determines the verdict. Assumes nothing.
+-- No second outcome satisfies the statement of `judge`: what was read determines the end, and what a verdict means determines the verdict.
 use Rattle.counts.specs.Outcome.{then, each}
 use Rattle.counts.specs.OneOutcome.{OneOutcome}
 use Rattle.record.specs.Descr.{descrOf}

@@ -1,4 +1,4 @@
--- The verdict on a value in a text, and the verdict where there is none. Assumes nothing.
+-- The verdict on a value in a text, and the verdict where there is none.
 use Prim.Native.Nat.{ℕ}
 use mathlib.Core.Path.{_≡_, refl, sym, ap, subst, _∙_}
 use mathlib.Core.List.{List}

@@ -1,5 +1,5 @@
 -- What is after a field's inner descr, on plain values: the gap says whether there is a sub-shape, how that ends says whether the walk goes on, and the
--- gap after it whether there is more. Assumes nothing.
+-- gap after it whether there is more.
 use Prim.Native.Nat.{ℕ, _<_}
 use mathlib.Core.Path.{_≡_, refl, sym, ap, subst, _∙_}
 use mathlib.Core.List.{List, [], _∷_}

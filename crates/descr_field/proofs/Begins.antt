@@ -1,4 +1,4 @@
--- Where a string begins, there is a byte of the text, since what is past the end is of another kind. By the kinds. Assumes nothing.
+-- Where a string begins, there is a byte of the text, since what is past the end is of another kind. By the kinds.
 use Prim.Native.Nat.{ℕ, _<_}
 use mathlib.Core.Path.{_≡_, refl, sym}
 use mathlib.Core.List.{List, [], _∷_}

@@ -1,6 +1,6 @@
 -- Document 01, "The record": "The type string is a part of the header text that begins after its quote; any escape in it is a syntax fault." Where a string
 -- has no escape its bytes are the part of the text after the quote. Where it has one, it holds a backslash, a quote, LF, CR or TAB, and no type string
--- does: not as its order or letter, nor as a digit, nor in its units. So the definition, which reads the decoded bytes, gives 15 there too. Assumes nothing.
+-- does: not as its order or letter, nor as a digit, nor in its units. So the definition, which reads the decoded bytes, gives 15 there too.
 use Prim.Native.Nat.{ℕ, zero, suc, _+_, _-_, _<_, _≤_}
 use native.Mathlib.Omega.{arith}
 use mathlib.Core.Path.{_≡_, refl, sym, ap, subst, _∙_}

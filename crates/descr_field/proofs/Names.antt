@@ -1,4 +1,4 @@
--- The name of a field: a string ends where it is shut, and what is no string is no name. By the kind of the first byte. Assumes nothing.
+-- The name of a field: a string ends where it is shut, and what is no string is no name. By the kind of the first byte.
 use Prim.Native.Nat.{ℕ, _+_}
 use mathlib.Core.Path.{_≡_, refl, sym, ap, _∙_}
 use mathlib.Core.List.{List}

@@ -1,4 +1,4 @@
--- No second outcome satisfies the statements of this crate: an end is an equation, and what an answer or a verdict means determines it. Assumes nothing.
+-- No second outcome satisfies the statements of this crate: an end is an equation, and what an answer or a verdict means determines it.
 use Prim.Native.Nat.{ℕ}
 use mathlib.Core.Path.{_≡_, sym, _∙_}
 use mathlib.Core.List.{List}

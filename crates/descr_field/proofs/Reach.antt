@@ -1,6 +1,6 @@
 -- How the items of a bracket end, from a gap on, as crate literal reads them: at the gap where there is none, where an item has a fault, or as those after
 -- the item do. What is left of the text bounds how many they are, so that any bound above it reads the same. Then the same from after the opening
--- bracket of a list or tuple, whose first item needs its comma where it is a tuple's. Assumes nothing.
+-- bracket of a list or tuple, whose first item needs its comma where it is a tuple's.
 use Prim.Native.Nat.{ℕ, zero, suc, _+_, _<_, _≤_}
 use native.Mathlib.Nat.{not-suc-le-zero}
 use native.Mathlib.Omega.{arith}

@@ -1,6 +1,6 @@
 // The parts of a field in a header's text (document 01, "The record": "`descr` is a string (a type string) or a list (a record). Each record item is a list or tuple of 2 or
 // 3"): its name, the type string in it, and the sub-shape after its inner descr. A refusal ends no walk; only a fault of the literal does. Called by descr, which judges a
-// descr, and by fill, which stores one.
+// descr, and by header, which stores one.
 use descr_totals::DescrVerdict;
 use descr_totals::join;
 use descr_totals::named;

@@ -1,5 +1,5 @@
 -- The totals of a finished dtype say what crate dtype's Limits.antt asks of it, 13, 20 and 21, and the numbers themselves where no limit is passed: a cap
--- is one past what it is tested against. Assumes nothing.
+-- is one past what it is tested against.
 use Prim.Native.Nat.{ℕ, _+_, _≤_}
 use native.Mathlib.Omega.{arith}
 use mathlib.Core.Path.{_≡_, refl, ap, _∙_}

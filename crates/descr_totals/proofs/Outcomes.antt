@@ -1,5 +1,4 @@
 -- No second outcome satisfies the statements of this crate: what a verdict means determines the verdict. So of `join`, `shaped` and `typed`; `named` is an equation.
--- Assumes nothing.
 use Prim.Native.Nat.{ℕ}
 use mathlib.Core.Path.{_≡_, refl, ap}
 use Rattle.counts.specs.Outcome.{Outcome}

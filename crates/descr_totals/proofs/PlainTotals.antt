@@ -1,4 +1,4 @@
--- The totals of a plain type, by the bytes that crate type_str counts. Assumes nothing.
+-- The totals of a plain type, by the bytes that crate type_str counts.
 use Prim.Native.Nat.{ℕ, _^_}
 use native.Mathlib.Omega.{arith}
 use mathlib.Core.Path.{_≡_, refl, sym, ap, _∙_}

@@ -1,5 +1,5 @@
 -- Totals that are capped add up as if they were not: what is past a cap once stays past it. Each part of `together` by itself, then `together` as a
--- whole: it is associative, and nothing added changes nothing. Assumes nothing.
+-- whole: it is associative, and nothing added changes nothing.
 use Prim.Native.Nat.{ℕ, _+_, _^_, _<_, _≤_}
 use native.Mathlib.Omega.{arith}
 use mathlib.Core.Path.{_≡_, refl, sym, ap, _∙_}

@@ -1,5 +1,5 @@
 -- The parts of a field, as the code finds them. A field that is one is a bracket of two or three items; each item begins where the gap before it says, and
--- the definition, taken apart by its outcomes, says what each is. Assumes nothing.
+-- the definition, taken apart by its outcomes, says what each is.
 use Prim.Native.Nat.{ℕ, _+_, _-_, _<_, _≤_}
 use native.Mathlib.Omega.{arith}
 use mathlib.Core.Path.{_≡_, refl, sym, ap, subst, _∙_}

@@ -1,4 +1,4 @@
--- From the text read with lent rooms to the header after its prefix, and to the whole file. Assumes nothing.
+-- From the text read with lent rooms to the header after its prefix, and to the whole file.
 use Prim.Native.Nat.{ℕ, _+_, _-_, _<_, _≤_}
 use native.Mathlib.Omega.{arith}
 use mathlib.Core.Path.{_≡_, refl, sym, ap, subst, _∙_}

@@ -1,5 +1,5 @@
 -- The filling walk on plain values. A descr is a type string or a list of fields. What is kept along the fields: what is left to put on the table and on
--- the names as they are gives the due table and the due names. A record's entry comes after its fields, a field's levels after its type. Assumes nothing.
+-- the names as they are gives the due table and the due names. A record's entry comes after its fields, a field's levels after its type.
 use Prim.Native.Nat.{ℕ, suc, _+_, _-_, _*_, _^_, _<_, _≤_}
 use native.Mathlib.Omega.{arith}
 use mathlib.Core.Path.{_≡_, refl, sym, ap, subst, _∙_}

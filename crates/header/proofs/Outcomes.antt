@@ -1,5 +1,5 @@
 -- No second outcome satisfies the statements of `read`, `read_held` and `read_text`: an outcome is the answer and what the three rooms then hold. And which reading of
--- literals is meant does not matter, if it keeps the promise of crate literal_grammar. Assumes nothing.
+-- literals is meant does not matter, if it keeps the promise of crate literal_grammar.
 use mathlib.Core.Path.{_≡_, refl, sym, ap, _∙_}
 use mathlib.Core.List.{List}
 use mathlib.Core.Bool.{Bool}

@@ -1,5 +1,5 @@
 -- An accepted record and its rooms: where 13 is not given no field has over 32 array levels, the totals are the record's own, 23 is what the code tests, and
--- rooms that are filled from their front hold the record. Assumes nothing.
+-- rooms that are filled from their front hold the record.
 use Prim.Native.Nat.{ℕ, _*_, _/_, _≤_}
 use native.Mathlib.Omega.{arith}
 use mathlib.Core.Path.{_≡_, refl, sym, ap, _∙_}

@@ -1,4 +1,4 @@
--- From the judged text to the text read with lent rooms. Assumes nothing.
+-- From the judged text to the text read with lent rooms.
 use Prim.Native.Nat.{ℕ}
 use mathlib.Core.Path.{_≡_, refl, sym, ap, subst, _∙_}
 use mathlib.Core.List.{List}

@@ -1,4 +1,4 @@
--- The six bytes of magic, the two of the version and the length field, as the code tests them, and the order of 1 to 4. Assumes nothing.
+-- The six bytes of magic, the two of the version and the length field, as the code tests them, and the order of 1 to 4.
 use Prim.Native.Nat.{ℕ, _-_, _<_, _≤_}
 use native.Mathlib.Omega.{arith}
 use mathlib.Core.Path.{_≡_, refl, ap, _∙_}

@@ -1,4 +1,4 @@
--- No second outcome satisfies a statement of this crate's public functions; and the length of a text that was not refused is at most what document 01 allows. Assumes nothing.
+-- No second outcome satisfies a statement of this crate's public functions; and the length of a text that was not refused is at most what document 01 allows.
 use Prim.Native.Nat.{ℕ, _≤_}
 use mathlib.Core.Path.{_≡_, refl, sym, ap, _∙_}
 use mathlib.Core.List.{List}

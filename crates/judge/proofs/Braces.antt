@@ -1,4 +1,4 @@
--- What a value is, by the kind of its first byte: a dict and its pairs, a string and whether it is the key. Assumes nothing.
+-- What a value is, by the kind of its first byte: a dict and its pairs, a string and whether it is the key.
 use Prim.Native.Nat.{ℕ, suc, _+_}
 use mathlib.Core.Path.{_≡_, refl, sym, ap, subst, _∙_}
 use mathlib.Core.List.{List, [], _∷_}

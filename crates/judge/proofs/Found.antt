@@ -1,4 +1,4 @@
--- What is found for the keys `shape` and `descr`: from the verdict on a value to the answer for its key, and from the answer to the value that counts. Assumes nothing.
+-- What is found for the keys `shape` and `descr`: from the verdict on a value to the answer for its key, and from the answer to the value that counts.
 use Prim.Native.Nat.{ℕ}
 use mathlib.Core.Path.{_≡_, refl, sym, ap, subst, _∙_}
 use mathlib.Core.List.{List}

@@ -1,4 +1,4 @@
--- A key that is a string, read once: without an escape its bytes are a part of the text (`raw-says` of crate descr_field). Assumes nothing.
+-- A key that is a string, read once: without an escape its bytes are a part of the text (`raw-says` of crate descr_field).
 use Prim.Native.Nat.{ℕ, _+_, _-_, _<_, _≤_}
 use native.Mathlib.Omega.{arith}
 use mathlib.Core.Path.{_≡_, refl, sym, ap, subst, _∙_}

@@ -1,4 +1,4 @@
--- The definitions on the values with their places in the text give the values that crate record's definitions give. Assumes nothing.
+-- The definitions on the values with their places in the text give the values that crate record's definitions give.
 use Prim.Native.Nat.{ℕ}
 use mathlib.Core.Path.{_≡_, refl, sym, ap, _∙_}
 use mathlib.Core.List.{List}

@@ -1,5 +1,4 @@
 -- No second outcome satisfies the statement of `judge`: the text determines the record, the record what is kept of its parts, and a value that counts its own place.
--- Assumes nothing.
 use Prim.Native.Nat.{ℕ}
 use mathlib.Core.Path.{_≡_, sym, ap, _∙_}
 use mathlib.Core.List.{List}

@@ -1,5 +1,5 @@
 -- The walk over the pairs of a dict. What it keeps: the keys are all strings if those that were met and those that are left are, and the value that counts
--- for a key is the one found so far, or one that is left. Then the dict around the pairs. Assumes nothing.
+-- for a key is the one found so far, or one that is left. Then the dict around the pairs.
 use Prim.Native.Nat.{ℕ, suc, _+_}
 use native.Mathlib.Omega.{arith}
 use mathlib.Core.Path.{_≡_, refl, sym, ap, subst, _∙_}

@@ -1,4 +1,4 @@
--- The limits by the totals and the outline: 13 of sub-shapes, 20, 21, 22, in their order. Assumes nothing.
+-- The limits by the totals and the outline: 13 of sub-shapes, 20, 21, 22, in their order.
 use Prim.Native.Nat.{ℕ}
 use mathlib.Core.Path.{_≡_, refl, sym, ap, subst, _∙_}
 use mathlib.Core.List.{List}

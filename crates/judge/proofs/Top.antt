@@ -1,5 +1,5 @@
 -- The order of judgement, 5 to 22: the whole text, its value, the three keys one after the other, and the limits. Each part that was read is followed by the next, and the first
--- that was refused decides. Assumes nothing.
+-- that was refused decides.
 use Prim.Native.Nat.{ℕ}
 use native.Mathlib.Omega.{arith}
 use mathlib.Core.Path.{_≡_, refl, sym, ap, subst, _∙_}

@@ -1,5 +1,5 @@
 // Judges the text of a header (document 01, "The refusal numbers", the order of reading): the first of 5 to 22 that applies, or the record, by the places of its parts in the
-// text. Called by fill. The walk over the dict is in `keys`.
+// text. Called by header. The walk over the dict is in `keys`.
 mod keys;
 
 use descr_totals::Totals;

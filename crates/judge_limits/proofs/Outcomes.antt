@@ -1,4 +1,4 @@
--- No second outcome meets the contracts of this crate. Assumes nothing.
+-- No second outcome meets the contracts of this crate.
 use mathlib.Core.Path.{_≡_, refl, ap}
 use Rattle.counts.specs.Outcome.{Outcome}
 use Rattle.counts.specs.OneOutcome.{OneOutcome}

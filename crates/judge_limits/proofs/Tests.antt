@@ -1,4 +1,4 @@
--- The limits by the totals and the outline are those of the record. Assumes nothing.
+-- The limits by the totals and the outline are those of the record.
 use Prim.Native.Nat.{ℕ}
 use mathlib.Core.Path.{_≡_, refl}
 use mathlib.Core.List.{List}

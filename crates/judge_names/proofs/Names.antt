@@ -1,4 +1,4 @@
--- Which of the three names a string is. Assumes nothing.
+-- Which of the three names a string is.
 use Prim.Native.Nat.{ℕ}
 use mathlib.Core.Path.{_≡_, refl, sym, ap, _∙_}
 use mathlib.Core.List.{List}

@@ -1,4 +1,4 @@
--- No second outcome meets the contracts of this crate: whether a key is a string, and which of the three it is, determines its name. Assumes nothing.
+-- No second outcome meets the contracts of this crate: whether a key is a string, and which of the three it is, determines its name.
 use Prim.Native.Nat.{ℕ}
 use mathlib.Core.Path.{_≡_, refl, sym, _∙_}
 use mathlib.Core.List.{List}

@@ -1,4 +1,4 @@
--- `same` of two texts by the bytes that were compared so far: one more byte, all of them, and two lengths. Assumes nothing.
+-- `same` of two texts by the bytes that were compared so far: one more byte, all of them, and two lengths.
 use Prim.Native.Nat.{ℕ, zero, suc, _+_, _<_}
 use native.Mathlib.Nat.{not-suc-le-zero, le-of-suc-le-suc}
 use native.Mathlib.Numerals.{add-one}

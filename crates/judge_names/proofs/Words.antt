@@ -1,4 +1,4 @@
--- The order that a value declares, by the kind of its first byte. Assumes nothing.
+-- The order that a value declares, by the kind of its first byte.
 use Prim.Native.Nat.{ℕ}
 use mathlib.Core.Path.{_≡_, refl, sym, ap, _∙_}
 use mathlib.Core.List.{List, [], _∷_}

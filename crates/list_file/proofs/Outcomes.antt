@@ -1,4 +1,4 @@
--- No second outcome satisfies the statement of this crate's public function. Assumes nothing.
+-- No second outcome satisfies the statement of this crate's public function.
 use Prim.Native.Nat.{ℕ}
 use mathlib.Core.List.{List}
 use Rattle.counts.specs.OneOutcome.{OneOutcome}

@@ -1,4 +1,4 @@
--- What the text for a file is: a header that was read is in the rooms and is accepted, so its listing is refused only where it has no room. Assumes nothing.
+-- What the text for a file is: a header that was read is in the rooms and is accepted, so its listing is refused only where it has no room.
 use Prim.Native.Nat.{ℕ, _^_, _-_, _/_, _<_, _≤_}
 use native.Mathlib.Omega.{arith}
 use mathlib.Core.Path.{_≡_, refl, sym, ap, subst, _∙_}

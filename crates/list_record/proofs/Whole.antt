@@ -1,4 +1,4 @@
--- What listing answers and what the room then holds: of a record that was checked, and of a caller's record. And a line of a word and numbers. Assumes nothing.
+-- What listing answers and what the room then holds: of a record that was checked, and of a caller's record. And a line of a word and numbers.
 use Prim.Native.Nat.{ℕ, _^_, _-_, _<_, _≤_}
 use mathlib.Core.Path.{_≡_, refl, sym, ap, _∙_}
 use mathlib.Core.List.{List, [], _∷_, _++_}

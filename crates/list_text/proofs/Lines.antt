@@ -1,4 +1,4 @@
--- One line after another: what is left of the table, and the names from the current one on. Assumes nothing.
+-- One line after another: what is left of the table, and the names from the current one on.
 use Prim.Native.Nat.{ℕ, zero, suc, _+_, _-_, _<_, _≤_, min}
 use native.Mathlib.Omega.{arith}
 use native.Mathlib.Numerals.{add-one}

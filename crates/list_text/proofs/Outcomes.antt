@@ -1,4 +1,4 @@
--- No second outcome satisfies the statement of this crate's public function: it states `Emits`, for which `emits-one` of emit serves. Assumes nothing.
+-- No second outcome satisfies the statement of this crate's public function: it states `Emits`, for which `emits-one` of emit serves.
 use Prim.Native.Nat.{ℕ, _^_, _<_}
 use mathlib.Core.List.{List}
 use Rattle.counts.specs.OneOutcome.{OneOutcome}

@@ -1,4 +1,4 @@
--- The pieces of a line joined, and the cases of its parts: parent, kind, type, name. Assumes nothing.
+-- The pieces of a line joined, and the cases of its parts: parent, kind, type, name.
 use Prim.Native.Nat.{ℕ, zero, suc}
 use native.Mathlib.Omega.{arith}
 use mathlib.Core.Path.{_≡_, refl, sym, ap, subst, _∙_}

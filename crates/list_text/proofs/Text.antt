@@ -1,4 +1,4 @@
--- The text of a record that was checked: its strides, and its lines in turn. Assumes nothing.
+-- The text of a record that was checked: its strides, and its lines in turn.
 use Prim.Native.Nat.{ℕ, _/_}
 use native.Mathlib.Omega.{arith}
 use mathlib.Core.Path.{_≡_, refl, sym, ap, subst, _∙_}

@@ -1,4 +1,4 @@
--- No second outcome satisfies a statement of the C interface: an outcome is the number that is returned and what all that was lent then holds. Assumes nothing.
+-- No second outcome satisfies a statement of the C interface: an outcome is the number that is returned and what all that was lent then holds.
 use Prim.Native.Nat.{ℕ}
 use mathlib.Core.Path.{_≡_, sym, _∙_}
 use mathlib.Core.Bool.{Bool}

@@ -1,4 +1,4 @@
--- What goes to a room, told in C: as crate slice and crate element owe it, or, where what a caller's numbers name is refused, nothing. Assumes nothing.
+-- What goes to a room, as C gets it: what string_element and element owe, or nothing, where a caller's numbers name no order or type.
 use Prim.Native.Nat.{ℕ}
 use mathlib.Core.Path.{_≡_, ap, _∙_}
 use mathlib.Core.List.{List}

@@ -1,4 +1,4 @@
--- No second outcome satisfies a statement of this crate: an answer that is told in C has one code and one content of the room for the values; and a number that a caller
+-- No second outcome satisfies a statement of this crate: an answer as C gets it has one code and one content of the room for the values; and a number that a caller
 -- gives names one order, version or type, or is refused by one reason.
 use Prim.Native.Nat.{ℕ}
 use mathlib.Core.Path.{_≡_, refl, sym, ap, _∙_}

@@ -1,4 +1,4 @@
--- The numbers by which a caller in C names an order, a version and a type. An order is 0 for C and 1 for Fortran; a version is its major byte; a type is the four numbers of
+-- How a caller in C names an order, a version and a type. An order is 0 for C and 1 for Fortran; a version is its major byte; a type is the four numbers of
 -- its entry in the dtype table. A number that names none is refused: an order or a type with 27, document 01's "caller's record or type that no reading gives"; a version
 -- with 2, "other version" (`versionOf` of crate record).
 use Prim.Native.Nat.{ℕ}

@@ -1,5 +1,5 @@
-// Places in the data (document 01, "The record"): the bytes that an index and a path name in a file, or the refusals of the given record, then 24, 25, 26. Called by string
-// elements and by the C interface.
+// Places in the data (document 01, "The record"): the bytes that an index and a path name in a file, or the refusals of the given record, then 24, 25, 26. Called by
+// element and by the C interface.
 use check_record::Checked;
 use check_record::ItemSize;
 use counts::ByteCount;

@@ -1,4 +1,4 @@
-// Item numbers (document 01, "The record"): the item that an index names in a shape, or 13, 22, 26. Called by the data area, which answers places, and by the C interface.
+// Item numbers (document 01, "The record"): the item that an index names in a shape, or 13, 22, 26. Called by place_area and by the C interface.
 use counts::ItemCount;
 use counts::Items;
 use dtype::MOST_DIMENSIONS;

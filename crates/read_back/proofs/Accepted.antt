@@ -1,6 +1,6 @@
 -- THE CHECK ACCEPTS WHAT A READING GIVES, and nothing else, 13, 20 to 22, 7 and 4 aside. What a reading gives is sound (crate record), and a sound record has none of
 -- the faults that are 27. The other way round, a dtype without these faults is sound, if the numbers of its table are below 2^64: an array's length is
--- one of them. Assumes nothing.
+-- one of them.
 use Prim.Native.Nat.{ℕ, suc, _+_}
 use native.Mathlib.Omega.{arith}
 use mathlib.Core.Path.{_≡_, refl, ap, subst}

@@ -1,4 +1,4 @@
--- What a reading that gives a header leaves in the rooms: the record of the file, each part at its room's front. Assumes nothing.
+-- What a reading that gives a header leaves in the rooms: the record of the file, each part at its room's front.
 use Prim.Native.Nat.{ℕ, _*_}
 use native.Mathlib.Omega.{arith}
 use mathlib.Core.Path.{_≡_, refl, ap}

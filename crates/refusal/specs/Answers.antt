@@ -1,6 +1,6 @@
--- Document 01, "A form for each place": "For an answer that is an enum, a definition gives this paper's number and values for each case of the enum." Every answer has
--- two cases: its value, or `Refused` with a reason, whose number is document 01's. Answers that are counts are defined here; an answer with another value has the same
--- two lines in its own crate.
+-- Document 01, "A form for each place": "For an answer that is an enum, a definition gives this paper's number and values for each case of the enum." An answer that
+-- can be one of document 01's refusals has two cases: its value, or `Refused` with a reason, whose number is document 01's. Answers that are counts are defined here; an
+-- answer with another value has the same two lines in its own crate.
 use Prim.Native.Nat.{ℕ}
 use Rattle.counts.specs.Outcome.{Outcome, gives, refused}
 use Rattle.refusal.specs.Numbers.{numberOf}

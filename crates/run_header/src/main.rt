@@ -1,4 +1,4 @@
-// Replays recorded files, framed as crate frames reads them, one line an answer: the listing with `; ` between its lines, or `refused` and the number. A case is the room
+// Replays recorded files, framed as run_frames reads them, one line an answer: the listing with `; ` between its lines, or `refused` and the number. A case is the room
 // lent for the table (in entries), for the names and for the shape, four bytes each, the least significant first; a byte that is 0 for a whole file and not 0 for the first
 // bytes of a longer one; and the file. The rooms hold 5s before the call: a line ends in ` changed` if a refusal changed a room, or a success the room beyond what was needed.
 use counts::Number;
@@ -139,7 +139,7 @@ fn show_line(text: &[u8], from: usize, i: usize) -> usize
     requires { ⌜ (from ≤ i) × (i < length (now text)) ⌝ }
     ensures { λ r. ⌜ r ≤ i + 1 ⌝ }
 {
-    if text[i] != 10 {
+    if text[i] != b'\n' {
         return from;
     }
     say(&text[from..i]);

@@ -1,4 +1,4 @@
-// Replays recorded texts, framed as crate frames reads them, one line an answer: `ok`, or `6` or `7` and the place of the fault or the bracket.
+// Replays recorded texts, framed as run_frames reads them, one line an answer: `ok`, or `6` or `7` and the place of the fault or the bracket.
 use libc::STDOUT_FILENO;
 use literal_bytes::Parsed;
 use run_frames::Frame;

@@ -1,5 +1,5 @@
 -- What a loop over the items of a bracket keeps: whichever items the bracket has, those from the gap on are its last ones, and F holds of all the items
--- and the last ones. A law for each place of such a loop: its start, one more item and its end. Assumes nothing.
+-- and the last ones. A law for each place of such a loop: its start, one more item and its end.
 use Prim.Native.Nat.{ℕ, _+_, _<_, _≤_}
 use native.Mathlib.Omega.{arith}
 use mathlib.Core.Path.{_≡_, sym, ap, subst, _∙_}

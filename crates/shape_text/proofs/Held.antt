@@ -1,5 +1,5 @@
 -- The members of a list or tuple: the outline of all of them is that of those met, extended by those that are left. Then the value around them: `bracket`,
--- by the kind of its first byte. Assumes nothing.
+-- by the kind of its first byte.
 use Prim.Native.Nat.{ℕ, _+_, _-_, _<_, _≤_}
 use native.Mathlib.Omega.{arith}
 use mathlib.Core.Path.{_≡_, refl, sym, ap}

@@ -1,4 +1,4 @@
--- Digits at a position are the integer that is there, by the kind of its first byte; and the bracket that closes, by that kind. Assumes nothing.
+-- Digits at a position are the integer that is there, by the kind of its first byte; and the bracket that closes, by that kind.
 use Prim.Native.Nat.{ℕ, _+_}
 use mathlib.Core.Path.{_≡_, refl, sym, ap, subst, _∙_}
 use mathlib.Core.List.{List, [], _∷_}

@@ -1,4 +1,4 @@
--- No second outcome meets the contracts of this crate. Assumes nothing.
+-- No second outcome meets the contracts of this crate.
 use Prim.Native.Nat.{ℕ}
 use mathlib.Core.Path.{_≡_, refl, sym, _∙_}
 use mathlib.Core.List.{List}

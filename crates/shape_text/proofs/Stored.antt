@@ -1,5 +1,5 @@
 -- Storing the members of a shape. What is kept: the numbers that are left to put, put on the buffer as it is, give the due buffer. Then the shape around
--- them, whose dimensions these are all, and the buffer where there is room for all. Assumes nothing.
+-- them, whose dimensions these are all, and the buffer where there is room for all.
 use Prim.Native.Nat.{ℕ, zero, suc, _+_, _-_, _<_, _≤_}
 use native.Mathlib.Nat.{not-suc-le-zero}
 use native.Mathlib.Omega.{arith}

@@ -1,5 +1,5 @@
 -- Judging members while they are read. What is kept: the list ends as its items from the gap on do, and its outline is the verdict on the members met,
--- extended by those from the gap on. A law for each way out of the loop, of a tuple, and of the value around them. Assumes nothing.
+-- extended by those from the gap on. A law for each way out of the loop, of a tuple, and of the value around them.
 use Prim.Native.Nat.{ℕ, zero, suc, _+_, _-_, _<_, _≤_, _^_}
 use native.Mathlib.Nat.{not-suc-le-zero}
 use native.Mathlib.Omega.{arith}

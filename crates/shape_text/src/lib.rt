@@ -1,5 +1,5 @@
 // Shapes and sub-shapes in the text of a header (document 01, "The record"): `judge` decides 11 and 12 and outlines the dimensions for 13, 21 and 22; `fill` stores the
-// dimensions. Called by descr_field and judge, which judge a header's text, and by fill, which stores an accepted one.
+// dimensions. Called by descr_field and judge, which judge a header's text, and by header, which stores an accepted one.
 use counts::Number;
 use literal::value;
 use literal_bytes::Gap;

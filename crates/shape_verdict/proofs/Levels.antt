@@ -1,5 +1,5 @@
 -- The array levels of a sub-shape: their sizes, how many they are, and that of all their sizes the one from after the last 0 on is the largest. So 21
--- of a field's levels is decided by the outline and the inner size alone. By recursion on the dimensions. Assumes nothing.
+-- of a field's levels is decided by the outline and the inner size alone. By recursion on the dimensions.
 use Prim.Native.Nat.{ℕ, zero, suc, _+_, _*_, _<_, _≤_, _^_}
 use native.Mathlib.Omega.{arith}
 use native.Mathlib.Nat.{mul-suc}

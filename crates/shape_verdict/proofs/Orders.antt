@@ -1,5 +1,5 @@
 -- 22 by the outline. In C order the count and the strides are the products of the dimensions from some place on, so the largest one without a 0 is that
--- after the last 0; Fortran order is C order of the reversed shape. Assumes nothing.
+-- after the last 0; Fortran order is C order of the reversed shape.
 use Prim.Native.Nat.{ℕ, _*_}
 use native.Mathlib.Omega.{arith}
 use mathlib.Core.Path.{_≡_, refl, sym, ap, _∙_}

@@ -1,5 +1,5 @@
 -- The outline of dimensions, one dimension after the other: what is after the last 0 begins anew at a 0, and what is before the first 0 is left as it
--- is from then on. A product that is over stays over, for no factor of it is 0. Assumes nothing.
+-- is from then on. A product that is over stays over, for no factor of it is 0.
 use Prim.Native.Nat.{ℕ, zero, suc, _+_, _*_, _-_, _<_, _≤_, _^_}
 use native.Mathlib.Omega.{arith}
 use native.Mathlib.Nat.{mul-suc}

@@ -1,4 +1,4 @@
--- What a number that was read is as a dimension, by its sign. Assumes nothing.
+-- What a number that was read is as a dimension, by its sign.
 use Prim.Native.Nat.{ℕ, zero, suc, _^_}
 use native.Mathlib.Omega.{arith}
 use mathlib.Core.Path.{_≡_, refl, sym, ap, _∙_}

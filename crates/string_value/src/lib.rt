@@ -1,5 +1,5 @@
 // The values of S, U and V elements (document 01, "String elements"): definitions in specs/, laws and round trips in proofs/, and here the kinds of elements.
-// The functions that read and write elements are in string_element.
+// Called by string_element, which reads and writes elements.
 ghost use mathlib.Core.Path.{_≡_};
 ghost use lib.ListN.{length};
 ghost use Rattle.string_value.specs.Elements.{trimmed};

@@ -1,5 +1,5 @@
 // One entry of the dtype table: its nine numbers read from a table, and the type of a plain entry, to and from those numbers.
-// Called by every crate that walks a table: check_*, place, listing, write_*; and by table_fill, which writes one.
+// Called by every crate that walks a table: check_*, place, list_record, write_*; by table_fill, which writes one; and by npy_codes.
 use dtype::Entry;
 use dtype::PLAIN;
 use saturating::held_bytes;

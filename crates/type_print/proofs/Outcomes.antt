@@ -1,4 +1,4 @@
--- No second outcome satisfies a statement of this crate's public functions. Assumes nothing.
+-- No second outcome satisfies a statement of this crate's public functions.
 use Prim.Native.Nat.{ℕ, _^_, _<_}
 use mathlib.Core.List.{List}
 use Rattle.counts.specs.OneOutcome.{OneOutcome}

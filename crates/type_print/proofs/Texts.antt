@@ -1,4 +1,4 @@
--- A type's text, piece by piece: a type by its parts, and the whole to lent room. Assumes nothing.
+-- A type's text, piece by piece: a type by its parts, and the whole to lent room.
 use Prim.Native.Nat.{ℕ, _-_, _^_, _<_, _≤_}
 use mathlib.Core.Path.{_≡_}
 use mathlib.Core.Bool.{true, false}

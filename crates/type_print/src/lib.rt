@@ -1,4 +1,4 @@
-// Prints a type string (document 01, "Header bytes out": "Type strings print without leading zeros, `O` without a size"). write_pieces and listing print one inside a
+// Prints a type string (document 01, "Header bytes out": "Type strings print without leading zeros, `O` without a size"). write_pieces and list_record print one inside a
 // text, and the C interface prints one by itself.
 use counts::Bytes;
 use refusal::BytesAnswer;

@@ -47,12 +47,12 @@ impl TimeUnits {
         if self.is_absent() {
             return at;
         }
-        let behind_open = emit::put(out, at, b'[');
-        let behind_letter = emit::put(out, behind_open, self.first_letter());
+        let after_open = emit::put(out, at, b'[');
+        let after_letter = emit::put(out, after_open, self.first_letter());
         if self.is_one_letter() {
-            return emit::put(out, behind_letter, b']');
+            return emit::put(out, after_letter, b']');
         }
-        emit::put_bytes(out, behind_letter, b"s]")
+        emit::put_bytes(out, after_letter, b"s]")
     }
 
     fn first_letter(self) -> u8

@@ -1,5 +1,5 @@
 -- What writing a record whose text can be printed answers, refusal by refusal, and what the room then holds: the header's own bytes at its front, where it is long
--- enough. The text is as long as it was measured, and the version, the spaces and the lengths are those of its names and its length. Assumes nothing.
+-- enough. The text is as long as it was measured, and the version, the spaces and the lengths are those of its names and its length.
 use Prim.Native.Nat.{ℕ, _+_, _^_, _<_, _≤_}
 use native.Mathlib.Omega.{arith}
 use mathlib.Core.Path.{_≡_, refl, sym, ap, _∙_, subst}

@@ -1,4 +1,4 @@
--- A header's text is ASCII exactly where its names are (`text-ascii`): all else that is printed is ASCII, and an escape is as its byte. Assumes nothing.
+-- A header's text is ASCII exactly where its names are (`text-ascii`): all else that is printed is ASCII, and an escape is as its byte.
 use Prim.Native.Nat.{ℕ, zero, suc, _+_, _%_, _<_, _≤_}
 use native.Mathlib.Omega.{arith}
 use native.Mathlib.Numerals.{add-one}

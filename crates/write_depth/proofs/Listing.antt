@@ -1,5 +1,4 @@
 -- A dtype that is listed in a table, from one entry to the next: its kind, its room, what is listed inside it. And the loop that passes array levels, of any table.
--- Assumes nothing.
 use Prim.Native.Nat.{ℕ, suc, _+_, _*_, _<_, _≤_}
 use native.Mathlib.Omega.{arith}
 use mathlib.Core.Path.{_≡_, refl, sym, ap, subst, _∙_}

@@ -1,5 +1,4 @@
 -- How many brackets a dtype's text opens, seen in its table: a field opens one, and one in it for a sub-shape; a record one; a type and an array level none.
--- Assumes nothing.
 use Prim.Native.Nat.{ℕ, zero, suc, _+_, _-_, _<_, _≤_}
 use native.Mathlib.Omega.{arith}
 use mathlib.Core.Path.{_≡_, refl, sym, ap, _∙_}

@@ -1,5 +1,4 @@
 -- No second outcome satisfies a statement of this crate's public functions: an answer is check_record's, and there is one first entry that is no array level.
--- Assumes nothing.
 use Prim.Native.Nat.{ℕ, _<_, _≤_}
 use native.Mathlib.Omega.{arith}
 use mathlib.Core.Path.{_≡_}

@@ -1,4 +1,4 @@
--- Which record can be printed and which refusal applies, from the answers of the functions that are called: the check of check_record and the count of the brackets. Assumes nothing.
+-- Which record can be printed and which refusal applies, from the answers of the functions that are called: the check of check_record and the count of the brackets.
 use Prim.Native.Nat.{ℕ}
 use mathlib.Core.Path.{_≡_, refl, sym, ap, _∙_}
 use mathlib.Core.Bool.{Bool, true, false, _&&_, and-true}

@@ -1,4 +1,4 @@
--- The version, the spaces and the lengths that a text is written with: nothing wraps, and each is what record defines. Assumes nothing.
+-- The version, the spaces and the lengths that a text is written with: nothing wraps, and each is what record defines.
 use Prim.Native.Nat.{ℕ, _+_, _≤_, _<_}
 use native.Mathlib.Omega.{arith}
 use mathlib.Core.Path.{_≡_, refl, ap, _∙_}

@@ -1,4 +1,4 @@
--- What is put around a text: the spaces, which a loop writes, and the prefix. Assumes nothing.
+-- What is put around a text: the spaces, which a loop writes, and the prefix.
 use Prim.Native.Nat.{ℕ, zero, suc, _+_, _-_, _<_, _≤_}
 use native.Mathlib.Omega.{arith}
 use mathlib.Core.Path.{_≡_, refl, ap, _∙_}

@@ -1,5 +1,5 @@
 -- The array levels of a table from an entry on, one after another, and the loop that puts them: those still to be put begin at the next entry. And the sub-shape after a
--- field's type, from the pieces that the code puts. Assumes nothing.
+-- field's type, from the pieces that the code puts.
 use Prim.Native.Nat.{ℕ, zero, suc, _+_, _<_}
 use native.Mathlib.Omega.{arith}
 use mathlib.Core.Path.{_≡_, refl, sym, ap, subst, _∙_}

@@ -1,4 +1,4 @@
--- A byte as it is spelled, a name in its quotes and a shape in its brackets, each from the pieces that the code puts. Assumes nothing.
+-- A byte as it is spelled, a name in its quotes and a shape in its brackets, each from the pieces that the code puts.
 use Prim.Native.Nat.{ℕ, zero, suc}
 use native.Mathlib.Omega.{arith}
 use mathlib.Core.Path.{_≡_, refl, ap, subst}

@@ -1,4 +1,4 @@
--- What comes after the descr, from its values and the texts between them. Assumes nothing.
+-- What comes after the descr, from its values and the texts between them.
 use Prim.Native.Nat.{ℕ}
 use mathlib.Core.Path.{_≡_, refl}
 use mathlib.Core.List.{List, [], _∷_, _++_}

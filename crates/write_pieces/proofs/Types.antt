@@ -1,4 +1,4 @@
--- A type string is the same between quotes: none of its bytes is escaped. Assumes nothing.
+-- A type string is the same between quotes: none of its bytes is escaped.
 use Prim.Native.Nat.{ℕ, _+_, _/_, _%_, _≤_}
 use native.Mathlib.Omega.{arith}
 use mathlib.Core.Path.{_≡_, refl, sym, ap, subst, _∙_}

@@ -1,4 +1,4 @@
--- The array levels of a dtype that is listed in a table, and what a dtype and the type under its array levels share. Assumes nothing.
+-- The array levels of a dtype that is listed in a table, and what a dtype and the type under its array levels share.
 use Prim.Native.Nat.{ℕ, zero, suc, _+_, _≤_}
 use native.Mathlib.Omega.{arith}
 use mathlib.Core.Path.{_≡_, refl, ap, _∙_}

@@ -1,4 +1,4 @@
--- No second outcome satisfies the statement of `put_text`: an outcome is its answer, and what the room then holds. A place is a usize. Assumes nothing.
+-- No second outcome satisfies the statement of `put_text`: an outcome is its answer, and what the room then holds. A place is a usize.
 use Prim.Native.Nat.{ℕ, _^_, _<_}
 use mathlib.Core.Path.{_≡_, refl, ap}
 use mathlib.Core.List.{List}

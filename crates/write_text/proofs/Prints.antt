@@ -1,5 +1,5 @@
 -- Which record is printed and which refusal applies, from the answers of the functions that are called: write_depth's check, the dict's text. Then the way back, for a
--- caller who has the answer. Assumes nothing.
+-- caller who has the answer.
 use Prim.Native.Nat.{ℕ}
 use native.Mathlib.Omega.{arith}
 use mathlib.Core.Path.{_≡_, refl, sym, ap, _∙_, subst}

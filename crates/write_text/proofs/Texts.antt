@@ -1,4 +1,4 @@
--- The dict's text from its descr and what is put before and after it. Assumes nothing.
+-- The dict's text from its descr and what is put before and after it.
 use Prim.Native.Nat.{ℕ}
 use mathlib.Core.Path.{_≡_, refl}
 use mathlib.Core.List.{List, [], _∷_, _++_}

@@ -1,5 +1,5 @@
 -- The walk that prints: a plain type, a record, the type under array levels, and the loop over a record's fields, each from what the functions that it calls have
--- written. Assumes nothing.
+-- written.
 use Prim.Native.Nat.{ℕ, _+_, _-_, _<_, _≤_}
 use native.Mathlib.Omega.{arith}
 use mathlib.Core.Path.{_≡_, refl, sym, ap, _∙_, subst}

@@ -1,4 +1,4 @@
--- No value, and the verdict is as for one of another form; or a value, and the walk has judged it. Assumes nothing.
+-- No value, and the verdict is as for one of another form; or a value, and the walk has judged it.
 use mathlib.Core.Path.{refl}
 use Rattle.literal_bytes.proofs.Ends.{stops}
 use Rattle.descr.proofs.Whole.{judged-none, judged-at}

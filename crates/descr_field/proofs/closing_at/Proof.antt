@@ -1,4 +1,4 @@
--- By the kind of the byte. Assumes nothing.
+-- By the kind of the byte.
 use mathlib.Core.Path.{ap, _∙_}
 use Rattle.literal_bytes.specs.Text.{kindOf}
 use Rattle.shape_text.specs.Members.{closingOf}

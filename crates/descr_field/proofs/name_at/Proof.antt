@@ -1,4 +1,4 @@
--- A string is scanned once: its end and the length of its bytes; what is no string is read and refused. Assumes nothing.
+-- A string is scanned once: its end and the length of its bytes; what is no string is read and refused.
 use Prim.Native.Nat.{ℕ, _+_}
 use native.Mathlib.Omega.{arith}
 use mathlib.Core.Path.{sym, ap, _∙_}

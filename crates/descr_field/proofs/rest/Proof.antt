@@ -1,4 +1,4 @@
--- All end as the items from the gap on do; each item that is read leaves less of the text. Assumes nothing.
+-- All end as the items from the gap on do; each item that is read leaves less of the text.
 use mathlib.Core.Path.{_≡_, refl, sym, _∙_}
 use lib.ListN.{length}
 use Rattle.literal_bytes.specs.Got.{pos}

@@ -1,4 +1,4 @@
--- By the bracket: as after any item, which in a tuple comes only after its comma; or what is after that comma. Assumes nothing.
+-- By the bracket: as after any item, which in a tuple comes only after its comma; or what is after that comma.
 use mathlib.Core.Path.{sym, _∙_}
 use Rattle.descr_field.proofs.Reach.{second-list, second-there, second-tuple}
 use borrow.Author.Needs.{needs}

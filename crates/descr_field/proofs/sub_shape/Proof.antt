@@ -1,4 +1,4 @@
--- By the gap: nothing more, a value that is no literal, a sub-shape and nothing more, or more. Assumes nothing.
+-- By the gap: nothing more, a value that is no literal, a sub-shape and nothing more, or more.
 use mathlib.Core.Path.{ap, _∙_}
 use Rattle.counts.specs.Outcome.{Outcome}
 use Rattle.descr_totals.specs.declared.Totals.{Totals}

@@ -1,4 +1,4 @@
--- Where there is an escape, or the text has ended, the answer is 15 either way; where neither is so, the part of the text is the string. Assumes nothing.
+-- Where there is an escape, or the text has ended, the answer is 15 either way; where neither is so, the part of the text is the string.
 use native.Mathlib.Omega.{arith}
 use mathlib.Core.Path.{ap, _∙_}
 use Rattle.type_str.specs.TypeString.{typeString}

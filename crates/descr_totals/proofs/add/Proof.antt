@@ -1,4 +1,4 @@
--- A sum that fits is known, and one that does not is past every cap. Assumes nothing.
+-- A sum that fits is known, and one that does not is past every cap.
 use Prim.Native.Nat.{_+_}
 use mathlib.Core.Path.{sym, _∙_}
 use native.Mathlib.Omega.{arith}

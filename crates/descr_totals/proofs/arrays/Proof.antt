@@ -1,4 +1,4 @@
--- Each part by its function. Assumes nothing.
+-- Each part by its function.
 use mathlib.Core.Path.{refl, ap, _∙_}
 use mathlib.Core.Bool.{Bool, _||_, cond}
 use Prim.Native.Nat.{ℕ}

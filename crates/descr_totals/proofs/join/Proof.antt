@@ -1,4 +1,4 @@
--- By the cases of the two. Assumes nothing.
+-- By the cases of the two.
 use mathlib.Core.Path.{ap}
 use Rattle.counts.specs.Outcome.{gives}
 use borrow.Author.Needs.{needs}

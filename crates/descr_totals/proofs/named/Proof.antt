@@ -1,4 +1,4 @@
--- The length, capped. Assumes nothing.
+-- The length, capped.
 use Prim.Native.Nat.{_+_}
 use mathlib.Core.Path.{_≡_, refl, _∙_}
 use native.Mathlib.Omega.{arith}

@@ -1,4 +1,4 @@
--- The bytes that crate type_str counts are the size. Assumes nothing.
+-- The bytes that crate type_str counts are the size.
 use mathlib.Core.Path.{sym, ap, _∙_}
 use Rattle.descr_totals.proofs.PlainTotals.{plainTotals, plain-totals}
 use borrow.Author.Needs.{needs}

@@ -1,4 +1,4 @@
--- Each part is the sum of the two, with its cap. Assumes nothing.
+-- Each part is the sum of the two, with its cap.
 use Prim.Native.Nat.{_+_}
 use mathlib.Core.Path.{refl, ap, _∙_}
 use mathlib.Core.Bool.{Bool, _||_}

@@ -1,4 +1,4 @@
--- By the cases of the two: the first refusal stays. Assumes nothing.
+-- By the cases of the two: the first refusal stays.
 use mathlib.Core.Path.{refl, ap}
 use Rattle.counts.specs.Outcome.{gives}
 use borrow.Author.Needs.{needs}

@@ -1,4 +1,4 @@
--- By the cases of the answer. Assumes nothing.
+-- By the cases of the answer.
 use mathlib.Core.Path.{refl, ap}
 use Rattle.counts.specs.Outcome.{gives}
 use borrow.Author.Needs.{needs}

@@ -1,4 +1,4 @@
--- A whole file is one that is held and is not longer. Assumes nothing.
+-- A whole file is one that is held and is not longer.
 use Rattle.header.specs.Reads.{lent}
 use Rattle.header.proofs.File.{whole-read}
 use borrow.Author.Needs.{needs}

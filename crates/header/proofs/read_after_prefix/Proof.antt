@@ -1,4 +1,4 @@
--- The text is not all there, or it is read. Assumes nothing.
+-- The text is not all there, or it is read.
 use Prim.Native.Nat.{_+_, _<_}
 use native.Mathlib.Omega.{arith}
 use mathlib.Core.Path.{subst}

@@ -1,4 +1,4 @@
--- The prefix, and then the header after it. Assumes nothing.
+-- The prefix, and then the header after it.
 use mathlib.Core.Path.{sym}
 use Rattle.counts.proofs.OneOutcome.{told}
 use Rattle.header_prefix.specs.Answer.{answer}

@@ -1,4 +1,4 @@
--- The text is judged, and then its record is stored. Assumes nothing.
+-- The text is judged, and then its record is stored.
 use Rattle.header.specs.Reads.{lent}
 use Rattle.header.proofs.Text.{text-plan, text-stored, text-refused}
 use borrow.Author.Needs.{needs}

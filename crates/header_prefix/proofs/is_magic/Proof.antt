@@ -1,4 +1,4 @@
--- The six bytes one by one. Assumes nothing.
+-- The six bytes one by one.
 use Rattle.header_prefix.proofs.Bytes.{magic-by}
 use borrow.Author.Needs.{needs}
 use Rattle.header_prefix.proofs.is_magic.Statement.{statement}

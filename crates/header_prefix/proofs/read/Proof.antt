@@ -1,4 +1,4 @@
--- Each test in its order. Assumes nothing.
+-- Each test in its order.
 use mathlib.Core.Path.{sym, ap, _∙_}
 use Rattle.counts.specs.Outcome.{then}
 use Rattle.counts.proofs.OneOutcome.{told}

@@ -1,4 +1,4 @@
--- The length field: missing, over, too long, or a length. Assumes nothing.
+-- The length field: missing, over, too long, or a length.
 use Prim.Native.Nat.{_<_, _≤_}
 use mathlib.Core.Path.{sym, subst, _∙_}
 use lib.ListN.{length}

@@ -1,4 +1,4 @@
--- The eight bytes before the length field, and the field's own. Assumes nothing.
+-- The eight bytes before the length field, and the field's own.
 use native.Mathlib.Omega.{arith}
 use Rattle.header_prefix.specs.Answer.{versionIs}
 use Rattle.header_prefix.proofs.Bytes.{width-few}

@@ -1,4 +1,4 @@
--- Each pair of bytes by itself. Assumes nothing.
+-- Each pair of bytes by itself.
 use mathlib.Core.Path.{sym}
 use Rattle.header_prefix.proofs.Bytes.{version-minor, version-one, version-two, version-three, version-major}
 use Rattle.header_prefix.proofs.version_of.Statement.{statement}

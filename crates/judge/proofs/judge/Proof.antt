@@ -1,4 +1,4 @@
--- 5, then 6 or 7, then the value. Assumes nothing.
+-- 5, then 6 or 7, then the value.
 use mathlib.Core.Path.{sym, _∙_}
 use Rattle.counts.proofs.OneOutcome.{told}
 use Rattle.refusal.specs.declared.Refusal.{Refusal}

@@ -1,4 +1,4 @@
--- 8, the three keys one after the other, and the limits: the first that refuses decides. Assumes nothing.
+-- 8, the three keys one after the other, and the limits: the first that refuses decides.
 use mathlib.Core.Path.{sym, _∙_}
 use borrow.Author.Tests.{not-true, not-false}
 use Rattle.refusal.specs.declared.Refusal.{Refusal}

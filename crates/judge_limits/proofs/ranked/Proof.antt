@@ -1,4 +1,4 @@
--- One test. Assumes nothing.
+-- One test.
 use mathlib.Core.Path.{refl}
 use borrow.Author.Tests.{lt-ltb, le-ltb}
 use Rattle.judge_limits.proofs.ranked.Statement.{statement}

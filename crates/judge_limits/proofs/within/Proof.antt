@@ -1,4 +1,4 @@
--- Each limit in its order. Assumes nothing.
+-- Each limit in its order.
 use mathlib.Core.Path.{refl, sym, _∙_}
 use borrow.Author.Needs.{needs}
 use Rattle.judge_limits.proofs.within.Statement.{statement}

@@ -1,4 +1,4 @@
--- Those before, and this one. Assumes nothing.
+-- Those before, and this one.
 use mathlib.Core.Path.{ap}
 use mathlib.Core.Bool.{Bool, _&&_}
 use borrow.Author.Needs.{needs}

@@ -1,4 +1,4 @@
--- The bytes are compared with each of the three. Assumes nothing.
+-- The bytes are compared with each of the three.
 use mathlib.Core.Path.{refl}
 use borrow.Author.Needs.{needs}
 use Rattle.record.specs.Dict.{key-order, key-shape, key-descr}

@@ -1,4 +1,4 @@
--- The string is compared as it is spelled. Assumes nothing.
+-- The string is compared as it is spelled.
 use mathlib.Core.Path.{refl}
 use borrow.Author.Needs.{needs}
 use Rattle.literal_escapes.specs.Strings.{spelled}

@@ -1,4 +1,4 @@
--- The invariant: the first i bytes of both were compared. Texts of two lengths differ. Assumes nothing.
+-- The invariant: the first i bytes of both were compared. Texts of two lengths differ.
 use Prim.Native.Nat.{_+_, _-_, _≤_}
 use native.Mathlib.Omega.{arith}
 use mathlib.Core.Path.{_≡_, refl, sym, ap, _∙_}

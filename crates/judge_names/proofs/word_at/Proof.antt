@@ -1,4 +1,4 @@
--- The kind of the first byte decides. Assumes nothing.
+-- The kind of the first byte decides.
 use mathlib.Core.Path.{sym, ap, _∙_}
 use borrow.Author.Needs.{needs}
 use Rattle.literal_bytes.specs.Text.{kindOf}

@@ -1,4 +1,4 @@
--- `list_file::held` meets its contract: the first bytes, or the whole file. Assumes nothing.
+-- `list_file::held` meets its contract: the first bytes, or the whole file.
 use native.Mathlib.Omega.{arith}
 use mathlib.Core.Path.{sym}
 use lib.Seq.{take-all, length-take-le}

@@ -1,4 +1,4 @@
--- `list_file::list_header` meets its contract: the fronts of the rooms are the record's own parts. Assumes nothing.
+-- `list_file::list_header` meets its contract: the fronts of the rooms are the record's own parts.
 use Rattle.header_prefix.specs.Answer.{versionIs}
 use Rattle.header.specs.Reads.{lent}
 use Rattle.list_file.proofs.Whole.{lists-all}

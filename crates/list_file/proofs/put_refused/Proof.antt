@@ -1,4 +1,4 @@
--- `list_file::put_refused` meets its contract: measured, and then put. Assumes nothing.
+-- `list_file::put_refused` meets its contract: measured, and then put.
 use native.Mathlib.Omega.{arith}
 use Rattle.list_file.proofs.Whole.{line-28, line-written, line-known}
 use borrow.Author.Needs.{needs}

@@ -1,4 +1,4 @@
--- `list_file::report` meets its contract: what was read is listed, and of what was refused the number is put. Assumes nothing.
+-- `list_file::report` meets its contract: what was read is listed, and of what was refused the number is put.
 use Prim.Native.Nat.{ℕ}
 use lib.ListN.{length-replicate}
 use Rattle.list_file.proofs.Whole.{reports-listing, reports-refused}

@@ -1,4 +1,4 @@
--- `list_file::shape_of` meets its contract: the front of the room, or the whole room. Assumes nothing.
+-- `list_file::shape_of` meets its contract: the front of the room, or the whole room.
 use native.Mathlib.Omega.{arith}
 use mathlib.Core.Path.{sym}
 use lib.Seq.{take-all, length-take-le}

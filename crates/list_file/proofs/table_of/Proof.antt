@@ -1,4 +1,4 @@
--- `list_file::table_of` meets its contract: the front of the room, or the whole room. Assumes nothing.
+-- `list_file::table_of` meets its contract: the front of the room, or the whole room.
 use Prim.Native.Nat.{_*_}
 use native.Mathlib.Omega.{arith}
 use mathlib.Core.Path.{sym}

@@ -1,4 +1,4 @@
--- `listing::is_field` meets its contract: false for the outermost entry, else by the kind of its parent. Assumes nothing.
+-- `listing::is_field` meets its contract: false for the outermost entry, else by the kind of its parent.
 use Rattle.list_text.proofs.Pieces.{not-field, below}
 use borrow.Author.Needs.{needs}
 use Rattle.list_record.proofs.is_field.Statement.{statement}

@@ -1,4 +1,4 @@
--- `list_record::list` meets its contract: the record's own refusals first. Assumes nothing.
+-- `list_record::list` meets its contract: the record's own refusals first.
 use Rattle.counts.proofs.OneOutcome.{told}
 use Rattle.header_prefix.specs.Answer.{versionIs}
 use Rattle.check_record.specs.Answer.{answer}

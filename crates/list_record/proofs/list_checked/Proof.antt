@@ -1,4 +1,4 @@
--- `listing::list_checked` meets its contract: measured, and then put. Assumes nothing.
+-- `listing::list_checked` meets its contract: measured, and then put.
 use native.Mathlib.Omega.{arith}
 use Rattle.list_record.proofs.Whole.{one-28, one-written}
 use borrow.Author.Needs.{needs}

@@ -1,4 +1,4 @@
--- `list_record::put_all` meets its contract: the lines in turn. Assumes nothing.
+-- `list_record::put_all` meets its contract: the lines in turn.
 use native.Mathlib.Omega.{arith}
 use Rattle.header_prefix.specs.Answer.{versionIs}
 use Rattle.list_text.proofs.Pieces.{version-known}

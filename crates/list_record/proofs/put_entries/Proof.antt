@@ -1,4 +1,4 @@
--- `listing::put_entries` meets its contract: each turn puts one line more. The measure is how many entries are left. Assumes nothing.
+-- `listing::put_entries` meets its contract: each turn puts one line more. The measure is how many entries are left.
 use borrow.Author.Needs.{needs}
 use Prim.Native.Nat.{_-_, _/_}
 use mathlib.Core.Path.{_≡_, refl}

@@ -1,4 +1,4 @@
--- `listing::put_entry` meets its contract: the pieces of a line in turn. Assumes nothing.
+-- `listing::put_entry` meets its contract: the pieces of a line in turn.
 use Rattle.list_text.proofs.Pieces.{line-of}
 use borrow.Author.Needs.{needs}
 use Rattle.list_record.proofs.put_entry.Statement.{statement}

@@ -1,4 +1,4 @@
--- `listing::put_kind` meets its contract: each kind by itself. Assumes nothing.
+-- `listing::put_kind` meets its contract: each kind by itself.
 use Rattle.list_text.proofs.Pieces.{kind-plain, kind-array, kind-record}
 use borrow.Author.Needs.{needs}
 use Rattle.list_record.proofs.put_kind.Statement.{statement}

@@ -1,4 +1,4 @@
--- `listing::put_name` meets its contract: a field's name after a space, or nothing. Assumes nothing.
+-- `listing::put_name` meets its contract: a field's name after a space, or nothing.
 use borrow.Author.Tests.{not-true, not-false}
 use Rattle.list_text.proofs.Pieces.{no-name, a-name}
 use borrow.Author.Needs.{needs}

@@ -1,4 +1,4 @@
--- `listing::put_order` meets its contract: each order by itself. Assumes nothing.
+-- `listing::put_order` meets its contract: each order by itself.
 use Rattle.list_text.proofs.Pieces.{order-known}
 use borrow.Author.Needs.{needs}
 use Rattle.list_record.proofs.put_order.Statement.{statement}

@@ -1,4 +1,4 @@
--- `list_record::put_row` meets its contract: a word, the numbers, the line's end. Assumes nothing.
+-- `list_record::put_row` meets its contract: a word, the numbers, the line's end.
 use Rattle.list_record.proofs.Whole.{row-there}
 use borrow.Author.Needs.{needs}
 use Rattle.list_record.proofs.put_row.Statement.{statement}

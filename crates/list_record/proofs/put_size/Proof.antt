@@ -1,4 +1,4 @@
--- `list_record::put_size` meets its contract: a size, or none. Assumes nothing.
+-- `list_record::put_size` meets its contract: a size, or none.
 use Rattle.list_text.proofs.Pieces.{size-known}
 use borrow.Author.Needs.{needs}
 use Rattle.list_record.proofs.put_size.Statement.{statement}

@@ -1,4 +1,4 @@
--- `list_record::put_strides` meets its contract: the strides are found, and then put as a shape is. Assumes nothing.
+-- `list_record::put_strides` meets its contract: the strides are found, and then put as a shape is.
 use mathlib.Core.Path.{refl, sym, ap, _∙_}
 use lib.ListN.{length}
 use Rattle.dtype.proofs.Strides.{strides-length}

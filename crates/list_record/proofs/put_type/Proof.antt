@@ -1,4 +1,4 @@
--- `listing::put_type` meets its contract: the type, or nothing. Assumes nothing.
+-- `listing::put_type` meets its contract: the type, or nothing.
 use Rattle.list_text.proofs.Pieces.{type-none, type-given}
 use borrow.Author.Needs.{needs}
 use Rattle.list_record.proofs.put_type.Statement.{statement}

@@ -1,4 +1,4 @@
--- `list_text::put_parent` meets its contract: the outermost entry, or another. Assumes nothing.
+-- `list_text::put_parent` meets its contract: the outermost entry, or another.
 use Rattle.list_text.proofs.Pieces.{no-parent, a-parent}
 use borrow.Author.Needs.{needs}
 use Rattle.list_text.proofs.put_parent.Statement.{statement}

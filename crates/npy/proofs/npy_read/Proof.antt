@@ -1,4 +1,4 @@
--- The answer told, and the rooms as the reader left them. Assumes nothing.
+-- The answer as C gets it, and the rooms as the reader left them.
 use Rattle.counts.proofs.OneOutcome.{told}
 use Rattle.npy_codes.proofs.Named.{retold}
 use borrow.Author.Needs.{needs}

@@ -1,4 +1,4 @@
--- A header that was read is told by 0 and the values that `put_header` puts; a refusal is its own number, and the values stay.
+-- 0 and the values that `put_header` puts; or the number of the refusal, and the values stay.
 use Rattle.header.specs.Reads.{answer}
 use mathlib.Core.Path.{refl}
 use Rattle.npy_codes.specs.Values.{headerValues}

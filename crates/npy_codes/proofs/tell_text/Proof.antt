@@ -1,4 +1,4 @@
--- A text that was read is told by 0 and four values, its order by `order_number`; a refusal is its own number, and the values stay.
+-- 0 and four values, the order by `order_number`; or the number of the refusal, and the values stay.
 use Rattle.header.specs.Reads.{textAnswer}
 use Prim.Native.Nat.{ℕ}
 use mathlib.Core.Path.{_≡_, refl, ap}

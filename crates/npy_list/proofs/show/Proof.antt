@@ -1,4 +1,4 @@
--- As much as was written is in the room. Assumes nothing.
+-- As much as was written is in the room.
 use mathlib.Core.Path.{sym}
 use lib.Seq.{length-take-le}
 use borrow.Author.Needs.{needs}

@@ -1,4 +1,4 @@
--- By the kind. Assumes nothing.
+-- By the kind.
 use mathlib.Core.Path.{sym, ap}
 use Rattle.shape_text.specs.Members.{closingOf}
 use Rattle.shape_text.proofs.Numbers.{other-kind}

@@ -1,4 +1,4 @@
--- No list or tuple may begin there, and nothing is stored; or its members are. Assumes nothing.
+-- No list or tuple may begin there, and nothing is stored; or its members are.
 use native.Mathlib.Omega.{arith}
 use mathlib.Core.Path.{ap, _∙_}
 use lib.ListN.{length}

@@ -1,4 +1,4 @@
--- The loop over the members keeps that the numbers from the gap on, put after the i that were put, make the whole row, and that it stops where they stop (`Filling`). Assumes nothing.
+-- The loop over the members keeps that the numbers from the gap on, put after the i that were put, make the whole row, and that it stops where they stop (`Filling`).
 use native.Mathlib.Omega.{arith}
 use lib.ListN.{length}
 use Rattle.literal.specs.Literal as read

@@ -1,4 +1,4 @@
--- By the first byte: no bracket of a shape, one too many, a list or a tuple. Assumes nothing.
+-- By the first byte: no bracket of a shape, one too many, a list or a tuple.
 use native.Mathlib.Omega.{arith}
 use mathlib.Core.Path.{_≡_, sym, ap, _∙_}
 use mathlib.Core.Bool.{true, false}

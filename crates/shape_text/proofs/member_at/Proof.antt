@@ -1,4 +1,4 @@
--- Digits end somewhere exactly where there is one, and then they are the integer there. Assumes nothing.
+-- Digits end somewhere exactly where there is one, and then they are the integer there.
 use mathlib.Core.Path.{refl, sym, _∙_}
 use Rattle.literal_bytes.specs.declared.ValueKind.the-variants.{Digit}
 use Rattle.shape_verdict.specs.Answer.{sized}

@@ -1,5 +1,5 @@
 -- The loop over the members keeps that the list ends as its members from the gap on do, and that its verdict is the one on the members met, extended by those from the gap on
--- (`Walking`). Assumes nothing.
+-- (`Walking`).
 use native.Mathlib.Omega.{arith}
 use lib.ListN.{length}
 use Rattle.literal.specs.Literal as read

@@ -1,4 +1,4 @@
--- The outline of no dimensions. Assumes nothing.
+-- The outline of no dimensions.
 use Rattle.shape_text.proofs.Held.{nothing-is}
 use Rattle.shape_text.proofs.nothing.Statement.{statement}
 use Rattle.shape_text.proofs.nothing.Tie as tie

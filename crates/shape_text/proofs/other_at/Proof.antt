@@ -1,4 +1,4 @@
--- The first byte decides between an integer after its sign and a value that is no integer. Assumes nothing.
+-- The first byte decides between an integer after its sign and a value that is no integer.
 use Prim.Native.Nat.{_+_}
 use mathlib.Core.Path.{_≡_, refl, sym, _∙_}
 use native.Mathlib.Omega.{arith}

@@ -1,4 +1,4 @@
--- A store past the end is none. Assumes nothing.
+-- A store past the end is none.
 use mathlib.Core.Path.{sym}
 use lib.Seq.{set-out}
 use borrow.Author.Needs.{needs}

@@ -1,4 +1,4 @@
--- Each arm is a clause of the definition. Assumes nothing.
+-- Each arm is a clause of the definition.
 use borrow.Author.Needs.{needs}
 use Rattle.shape_text.proofs.shut.Statement.{statement}
 use Rattle.shape_text.proofs.shut.Tie as tie

@@ -1,4 +1,4 @@
--- A law for each way out; after the comma the members are walked over as a list's. Assumes nothing.
+-- A law for each way out; after the comma the members are walked over as a list's.
 use native.Mathlib.Omega.{arith}
 use mathlib.Core.Path.{_≡_, sym, _∙_}
 use mathlib.Core.List.{[]}

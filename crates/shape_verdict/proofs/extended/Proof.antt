@@ -1,4 +1,4 @@
--- By whether the new dimension is 0, and then whether one before it is. Assumes nothing.
+-- By whether the new dimension is 0, and then whether one before it is.
 use Prim.Native.Nat.{ℕ}
 use mathlib.Core.Path.{ap, _∙_}
 use Rattle.shape_verdict.specs.Outline.{extendedTo}

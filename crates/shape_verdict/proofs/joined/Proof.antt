@@ -1,4 +1,4 @@
--- By the verdict, and then the member. Assumes nothing.
+-- By the verdict, and then the member.
 use mathlib.Core.Path.{refl}
 use Rattle.shape_verdict.proofs.Outlines.{joined-good}
 use borrow.Author.Needs.{needs}

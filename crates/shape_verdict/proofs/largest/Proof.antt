@@ -1,4 +1,4 @@
--- Items of no bytes make levels of no bytes, however many they are. Assumes nothing.
+-- Items of no bytes make levels of no bytes, however many they are.
 use borrow.Author.Tests.{eq-eqb, ne-eqb}
 use borrow.Author.Needs.{needs}
 use Rattle.shape_verdict.specs.Outline.{largestIn}

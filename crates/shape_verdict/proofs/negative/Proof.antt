@@ -1,4 +1,4 @@
--- By the two cases of the number, and whether it is 0. Assumes nothing.
+-- By the two cases of the number, and whether it is 0.
 use mathlib.Core.Path.{sym, ap}
 use Rattle.shape_verdict.specs.Signs.{negativeOf}
 use Rattle.shape_verdict.proofs.Signs.{negative-zero, negative-more, negative-over, zero-after, more-after}

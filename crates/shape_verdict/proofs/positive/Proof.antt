@@ -1,4 +1,4 @@
--- By the two cases of the number. Assumes nothing.
+-- By the two cases of the number.
 use mathlib.Core.Path.{sym, ap}
 use Rattle.shape_verdict.specs.Signs.{positiveOf}
 use Rattle.shape_verdict.proofs.Signs.{positive-is, positive-over}

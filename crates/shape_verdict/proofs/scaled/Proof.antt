@@ -1,4 +1,4 @@
--- By the two cases of the number. Assumes nothing.
+-- By the two cases of the number.
 use Rattle.shape_verdict.specs.Outline.{scaledBy}
 use borrow.Author.Needs.{needs}
 use Rattle.shape_verdict.proofs.scaled.Statement.{statement}

@@ -1,4 +1,4 @@
--- `type_print::print` meets its contract: the text is measured on a scratch byte, and then written. Assumes nothing.
+-- `type_print::print` meets its contract: the text is measured on a scratch byte, and then written.
 use mathlib.Core.Path.{sym, _∙_}
 use native.Mathlib.Omega.{arith}
 use borrow.Author.Tests.{not-true, not-false}

@@ -1,4 +1,4 @@
--- `type_print::put` meets its contract: order, letter, size where there is one, units. Assumes nothing.
+-- `type_print::put` meets its contract: order, letter, size where there is one, units.
 use mathlib.Core.Path.{sym, _∙_}
 use Rattle.emit.proofs.Pieces.{emits-byte}
 use Rattle.type_print.proofs.Texts.{object-emits, sized-emits}

@@ -1,4 +1,4 @@
--- `type_str::has_units` meets its contract: `m`, `M`, or one of the nine other letters. Assumes nothing.
+-- `type_str::has_units` meets its contract: `m`, `M`, or one of the nine other letters.
 use mathlib.Core.Path.{refl}
 use mathlib.Core.List.{[], _∷_}
 use Rattle.type_letters.proofs.Tags.{no-letter}

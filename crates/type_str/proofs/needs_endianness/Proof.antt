@@ -1,4 +1,4 @@
--- `type_str::needs_endianness` meets its contract: in each arm the letter is known. Assumes nothing.
+-- `type_str::needs_endianness` meets its contract: in each arm the letter is known.
 use borrow.Author.Needs.{needs}
 use Rattle.type_str.proofs.needs_endianness.Statement.{statement}
 use Rattle.type_str.proofs.needs_endianness.Tie as tie

@@ -1,4 +1,4 @@
--- `type_str::one_of` meets its contract: the first of the four that is equal decides. Assumes nothing.
+-- `type_str::one_of` meets its contract: the first of the four that is equal decides.
 use borrow.Author.Tests.{eq-eqb, ne-eqb}
 use Rattle.type_str.proofs.Sizes.{last-of-four}
 use Rattle.type_str.proofs.one_of.Statement.{statement}

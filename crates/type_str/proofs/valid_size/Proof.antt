@@ -1,4 +1,4 @@
--- `type_str::valid_size` meets its contract: in each arm the letter is known. Assumes nothing.
+-- `type_str::valid_size` meets its contract: in each arm the letter is known.
 use mathlib.Core.Path.{_∙_}
 use Rattle.type_str.proofs.Sizes.{three-of-four}
 use borrow.Author.Needs.{needs}

@@ -1,4 +1,4 @@
--- `write::is_ascii` meets its contract: what is left of the bytes decides. The measure is how many are left. Assumes nothing.
+-- `write::is_ascii` meets its contract: what is left of the bytes decides. The measure is how many are left.
 use Prim.Native.Nat.{_-_, _≤_}
 use mathlib.Core.Path.{_≡_, refl}
 use native.Mathlib.Omega.{arith}

@@ -1,4 +1,4 @@
--- `write::put_header` meets its contract: prefix, text, padding. Assumes nothing.
+-- `write::put_header` meets its contract: prefix, text, padding.
 use Rattle.emit.proofs.Pieces.{emits-then}
 use borrow.Author.Needs.{needs}
 use Rattle.write.proofs.put_header.Statement.{statement}

@@ -1,4 +1,4 @@
--- `write::put_text` meets its contract: where there is a record to print, it is not refused. Assumes nothing.
+-- `write::put_text` meets its contract: where there is a record to print, it is not refused.
 use mathlib.Core.Path.{sym, ap, _∙_}
 use Rattle.counts.proofs.Apart.{gives-refused}
 use Rattle.write_text.specs.Prints.{answer}

@@ -1,4 +1,4 @@
--- `write::write_header` meets its contract: what is not printed is not written, and then the header. Assumes nothing.
+-- `write::write_header` meets its contract: what is not printed is not written, and then the header.
 use native.Mathlib.Omega.{arith}
 use mathlib.Core.Path.{ap}
 use Rattle.write_text.specs.Prints.{answer}

@@ -1,4 +1,4 @@
--- `write::write_record` meets its contract: each answer by the tests that led there. Assumes nothing.
+-- `write::write_record` meets its contract: each answer by the tests that led there.
 use Rattle.counts.proofs.OneOutcome.{told}
 use Rattle.write_padding.specs.Plan.{answer}
 use Rattle.write.proofs.Answers.{record-4, record-28, record-written}

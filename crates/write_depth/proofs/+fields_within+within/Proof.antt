@@ -1,5 +1,5 @@
 -- The cycle of calls {within, fields_within}. The measure is twice the table's numbers from the entry on, and one more where fields are handed on: a record's
--- fields come after its entry, and that after its array levels. Assumes nothing.
+-- fields come after its entry, and that after its array levels.
 use Prim.Native.Nat.{_+_, _-_, _*_}
 use native.Mathlib.Omega.{arith}
 use mathlib.Core.Path.{_≡_}

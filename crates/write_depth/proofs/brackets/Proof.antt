@@ -1,4 +1,4 @@
--- `write_depth::brackets` meets its contract, by the kind. Assumes nothing.
+-- `write_depth::brackets` meets its contract, by the kind.
 use borrow.Author.Tests.{eq-eqb, ne-eqb}
 use Rattle.write_depth.proofs.brackets.Statement.{statement}
 use Rattle.write_depth.proofs.brackets.Tie as tie

@@ -1,4 +1,4 @@
--- `write_depth::check` meets its contract: the record's own refusals first, and then the count of the brackets. Assumes nothing.
+-- `write_depth::check` meets its contract: the record's own refusals first, and then the count of the brackets.
 use mathlib.Core.Path.{ap, _∙_}
 use borrow.Author.Tests.{not-true, not-false}
 use Rattle.counts.proofs.OneOutcome.{told}

@@ -1,5 +1,5 @@
 -- `write_depth::innermost` meets its contract. The loop keeps that each entry passed is an array level, and that the kind is that of the next one (`Passed`). The measure is what is left of
--- the table: no entry past its end is an array level. Assumes nothing.
+-- the table: no entry past its end is an array level.
 use Prim.Native.Nat.{_-_}
 use native.Mathlib.Omega.{arith}
 use lib.ListN.{length}

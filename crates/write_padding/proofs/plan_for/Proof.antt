@@ -1,4 +1,4 @@
--- `write_padding::plan_for` meets its contract: no text within the limit makes a sum wrap. Assumes nothing.
+-- `write_padding::plan_for` meets its contract: no text within the limit makes a sum wrap.
 use Prim.Native.Nat.{_+_}
 use native.Mathlib.Omega.{arith}
 use Rattle.header_prefix.specs.Answer.{versionIs}

@@ -1,4 +1,4 @@
--- `write_padding::put_padding` meets its contract: spaces, LF. Assumes nothing.
+-- `write_padding::put_padding` meets its contract: spaces, LF.
 use Rattle.emit.proofs.Pieces.{emits-then}
 use borrow.Author.Needs.{needs}
 use Rattle.write_padding.proofs.put_padding.Statement.{statement}

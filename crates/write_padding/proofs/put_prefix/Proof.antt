@@ -1,4 +1,4 @@
--- `write_padding::put_prefix` meets its contract, piece by piece. Assumes nothing.
+-- `write_padding::put_prefix` meets its contract, piece by piece.
 use Rattle.write_padding.proofs.Texts.{prefix-emits, byte-width}
 use native.Mathlib.Omega.{arith}
 use borrow.Author.Needs.{needs}

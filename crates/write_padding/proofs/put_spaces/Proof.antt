@@ -1,4 +1,4 @@
--- `write_padding::put_spaces` meets its contract: each turn writes one space. The measure is how many are left. Assumes nothing.
+-- `write_padding::put_spaces` meets its contract: each turn writes one space. The measure is how many are left.
 use Prim.Native.Nat.{_-_}
 use mathlib.Core.List.{_∷_}
 use borrow.Author.Needs.{needs}

@@ -1,4 +1,4 @@
--- `write_padding::spaces_after` meets its contract: the code's padding unit is the definition's. Assumes nothing.
+-- `write_padding::spaces_after` meets its contract: the code's padding unit is the definition's.
 use native.Mathlib.Omega.{arith}
 use Rattle.record.specs.Padding.{spacesAfter}
 use borrow.Author.Needs.{needs}

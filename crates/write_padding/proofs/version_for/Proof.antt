@@ -1,4 +1,4 @@
--- `write_padding::version_for` meets its contract, by its two tests. Assumes nothing.
+-- `write_padding::version_for` meets its contract, by its two tests.
 use Prim.Native.Nat.{_+_}
 use native.Mathlib.Omega.{arith}
 use borrow.Author.Tests.{not-true, not-false}

@@ -1,4 +1,4 @@
--- `write_pieces::close_field` meets its contract: with a sub-shape where the field's entry is an array's. Assumes nothing.
+-- `write_pieces::close_field` meets its contract: with a sub-shape where the field's entry is an array's.
 use Rattle.write_pieces.proofs.Levels.{sub-none, sub-some}
 use borrow.Author.Needs.{needs}
 use Rattle.write_pieces.proofs.close_field.Statement.{statement}

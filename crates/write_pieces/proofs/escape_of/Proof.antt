@@ -1,4 +1,4 @@
--- `write_pieces::escape_of` meets its contract, byte by byte. Assumes nothing.
+-- `write_pieces::escape_of` meets its contract, byte by byte.
 use borrow.Author.Tests.{ne-eqb}
 use Rattle.literal_grammar.specs.Print.{escapeOf}
 use Rattle.write_pieces.proofs.escape_of.Statement.{statement}

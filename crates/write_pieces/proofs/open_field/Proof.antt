@@ -1,4 +1,4 @@
--- `write_pieces::open_field` meets its contract, piece by piece. Assumes nothing.
+-- `write_pieces::open_field` meets its contract, piece by piece.
 use Rattle.emit.proofs.Pieces.{emits-then}
 use borrow.Author.Needs.{needs}
 use Rattle.write_pieces.proofs.open_field.Statement.{statement}

@@ -1,4 +1,4 @@
--- `write_pieces::put_between` meets its contract: text, number, text. Assumes nothing.
+-- `write_pieces::put_between` meets its contract: text, number, text.
 use Rattle.emit.proofs.Pieces.{emits-then}
 use borrow.Author.Needs.{needs}
 use Rattle.write_pieces.proofs.put_between.Statement.{statement}

@@ -1,4 +1,4 @@
--- `write_pieces::put_dimension` meets its contract: the digits, and then the comma. Assumes nothing.
+-- `write_pieces::put_dimension` meets its contract: the digits, and then the comma.
 use Rattle.emit.proofs.Pieces.{emits-then}
 use borrow.Author.Needs.{needs}
 use Rattle.write_pieces.proofs.put_dimension.Statement.{statement}

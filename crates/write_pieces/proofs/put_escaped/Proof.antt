@@ -1,4 +1,4 @@
--- `write_pieces::put_escaped` meets its contract: each turn writes one byte more of the name. The measure is what is left of it. Assumes nothing.
+-- `write_pieces::put_escaped` meets its contract: each turn writes one byte more of the name. The measure is what is left of it.
 use Prim.Native.Nat.{_-_}
 use mathlib.Core.Path.{refl}
 use lib.ListN.{length}

@@ -1,5 +1,5 @@
 -- `write_pieces::put_levels` meets its contract. The loop keeps that the dimensions from entry c on, put after those that were put, make the whole row (`Levels`); the measure is
--- what is left of the table. Assumes nothing.
+-- what is left of the table.
 use Prim.Native.Nat.{_-_}
 use native.Mathlib.Omega.{arith}
 use lib.ListN.{length}

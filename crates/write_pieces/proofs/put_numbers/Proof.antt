@@ -1,4 +1,4 @@
--- `write_pieces::put_numbers` meets its contract: each turn puts one number more. The measure is how many are left. Assumes nothing.
+-- `write_pieces::put_numbers` meets its contract: each turn puts one number more. The measure is how many are left.
 use Prim.Native.Nat.{_-_}
 use mathlib.Core.Path.{refl}
 use lib.ListN.{length}

@@ -1,4 +1,4 @@
--- `write_pieces::put_order` meets its contract, by the order. Assumes nothing.
+-- `write_pieces::put_order` meets its contract, by the order.
 use borrow.Author.Needs.{needs}
 use Rattle.write_pieces.proofs.put_order.Statement.{statement}
 use Rattle.write_pieces.proofs.put_order.Tie as tie

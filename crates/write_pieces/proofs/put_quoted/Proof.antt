@@ -1,4 +1,4 @@
--- `write_pieces::put_quoted` meets its contract: the name between two quotes. Assumes nothing.
+-- `write_pieces::put_quoted` meets its contract: the name between two quotes.
 use Rattle.write_pieces.proofs.Quoted.{between}
 use borrow.Author.Needs.{needs}
 use Rattle.write_pieces.proofs.put_quoted.Statement.{statement}

@@ -1,4 +1,4 @@
--- `write_pieces::put_rest` meets its contract, piece by piece. Assumes nothing.
+-- `write_pieces::put_rest` meets its contract, piece by piece.
 use Rattle.write_pieces.proofs.Rest.{rest-emits}
 use borrow.Author.Needs.{needs}
 use Rattle.write_pieces.proofs.put_rest.Statement.{statement}

@@ -1,4 +1,4 @@
--- `write_pieces::put_shape` meets its contract: the dimensions between two brackets. Assumes nothing.
+-- `write_pieces::put_shape` meets its contract: the dimensions between two brackets.
 use Rattle.write_pieces.proofs.Quoted.{between, shape-emits}
 use borrow.Author.Needs.{needs}
 use Rattle.write_pieces.proofs.put_shape.Statement.{statement}

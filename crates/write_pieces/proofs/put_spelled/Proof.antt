@@ -1,4 +1,4 @@
--- `write_pieces::put_spelled` meets its contract: the byte itself, or a backslash and the letter. Assumes nothing.
+-- `write_pieces::put_spelled` meets its contract: the byte itself, or a backslash and the letter.
 use Rattle.write_pieces.proofs.Quoted.{spelled-raw, spelled-escape}
 use borrow.Author.Needs.{needs}
 use Rattle.write_pieces.proofs.put_spelled.Statement.{statement}

@@ -1,4 +1,4 @@
--- `write_pieces::put_type` meets its contract: the type between two quotes, as none of its bytes is escaped. Assumes nothing.
+-- `write_pieces::put_type` meets its contract: the type between two quotes, as none of its bytes is escaped.
 use Rattle.counts.proofs.OneOutcome.{told}
 use Rattle.table_entry.specs.Answer.{typeAnswer}
 use Rattle.write_pieces.proofs.Quoted.{between}

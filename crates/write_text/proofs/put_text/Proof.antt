@@ -1,4 +1,4 @@
--- `write_text::put_text` meets its contract: the refusals of write_depth first, and then the text. Assumes nothing.
+-- `write_text::put_text` meets its contract: the refusals of write_depth first, and then the text.
 use mathlib.Core.Path.{refl}
 use Rattle.counts.proofs.OneOutcome.{told}
 use Rattle.check_record.specs.Answer.{answer}

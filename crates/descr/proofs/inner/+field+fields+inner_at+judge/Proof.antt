@@ -1,5 +1,5 @@
 -- The cycle of calls {judge, fields, field, inner_at}. A bracket that opens leaves one fewer: the measure is twice the brackets that may yet open, and one
--- more where none opens before the next call. Assumes nothing.
+-- more where none opens before the next call.
 use Prim.Native.Nat.{ℕ, _+_, _-_, _*_, _<_}
 use native.Mathlib.Omega.{arith}
 use mathlib.Core.Path.{refl, sym, ap, _∙_}

@@ -1,4 +1,4 @@
--- A string is read once: its end, and what it is as a type string. Assumes nothing.
+-- A string is read once: its end, and what it is as a type string.
 use Prim.Native.Nat.{ℕ, _+_}
 use mathlib.Core.Path.{ap, _∙_}
 use Rattle.counts.specs.Outcome.{Outcome, each}

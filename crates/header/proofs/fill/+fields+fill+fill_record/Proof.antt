@@ -1,5 +1,5 @@
 -- The cycle of calls {fill, fill_record, fields}. A bracket that opens leaves one fewer: the measure is twice the brackets that may yet open, and one more
--- where a descr is not yet known to be a record. Assumes nothing.
+-- where a descr is not yet known to be a record.
 use Prim.Native.Nat.{ℕ, _+_, _*_, _<_}
 use native.Mathlib.Omega.{arith}
 use mathlib.Core.Path.{sym, _∙_}

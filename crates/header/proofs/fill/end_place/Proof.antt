@@ -1,4 +1,4 @@
--- Each arm has the place of its answer. Assumes nothing.
+-- Each arm has the place of its answer.
 use mathlib.Core.Path.{sym, ap}
 use Rattle.literal.specs.Answer.{endOf}
 use borrow.Author.Needs.{needs}

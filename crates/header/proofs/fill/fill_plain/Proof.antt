@@ -1,4 +1,4 @@
--- A string that is a descr is a type string: one entry, and no names. Assumes nothing.
+-- A string that is a descr is a type string: one entry, and no names.
 use native.Mathlib.Omega.{arith}
 use Rattle.header.proofs.Filling.{text-in, text-whole}
 use borrow.Author.Needs.{needs}

@@ -1,4 +1,4 @@
--- The name begins where the gap after the bracket ends, and the inner descr where the gap after the name does. Assumes nothing.
+-- The name begins where the gap after the bracket ends, and the inner descr where the gap after the name does.
 use Prim.Native.Nat.{ℕ, _+_, _≤_}
 use native.Mathlib.Omega.{arith}
 use mathlib.Core.Path.{_≡_, sym, ap, subst, _∙_}

@@ -1,4 +1,4 @@
--- The part of the names from the byte on is written from its front. Assumes nothing.
+-- The part of the names from the byte on is written from its front.
 use Prim.Native.Nat.{ℕ, _+_, _-_}
 use native.Mathlib.Omega.{arith}
 use mathlib.Core.List.{List}

@@ -1,4 +1,4 @@
--- After the type comes nothing, or a sub-shape, which is read to a local array; the levels are written from it. Assumes nothing.
+-- After the type comes nothing, or a sub-shape, which is read to a local array; the levels are written from it.
 use native.Mathlib.Omega.{arith}
 use mathlib.Core.Path.{refl, sym, ap, _∙_}
 use lib.ListN.{length}

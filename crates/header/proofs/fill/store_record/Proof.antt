@@ -1,4 +1,4 @@
--- 23, or the rooms are filled. Assumes nothing.
+-- 23, or the rooms are filled.
 use mathlib.Core.Path.{sym, _∙_}
 use Rattle.shape_text.proofs.Stored.{stored-shape}
 use Rattle.header.proofs.Storing.{store-23, fill-due, store-fits}

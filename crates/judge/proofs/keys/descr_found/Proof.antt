@@ -1,4 +1,4 @@
--- By the two cases of the verdict. Assumes nothing.
+-- By the two cases of the verdict.
 use mathlib.Core.Path.{sym, ap}
 use Rattle.counts.specs.Outcome.{each}
 use Rattle.descr_totals.specs.declared.DescrVerdict.{DescrVerdict}

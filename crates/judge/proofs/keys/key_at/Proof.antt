@@ -1,4 +1,4 @@
--- What is no string has no name; a string is scanned once, and its bytes are the part of the text after its quote, or are decoded. Assumes nothing.
+-- What is no string has no name; a string is scanned once, and its bytes are the part of the text after its quote, or are decoded.
 use native.Mathlib.Omega.{arith}
 use mathlib.Core.Path.{refl, sym, ap, _∙_}
 use borrow.Author.Needs.{needs}

@@ -1,4 +1,4 @@
--- No brace; or a dict, whose pairs are walked over. Assumes nothing.
+-- No brace; or a dict, whose pairs are walked over.
 use Prim.Native.Nat.{_-_}
 use native.Mathlib.Omega.{arith}
 use mathlib.Core.Path.{refl, sym, ap, _∙_}

@@ -1,5 +1,5 @@
 -- The loop over the pairs keeps that what was seen of the three keys, with what the pairs from the gap on have, is what all pairs have, and whether the keys so far are strings
--- (`Seen`); and that the pairs end as those from the gap on do. Assumes nothing.
+-- (`Seen`); and that the pairs end as those from the gap on do.
 use lib.ListN.{length}
 use lib.Dec.{lit<}
 use mathlib.Core.Path.{sym, _∙_}

@@ -1,4 +1,4 @@
--- The key's own value, or the order as it was. Assumes nothing.
+-- The key's own value, or the order as it was.
 use borrow.Author.Needs.{needs}
 use Rattle.judge.proofs.Seek.{order-here, order-kept}
 use Rattle.judge.proofs.keys.order_at.Statement.{statement}

@@ -1,4 +1,4 @@
--- By the two cases of the verdict, and of a good one by its limit. Assumes nothing.
+-- By the two cases of the verdict, and of a good one by its limit.
 use mathlib.Core.Path.{sym, ap}
 use Rattle.counts.specs.Outcome.{then}
 use Rattle.shape_verdict.specs.declared.ShapeVerdict.{ShapeVerdict}

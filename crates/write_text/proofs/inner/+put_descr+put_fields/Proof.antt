@@ -1,6 +1,6 @@
 -- The cycle of calls {put_descr, put_fields}. The measure is twice the table's numbers from the entry on, and one more where fields are handed on: a
 -- record's fields come after its entry, and that after its array levels. The loop keeps that the fields
--- left, put after those that were put, make the whole row (`Going`). Assumes nothing.
+-- left, put after those that were put, make the whole row (`Going`).
 use Prim.Native.Nat.{_+_, _-_, _*_}
 use native.Mathlib.Omega.{arith}
 use mathlib.Core.Path.{_≡_}

@@ -1,4 +1,4 @@
--- `write_text::inner::put_dict` meets its contract, piece by piece. Assumes nothing.
+-- `write_text::inner::put_dict` meets its contract, piece by piece.
 use Rattle.write_text.proofs.Texts.{dict-emits}
 use borrow.Author.Needs.{needs}
 use Rattle.write_text.proofs.inner.put_dict.Statement.{statement}
