@@ -24,5 +24,6 @@ commaThen s (parsed.Parsed.Value e) = gapAt s e 41
 commaThen s (parsed.Parsed.Fault p) = Stray p
 commaThen s (parsed.Parsed.Deep p) = Stray p
 
+-- the gap after the first item of a list or tuple, by the bracket that closes it: `)` is 41, the comma 44
 abbrev pub secondAt : List ℕ → ℕ → ℕ → Gap
 secondAt s at close = cond (eqb close 41) (commaThen s (needAt s at 44)) (thenAt s at close)

@@ -81,7 +81,7 @@ together t u =
 abbrev pub fieldTotals : Field → Totals
 fieldTotals f = together (nameTotals (length (f .name))) (totalsOf (f .type))
 
--- of the array levels of a sub-shape and its type
+-- of the array levels of a sub-shape and its type: 513 is one over the 512 entries of 20, 32 the dimensions of 13
 unfoldable pub arrayed : Outline → Totals → Totals
 arrayed o t =
     record {

@@ -57,6 +57,7 @@ pub record Stores (r : Record) (l : Lent) (x : TextRead) (l′ : Lent) : Type 0 
   pub answered : textAnswer x ≡ each infoOf (roomed (roomsOf l) r)
   pub after : l′ ≡ filled (roomed (roomsOf l) r) l
 
+-- reading a text: the answer, and the rooms afterwards
 pub record ReadsText (text : List ℕ) (l : Lent) (x : TextRead) (l′ : Lent) : Type 0 where
   pub answered : textAnswer x ≡ each infoOf (textInto text l)
   pub after : l′ ≡ filled (textInto text l) l
@@ -102,10 +103,12 @@ afterPrefix = afterPrefixBy reading
 abbrev pub heldInto : (longer : Bool) (file : List ℕ) → Lent → Outcome header.Header
 heldInto = heldBy reading
 
+-- reading what follows a prefix, of a file that is held in part if it is longer
 pub record ReadsAfterPrefix (longer : Bool) (file : List ℕ) (p : Prefix) (l : Lent) (x : HeaderRead) (l′ : Lent) : Type 0 where
   pub answered : answer x ≡ each headerInfo (afterPrefix longer file p l)
   pub after : l′ ≡ header.filled (afterPrefix longer file p l) l
 
+-- reading a file of which only the first bytes are held if it is longer
 pub record ReadsHeld (longer : Bool) (file : List ℕ) (l : Lent) (x : HeaderRead) (l′ : Lent) : Type 0 where
   pub answered : answer x ≡ each headerInfo (heldInto longer file l)
   pub after : l′ ≡ header.filled (heldInto longer file l) l

@@ -60,6 +60,7 @@ pub record PlanOf (text : List ℕ) (at : ℕ) (p : FoundRecord) (r : Record) : 
   pub typed : DescrOf text at (p .descr) (r .dtype)
   pub within : limited r ≡ gives r
 
+-- the answer for a text whose value begins at `at`: the plan of the record, or the refusal's own number
 abbrev pub JudgedIs : (text : List ℕ) (at : ℕ) → Judged → Outcome Record → Type 0
 JudgedIs text at (Judged.Fits p) (gives r) = PlanOf text at p r
 JudgedIs text at (Judged.Fits p) (refused n) = ⊥

@@ -10,13 +10,16 @@ use Rattle.shape_verdict.specs.Outline.{overIn}
 use Rattle.descr_totals.specs.declared.Totals.{Totals}
 use Rattle.judge_limits.specs.declared.Limit.{Limit}
 
+-- the limits are kept, or the number of the first that is not
 abbrev pub limitAnswer : Limit → Outcome Unit
 limitAnswer Limit.Kept = gives tt
 limitAnswer (Limit.Refused why) = refused (numberOf why)
 
+-- 13, "over 32 dimensions in a shape": of the shape itself, once it has been read
 abbrev pub rankLimit : Outline → Outcome Unit
 rankLimit x = unless (ltb 32 (x .rank)) 13 (gives tt)
 
+-- "then 13 for sub-shapes, 20, 21, 22": 20 is "over 512 entries or 65,536 bytes of field names", 21 "no `O`, and some entry's size over 2^64-1"
 abbrev pub limitsOf : Order → Outline → Totals → Outcome Unit
 limitsOf o x t =
     unless (t .«over_levels») 13
