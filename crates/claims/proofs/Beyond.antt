@@ -30,6 +30,7 @@ use Rattle.record.specs.Header as header
 use Rattle.record.specs.File.{fileOf}
 use Rattle.record.specs.Writing.{writing, placed}
 use Rattle.judge.specs.Judged.{reading}
+use Rattle.judge.proofs.Top.{reading-keeps}
 use Rattle.check_record.specs.Checked.{checkedRecord}
 use Rattle.header.specs.declared.RecordInfo.{RecordInfo}
 use Rattle.header.specs.declared.Header.{Header}
@@ -130,19 +131,18 @@ strides-rest o s out n (refused k) e = refused-gives e
 pub rest-unchanged : Rest-unchanged
 rest-unchanged =
     record {
-      read = λ file l l′ h x. header-rest h l l′ (header.headerInto reading file l) (x .answered) (x .after);
-      read-held = λ longer file l l′ h x. header-rest h l l′ (heldInto longer file l) (x .answered) (x .after);
-      read-text = λ text l l′ info x. text-rest info l l′ (textInto text l) (x .answered) (x .after);
-      write-header = λ t ns s o room w room′ n h e. ap (drop n) (h .room-after) ∙ header-placed-rest t ns s o room n (sym (h .answered) ∙ e);
-      list = λ v start t ns s o room x room′ n h e. ap (drop n) (h .after) ∙ listed-rest v start room n (checkedRecord t ns s o) (sym (h .answered) ∙ e);
-      report = λ file room x room′ n h e. ap (drop n) (h .after) ∙ printed-rest (reportOf file) room n (sym (h .answered) ∙ e);
-      read-bytes = λ t run room x room′ n h e. owed _ room _ room′ n h e;
-      read-points = λ t run room x room′ n h e. owed _ room _ room′ n h e;
-      write-bytes = λ t value room x room′ n h e. owed _ room _ room′ n h e;
-      write-points = λ t value room x room′ n h e. owed _ room _ room′ n h e;
-      element-bytes = λ file start t ns s o x p room y room′ n h e. owed _ room _ room′ n h e;
-      element-points = λ file start t ns s o x p room y room′ n h e. owed _ room _ room′ n h e;
-      print = λ t room x room′ n h e. ap (drop n) (h .room-after) ∙ typed-rest t room n (sym (h .answered) ∙ e);
-      encode = λ value room x room′ n h e. ap (drop n) (h .room-after) ∙ encoded-rest value room n (sym (h .answered) ∙ e);
-      strides = λ o s out x out′ n h e. ap (drop (length s)) (h .out-after) ∙ strides-rest o s out n (strides.stridesCount o s (length out)) (sym (h .answered) ∙ e);
+      read-held = λ longer file l l′ h x. header-rest h l l′ (heldInto longer file l) (x .answered reading reading-keeps) (x .after reading reading-keeps);
+      read-text = λ text l l′ info x. text-rest info l l′ (textInto text l) (x .answered reading reading-keeps) (x .after reading reading-keeps);
+      write-header = λ t ns s o out w out′ n h e. ap (drop n) (h .writes .room-after) ∙ header-placed-rest t ns s o out n (sym (h .writes .answered) ∙ e);
+      list = λ v start t ns s o out x out′ n h e. ap (drop n) (h .after) ∙ listed-rest v start out n (checkedRecord t ns s o) (sym (h .answered) ∙ e);
+      report = λ file out x out′ n h e. let w = h reading reading-keeps in ap (drop n) (w .after) ∙ printed-rest _ out n (sym (w .answered) ∙ e);
+      read-bytes = λ run t out x out′ n h e. owed _ out _ out′ n h e;
+      read-points = λ run t out x out′ n h e. owed _ out _ out′ n h e;
+      write-bytes = λ t value out x out′ n h e. owed _ out _ out′ n h e;
+      write-points = λ t value out x out′ n h e. owed _ out _ out′ n h e;
+      element-bytes = λ file start t ns s o x p out y out′ n h e. owed _ out _ out′ n h e;
+      element-points = λ file start t ns s o x p out y out′ n h e. owed _ out _ out′ n h e;
+      print = λ t out x out′ n h e. ap (drop n) (h .room-after) ∙ typed-rest t out n (sym (h .answered) ∙ e);
+      encode = λ value out x out′ n h e. ap (drop n) (h .room-after) ∙ encoded-rest value out n (sym (h .answered) ∙ e);
+      strides = λ s o out x out′ n h e. ap (drop (length s)) (h .out-after) ∙ strides-rest o s out n (strides.stridesCount o s (length out)) (sym (h .answered) ∙ e);
     }

@@ -19,6 +19,7 @@ use Rattle.record.specs.Version.{versionOf}
 use Rattle.record.specs.Rooms.{Lent, holding}
 use Rattle.record.specs.Header as record-of-file
 use Rattle.judge.specs.Judged.{reading}
+use Rattle.judge.proofs.Top.{reading-keeps}
 use Rattle.check_record.specs.Answer.{summary}
 use Rattle.check_record.specs.Checked.{checkedRecord}
 use Rattle.place_item.specs.Item.{itemOf}
@@ -33,13 +34,12 @@ use Rattle.npy_codes.specs.Numbers.{orderFor, typeFor}
 use Rattle.npy_codes.specs.Values.{typeValues, textValues, headerValues, summaryValues, runValues}
 use Rattle.npy.specs.Calls.{Puts}
 use Rattle.claims.specs.Beyond.{Same-rest}
-use Rattle.claims.specs.Codes.{Tells-alone, Coded, Zero-answers, Rest-in-C}
+use Rattle.claims.specs.Codes.{Coded, Zero-answers, Rest-in-C}
 use Rattle.claims.proofs.Numbers.{
   Numbered,
   then-numbered,
   each-numbered,
   type-numbered,
-  header-numbered,
   held-header-numbered,
   text-numbered,
   for-numbered,
@@ -64,9 +64,6 @@ use Rattle.claims.proofs.Refusals.{by-outcome, typed-left, header-left,
 use Rattle.claims.proofs.Beyond.{holding-rest, owed, typed-rest, listed-rest, header-placed-rest, strides-rest}
 
 -- ---- the code
-pub tells-alone : {A : Type 0} (values : A → List ℕ) (o : Outcome A) (said : List ℕ) → Tells-alone values o said
-tells-alone values o said r said′ n t e = (t .answered ∙ ap code e, t .after ∙ ap (λ x. left values x said) e)
-
 module _ {A M : Type 0} (values : A → List ℕ) {before after : M} {said said′ : List ℕ} {r : ℕ} where
   pub coded : (o : Outcome A) → Numbered o → Tells values o said r said′ → ((n : ℕ) → o ≡ refused n → said′ ≡ said → after ≡ before) → Coded values o before r after said′
   coded (gives a) h t k = record { zero = λ z. (a, refl, t .after); other = λ z. absurd (z (t .answered)) }
@@ -106,22 +103,19 @@ puts-coded put room count r room′ count′ h c =
 pub zero-answers : Zero-answers
 zero-answers =
     record {
-      npy-read = λ file l said r new told c.
-          beside headerValues _ l new said told r (each-numbered header.headerInfo _ (header-numbered file l)) (c .told)
-          (λ n e. c .rooms ∙ by-outcome header.headerInfo (λ o. record-of-file.filled o l) l (λ k. refl) (record-of-file.headerInto reading file l) n e);
-      npy-read-held = λ longer file l said r new told c.
-          beside headerValues _ l new said told r (each-numbered header.headerInfo _ (held-header-numbered longer file l)) (c .told)
-          (λ n e. c .rooms ∙ by-outcome header.headerInfo (λ o. record-of-file.filled o l) l (λ k. refl) (header.heldInto longer file l) n e);
-      npy-read-text = λ text l said r new told c.
-          beside textValues _ l new said told r (each-numbered header.infoOf _ (text-numbered text l)) (c .told)
-          (λ n e. c .rooms ∙ by-outcome header.infoOf (λ o. header.filled o l) l (λ k. refl) (header.textInto text l) n e);
+      npy-read-held = λ longer file l said reading keeps r new told c.
+          beside headerValues _ l new said told r (each-numbered header.headerInfo _ (held-header-numbered reading longer file l)) (c .answered reading keeps)
+          (λ n e. c .after reading keeps ∙ by-outcome header.headerInfo (λ o. record-of-file.filled o l) l (λ k. refl) (header.heldBy reading longer file l) n e);
+      npy-read-text = λ text l said reading keeps r new told c.
+          beside textValues _ l new said told r (each-numbered header.infoOf _ (text-numbered reading text l)) (c .answered reading keeps)
+          (λ n e. c .after reading keeps ∙ by-outcome header.infoOf (λ o. header.filled o l) l (λ k. refl) (header.textBy reading text l) n e);
       npy-check = λ t ns s order said r x c.
           told-coded summaryValues _ said r x
-          (then-numbered (orderFor order) (λ o. each summary (checkedRecord t ns s o)) (for-numbered order) (λ o. each-numbered summary _ (record-checked-numbered t ns s o))) c;
+          (then-numbered (orderFor order) (λ o. each summary (checkedRecord t ns s o)) (for-numbered order) (λ o. each-numbered summary _ (record-checked-numbered t ns s o))) (c .answered);
       npy-write-header = λ t ns s order room count r new told c.
           beside alone _ room new count told r
-          (then-numbered (orderFor order) (λ o. headerWritten t ns s o room) (for-numbered order) (λ o. header-written-numbered t ns s o room)) (c .told)
-          (λ n e. c .room-after ∙ given-left _ (λ o. headerPlaced t ns s o room) room (orderFor order) (λ o k f. header-left t ns s o room k f) n e);
+          (then-numbered (orderFor order) (λ o. headerWritten t ns s o room) (for-numbered order) (λ o. header-written-numbered t ns s o room)) (c .writes .told)
+          (λ n e. c .writes .room-after ∙ given-left _ (λ o. headerPlaced t ns s o room) room (orderFor order) (λ o k f. header-left t ns s o room k f) n e);
       npy-list = λ version start t ns s order room count r new told c.
           beside alone _ room new count told r
           (then-numbered (versionOf version 0) (λ v. then (orderFor order) (λ o. listed v start t ns s o room)) (version-for-numbered version)
@@ -146,10 +140,10 @@ zero-answers =
           puts-coded _ room count r new told (then-numbered (orderFor order) _ (for-numbered order) (λ o. element-bytes-numbered file start t ns s o i p room)) c;
       npy-element-points = λ file start t ns s order i p room count r new told c.
           puts-coded _ room count r new told (then-numbered (orderFor order) _ (for-numbered order) (λ o. element-points-numbered file start t ns s o i p room)) c;
-      npy-read-bytes = λ order letter size units run room count r new told c.
+      npy-read-bytes = λ run order letter size units room count r new told c.
           puts-coded _ room count r new told
           (then-numbered (typeFor order letter size units) _ (type-for-numbered order letter size units) (λ t. read-bytes-numbered t run room)) c;
-      npy-read-points = λ order letter size units run room count r new told c.
+      npy-read-points = λ run order letter size units room count r new told c.
           puts-coded _ room count r new told
           (then-numbered (typeFor order letter size units) _ (type-for-numbered order letter size units) (λ t. read-points-numbered t run room)) c;
       npy-write-bytes = λ order letter size units value room count r new told c.
@@ -213,13 +207,14 @@ strides-given s room (refused n) = refl
 pub rest-in-c : Rest-in-C
 rest-in-c =
     record {
-      npy-read = λ file l l′ said r t c. header-rest-told t said l l′ (record-of-file.headerInto reading file l) (c .told .after) (c .rooms);
-      npy-read-held = λ longer file l l′ said r t c. header-rest-told t said l l′ (header.heldInto longer file l) (c .told .after) (c .rooms);
-      npy-read-text = λ text l l′ said r t c. text-rest-told t said l l′ (header.textInto text l) (c .told .after) (c .rooms);
+      npy-read-held = λ longer file l l′ said r t c.
+          header-rest-told t said l l′ (header.heldInto longer file l) (c .answered reading reading-keeps .after) (c .after reading reading-keeps);
+      npy-read-text = λ text l l′ said r t c.
+          text-rest-told t said l l′ (header.textInto text l) (c .answered reading reading-keeps .after) (c .after reading reading-keeps);
       npy-write-header = λ t ns s order room count r room′ n c.
           spares _ room room′ count n
-          (λ m e. ap (drop m) (c .room-after) ∙ given-rest _ (λ o. headerPlaced t ns s o room) room (orderFor order) (λ o k f. header-placed-rest t ns s o room k f) m e)
-          (λ k e. c .room-after ∙ given-left _ (λ o. headerPlaced t ns s o room) room (orderFor order) (λ o j f. header-left t ns s o room j f) k e) (c .told .after);
+          (λ m e. ap (drop m) (c .writes .room-after) ∙ given-rest _ (λ o. headerPlaced t ns s o room) room (orderFor order) (λ o k f. header-placed-rest t ns s o room k f) m e)
+          (λ k e. c .writes .room-after ∙ given-left _ (λ o. headerPlaced t ns s o room) room (orderFor order) (λ o j f. header-left t ns s o room j f) k e) (c .writes .told .after);
       npy-list = λ version start t ns s order room count r room′ n c.
           spares _ room room′ count n
           (λ m e. ap (drop m) (c .room-after)

@@ -19,6 +19,7 @@ use Rattle.record.specs.Version.{Version}
 use Rattle.record.specs.Header as record-of-file
 use Rattle.record.specs.Writing.{writing, placed}
 use Rattle.judge.specs.Judged.{reading}
+use Rattle.judge.proofs.Top.{reading-keeps}
 use Rattle.check_record.specs.Checked.{checkedRecord}
 use Rattle.header.specs.Reads as header
 use Rattle.write.specs.Writes.{headerWritten, headerPlaced, roomOf}
@@ -85,19 +86,22 @@ encoded-left value room k (refused n) e = refl
 pub unchanged : Unchanged
 unchanged =
     record {
-      read = λ file l x l′ k h e. h .after ∙ by-outcome header.headerInfo (λ o. record-of-file.filled o l) l (λ n. refl) (record-of-file.headerInto reading file l) k (sym (h .answered) ∙ e);
-      read-held = λ longer file l x l′ k h e. h .after ∙ by-outcome header.headerInfo (λ o. record-of-file.filled o l) l (λ n. refl) (header.heldInto longer file l) k (sym (h .answered) ∙ e);
-      read-text = λ text l x l′ k h e. h .after ∙ by-outcome header.infoOf (λ o. header.filled o l) l (λ n. refl) (header.textInto text l) k (sym (h .answered) ∙ e);
-      write-header = λ t ns s o room w room′ k h e. h .room-after ∙ header-left t ns s o room k (sym (h .answered) ∙ e);
-      list = λ v start t ns s o room x room′ k h e. h .after ∙ listed-left v start room k (checkedRecord t ns s o) (sym (h .answered) ∙ e);
-      report = λ file room x room′ k h e. h .after ∙ text-left (reportOf file) room k (sym (h .answered) ∙ e);
-      read-bytes = λ t run room x room′ k h e. owed _ room _ room′ k h e;
-      read-points = λ t run room x room′ k h e. owed _ room _ room′ k h e;
-      write-bytes = λ t value room x room′ k h e. owed _ room _ room′ k h e;
-      write-points = λ t value room x room′ k h e. owed _ room _ room′ k h e;
-      element-bytes = λ file start t ns s o x p room y room′ k h e. owed _ room _ room′ k h e;
-      element-points = λ file start t ns s o x p room y room′ k h e. owed _ room _ room′ k h e;
-      print = λ t room x room′ k h e. h .room-after ∙ typed-left t room k (sym (h .answered) ∙ e);
-      strides = λ o s out x out′ k h e. h .out-after ∙ strides-left (shape.strides o s) out k (strides.stridesCount o s (length out)) (sym (h .answered) ∙ e);
-      encode = λ value room x room′ k h e. h .room-after ∙ encoded-left value room k (scalar.encoding value (length room)) (sym (h .answered) ∙ e);
+      read-held = λ longer file l x l′ k h e.
+          h .after reading reading-keeps
+          ∙ by-outcome header.headerInfo (λ o. record-of-file.filled o l) l (λ n. refl) (header.heldInto longer file l) k (sym (h .answered reading reading-keeps) ∙ e);
+      read-text = λ text l x l′ k h e.
+          h .after reading reading-keeps
+          ∙ by-outcome header.infoOf (λ o. header.filled o l) l (λ n. refl) (header.textInto text l) k (sym (h .answered reading reading-keeps) ∙ e);
+      write-header = λ t ns s o out w out′ k h e. h .writes .room-after ∙ header-left t ns s o out k (sym (h .writes .answered) ∙ e);
+      list = λ v start t ns s o out x out′ k h e. h .after ∙ listed-left v start out k (checkedRecord t ns s o) (sym (h .answered) ∙ e);
+      report = λ file out x out′ k h e. let w = h reading reading-keeps in w .after ∙ text-left _ out k (sym (w .answered) ∙ e);
+      read-bytes = λ run t out x out′ k h e. owed _ out _ out′ k h e;
+      read-points = λ run t out x out′ k h e. owed _ out _ out′ k h e;
+      write-bytes = λ t value out x out′ k h e. owed _ out _ out′ k h e;
+      write-points = λ t value out x out′ k h e. owed _ out _ out′ k h e;
+      element-bytes = λ file start t ns s o x p out y out′ k h e. owed _ out _ out′ k h e;
+      element-points = λ file start t ns s o x p out y out′ k h e. owed _ out _ out′ k h e;
+      print = λ t out x out′ k h e. h .room-after ∙ typed-left t out k (sym (h .answered) ∙ e);
+      strides = λ s o out x out′ k h e. h .out-after ∙ strides-left (shape.strides o s) out k (strides.stridesCount o s (length out)) (sym (h .answered) ∙ e);
+      encode = λ value out x out′ k h e. h .room-after ∙ encoded-left value out k (scalar.encoding value (length out)) (sym (h .answered) ∙ e);
     }
