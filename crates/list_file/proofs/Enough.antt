@@ -68,7 +68,7 @@ module _ (longer : Bool) (file : List ℕ) (l : Lent) where
       go false = part-numbered 3 p file (refl, refl)
 
   -- or it is refused with one of document 01's numbers
-  held-numbered : Numbered (heldInto longer file l)
+  pub held-numbered : Numbered (heldInto longer file l)
   held-numbered =
       then-numbered (prefix file) (λ p. afterPrefix longer file p l) (prefix-numbered file)
       (λ p. then-numbered (textHeld longer p file) _ (text-numbered p)

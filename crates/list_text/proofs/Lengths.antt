@@ -4,8 +4,8 @@ use Prim.Native.Nat.{ℕ, zero, suc, _+_, _*_, _^_, _<_, _≤_}
 use native.Mathlib.Omega.{arith}
 use mathlib.Core.Path.{_≡_, refl, ap}
 use mathlib.Core.Bool.{Bool, true, false, _||_, _&&_, not, cond}
-use lib.Dec.{ltb}
 use mathlib.Core.List.{List, [], _∷_}
+use lib.Dec.{ltb}
 use lib.ListN.{length, drop, length-take}
 use borrow.Author.Tests.{leb-false, ltb-false}
 use Rattle.counts.specs.Outcome.{Outcome, gives, refused}
