@@ -1,12 +1,12 @@
--- Counts of items and of bytes taken out of their answers, and the test whether they are over 2^64-1.
+-- Counts of items and of bytes taken out of their answers, the test whether they are over 2^64-1, and what an entry holds of them.
 use Prim.Native.Nat.{ℕ, _^_, _<_, _≤_}
 use native.Mathlib.Omega.{arith}
 use mathlib.Core.Path.{_≡_, refl, ap, sym, _∙_}
 use mathlib.Core.Logic.{⊎-elim}
 use borrow.Author.Tests.{le-leb, lt-leb}
 use lib.Dec.{leb}
-use Rattle.counts.specs.Number.{number}
-use Rattle.counts.specs.Counts.{items, bytes, itemsOver, bytesOver}
+use Rattle.counts.specs.Number.{number, capped}
+use Rattle.counts.specs.Counts.{items, bytes, itemsOver, bytesOver, asBytes, heldBytes}
 use Rattle.counts.specs.declared.Number.{Number}
 use Rattle.counts.specs.declared.Items.{Items}
 use Rattle.counts.specs.declared.Bytes.{Bytes}
@@ -66,4 +66,14 @@ bytes-test n =
     ⊎-elim
     (λ (l : n < 2 ^ 64). simp (number-is n l, lt-leb (2 ^ 64) n l))
     (λ (l : 2 ^ 64 ≤ n). simp (number-over n l, le-leb (2 ^ 64) n l))
+    (lt-or-ge n (2 ^ 64))
+
+pub bytes-eq : {m n : ℕ} → m ≡ n → asBytes m ≡ asBytes n
+bytes-eq h = ap asBytes h
+
+pub held-bytes : (n : ℕ) → heldBytes (bytes (number n)) ≡ asBytes (capped n)
+held-bytes n =
+    ⊎-elim
+    (λ (l : n < 2 ^ 64). ap (λ (v : Number). heldBytes (bytes v)) (number-is n l) ∙ bytes-eq (omega arith))
+    (λ (l : 2 ^ 64 ≤ n). ap (λ (v : Number). heldBytes (bytes v)) (number-over n l) ∙ bytes-eq (omega arith))
     (lt-or-ge n (2 ^ 64))

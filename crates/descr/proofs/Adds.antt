@@ -11,11 +11,10 @@ use lib.ListN.{length}
 use native.Mathlib.Nat.{mul-suc}
 use borrow.Author.Tests.{leb-true}
 use Rattle.counts.specs.Outcome.{Outcome, gives, refused, then, each, unless}
-use Rattle.counts.specs.Counts.{bytesOver}
-use Rattle.counts.specs.declared.Bytes.{Bytes}
+use Rattle.counts.specs.Counts.{bytesOver, asBytes, heldBytes}
 use Rattle.counts.specs.declared.ByteCount.{ByteCount}
 use Rattle.counts.proofs.Alike.{false-true}
-use Rattle.counts.proofs.Counted.{bytes-test}
+use Rattle.counts.proofs.Counted.{bytes-eq, bytes-test}
 use Rattle.literal_grammar.specs.Value.{Value, Values, string, integer, True, False, None, list, tuple, dict, end-of-values, value-then}
 use Rattle.type_str.specs.declared.TypeStr.{TypeStr}
 use Rattle.type_str.specs.TypeString.{typeString}
@@ -29,9 +28,9 @@ use Rattle.record.proofs.Levels.{arrays-entries, arrays-name-bytes}
 use Rattle.shape_verdict.specs.Outline.{hasZero, afterZero, outlineOf, largestIn}
 use Rattle.shape_verdict.proofs.Levels.{largest-is, arrays-outline, arrays-over, arrays-wide, arrays-object}
 use Rattle.descr_totals.specs.declared.Totals.{Totals}
-use Rattle.descr_totals.specs.Totals.{atMost, largest, heldBytes, nothing, oneEntry, nameTotals, totalsOf, totalsIn, fieldTotals, together, arrayed}
+use Rattle.descr_totals.specs.Totals.{atMost, largest, nothing, oneEntry, nameTotals, totalsOf, totalsIn, fieldTotals, together, arrayed}
 use Rattle.descr_totals.specs.Verdict.{both}
-use Rattle.descr_totals.proofs.Sums.{totals-eq, bytes-eq, over-never, over-not, over-more, held-bytes, cap-front}
+use Rattle.descr_totals.proofs.Sums.{totals-eq, over-never, over-not, over-more, held-bytes, cap-front}
 use Rattle.descr_totals.proofs.Limits.{own-over}
 
 over-front : (n : ℕ) → over (0 + atMost largest n) ≡ false
@@ -174,10 +173,10 @@ cap-right : (m a b : ℕ) → atMost m (a + b) ≡ atMost m (a + atMost m b)
 cap-right m a b = omega arith
 
 held-levels : (ns : List ℕ) (s : ℕ)
-    → _≡_ {A = Bytes} (record { 0 = atMost largest (cond (hasZero ns) 0 (afterZero ns * s)) }) (cond (hasZero ns) (record { 0 = 0 }) (heldBytes (largestIn (outlineOf ns) (atMost largest s))))
+    → asBytes (atMost largest (cond (hasZero ns) 0 (afterZero ns * s))) ≡ cond (hasZero ns) (asBytes 0) (heldBytes (largestIn (outlineOf ns) (atMost largest s)))
 held-levels ns s = go (hasZero ns)
   where
-    go : (t : Bool) → _≡_ {A = Bytes} (record { 0 = atMost largest (cond t 0 (afterZero ns * s)) }) (cond t (record { 0 = 0 }) (heldBytes (largestIn (outlineOf ns) (atMost largest s))))
+    go : (t : Bool) → asBytes (atMost largest (cond t 0 (afterZero ns * s))) ≡ cond t (asBytes 0) (heldBytes (largestIn (outlineOf ns) (atMost largest s)))
     go true = refl
     go false =
         sym (ap (λ (x : ByteCount). heldBytes x) (largest-is ns (atMost largest s)) ∙ (held-bytes (afterZero ns * atMost largest s) ∙ bytes-eq (cap-times (afterZero ns) s)))

@@ -5,24 +5,20 @@ use native.Mathlib.Omega.{arith}
 use mathlib.Core.Path.{_≡_, refl, sym, ap, _∙_}
 use mathlib.Core.Bool.{Bool, true, false, _||_, or-assoc, or-false}
 use lib.Dec.{ltb}
-use borrow.Author.Tests.{leb-true, leb-false, le-leb, lt-leb, ltb-true, ltb-false}
+use borrow.Author.Tests.{leb-true, leb-false, le-leb, lt-leb}
 use Rattle.counts.specs.Outcome.{Outcome, gives, refused}
 use Rattle.counts.specs.Number.{number}
-use Rattle.counts.specs.Counts.{bytes}
-use Rattle.counts.specs.declared.Number.{Number}
+use Rattle.counts.specs.Counts.{bytes, asBytes, heldBytes}
 use Rattle.counts.specs.declared.Bytes.{Bytes}
-use Rattle.counts.proofs.Fits.{number-is, number-over}
+use Rattle.counts.proofs.Counted.{bytes-eq, held-bytes as held}
 use Rattle.dtype.specs.Limits.{over}
 use Rattle.descr_totals.specs.declared.Totals.{Totals}
-use Rattle.descr_totals.specs.Totals.{atMost, largest, heldBytes, nothing, together}
+use Rattle.descr_totals.specs.Totals.{atMost, largest, nothing, together}
 use Rattle.descr_totals.specs.Verdict.{both}
 
 pub totals-eq : {e e′ n n′ : ℕ} {o o′ w w′ v v′ : Bool} {z z′ : Bytes} → e ≡ e′ → n ≡ n′ → o ≡ o′ → w ≡ w′ → v ≡ v′ → z ≡ z′
     → _≡_ {A = Totals} (record { entries = e; names = n; object = o; «over_levels» = w; over = v; size = z }) (record { entries = e′; names = n′; object = o′; «over_levels» = w′; over = v′; size = z′ })
 totals-eq he hn ho hw hv hz = cc
-
-pub bytes-eq : {m n : ℕ} → m ≡ n → _≡_ {A = Bytes} (record { 0 = m }) (record { 0 = n })
-bytes-eq h = cc
 
 -- ---- tests
 pub over-never : (n : ℕ) → n < 2 ^ 64 → over n ≡ false
@@ -37,12 +33,8 @@ over-is n h = le-leb (2 ^ 64) n h
 pub over-more : (a b : ℕ) → a ≤ b → over a ≡ true → over b ≡ true
 over-more a b le h = over-is b (omega (arith, leb-true (2 ^ 64) a h))
 
-pub held-bytes : (n : ℕ) → heldBytes (bytes (number n)) ≡ record { 0 = atMost largest n }
-held-bytes n = go (ltb n (2 ^ 64)) refl
-  where
-    go : (t : Bool) → ltb n (2 ^ 64) ≡ t → heldBytes (bytes (number n)) ≡ record { 0 = atMost largest n }
-    go true h = let lt = ltb-true n (2 ^ 64) h in ap (λ (x : Number). heldBytes (bytes x)) (number-is n lt) ∙ bytes-eq (omega arith)
-    go false h = let le = ltb-false n (2 ^ 64) h in ap (λ (x : Number). heldBytes (bytes x)) (number-over n le) ∙ bytes-eq (omega arith)
+pub held-bytes : (n : ℕ) → heldBytes (bytes (number n)) ≡ asBytes (atMost largest n)
+held-bytes n = held n ∙ bytes-eq (omega arith)
 
 -- ---- caps
 pub cap-assoc : (m a b c : ℕ) → atMost m (atMost m (a + b) + c) ≡ atMost m (a + atMost m (b + c))

@@ -5,9 +5,7 @@ use Prim.Native.Nat.{ℕ, _+_, min}
 use mathlib.Core.Bool.{false, _||_, cond}
 use lib.Dec.{ltb}
 use lib.ListN.{length}
-use Rattle.counts.specs.Counts.{bytesOver}
-use Rattle.counts.specs.declared.Bytes.{Bytes}
-use Rattle.counts.specs.declared.ByteCount.{ByteCount}
+use Rattle.counts.specs.Counts.{bytesOver, asBytes, heldBytes}
 use Rattle.dtype.specs.TypeNumbers.{letterByte}
 use Rattle.dtype.specs.PlainBytes.{isObject}
 use Rattle.dtype.specs.Dtype.{Dtype, Fields, sizeOf, sizesOf}
@@ -27,10 +25,6 @@ atMost most n = min most n
 abbrev pub largest : ℕ
 largest = 18446744073709551615
 
-abbrev pub heldBytes : ByteCount → Bytes
-heldBytes (ByteCount.Is n) = n
-heldBytes ByteCount.Over = record { 0 = largest }
-
 -- of a dtype
 abbrev pub totalsOf : Dtype → Totals
 totalsOf d =
@@ -40,7 +34,7 @@ totalsOf d =
       object = hasObject d;
       «over_levels» = overLevels d;
       over = someOver d;
-      size = record { 0 = atMost largest (sizeOf d) };
+      size = asBytes (atMost largest (sizeOf d));
     }
 
 -- of fields, as they add up to their record's
@@ -52,18 +46,18 @@ totalsIn fs =
       object = someEntryIn (plainOnly (λ t. isObject (letterByte (t .letter)))) fs;
       «over_levels» = someEntryIn (λ e. ltb 32 (levels e)) fs;
       over = someEntryIn (λ e. over (sizeOf e)) fs || over (sizesOf fs);
-      size = record { 0 = atMost largest (sizesOf fs) };
+      size = asBytes (atMost largest (sizesOf fs));
     }
 
 -- of no field, of a record's own entry, and of a name of so many bytes
 abbrev pub nothing : Totals
-nothing = record { entries = 0; names = 0; object = false; «over_levels» = false; over = false; size = record { 0 = 0 } }
+nothing = record { entries = 0; names = 0; object = false; «over_levels» = false; over = false; size = asBytes 0 }
 
 abbrev pub oneEntry : Totals
-oneEntry = record { entries = 1; names = 0; object = false; «over_levels» = false; over = false; size = record { 0 = 0 } }
+oneEntry = record { entries = 1; names = 0; object = false; «over_levels» = false; over = false; size = asBytes 0 }
 
 abbrev pub nameTotals : ℕ → Totals
-nameTotals n = record { entries = 0; names = atMost 65537 n; object = false; «over_levels» = false; over = false; size = record { 0 = 0 } }
+nameTotals n = record { entries = 0; names = atMost 65537 n; object = false; «over_levels» = false; over = false; size = asBytes 0 }
 
 -- of two, one after the other
 unfoldable pub together : Totals → Totals → Totals
@@ -74,7 +68,7 @@ together t u =
       object = t .object || u .object;
       «over_levels» = t .«over_levels» || u .«over_levels»;
       over = (t .over || u .over) || over (t .size .0 + u .size .0);
-      size = record { 0 = atMost largest (t .size .0 + u .size .0) };
+      size = asBytes (atMost largest (t .size .0 + u .size .0));
     }
 
 -- of a field: its name, and then its type
@@ -90,5 +84,5 @@ arrayed o t =
       object = t .object;
       «over_levels» = ltb 32 (o .rank) || t .«over_levels»;
       over = bytesOver (largestIn o (t .size .0)) || t .over;
-      size = cond (o .empty) (record { 0 = 0 }) (heldBytes (largestIn o (t .size .0)));
+      size = cond (o .empty) (asBytes 0) (heldBytes (largestIn o (t .size .0)));
     }

@@ -1,6 +1,5 @@
 // The verdict on a descr, put together from those on its parts (document 01, "The record": "An array has n times its inner size; a record has the sum"): what the later
 // refusals 13, 20 and 21 need of it, or the first of 11, 12 and 14 to 19 that applies. Called by descr_field and descr, which walk over a header's text.
-use counts::ByteCount;
 use counts::Bytes;
 use counts::Number;
 use counts::sum;
@@ -16,10 +15,11 @@ ghost use mathlib.Core.Path.{_≡_};
 ghost use mathlib.Core.Bool.{cond};
 ghost use Prim.Native.Nat.{_+_};
 ghost use Rattle.counts.specs.Outcome.{each, then};
+ghost use Rattle.counts.specs.Counts.{asBytes};
 ghost use Rattle.dtype.specs.Dtype.{plain as plainType};
 ghost use Rattle.type_str.specs.Answer.{answer};
 ghost use Rattle.shape_verdict.specs.Answer.{outlined};
-ghost use Rattle.descr_totals.specs.Totals.{atMost, heldBytes, together, arrayed as arrayedBy, totalsOf, nameTotals};
+ghost use Rattle.descr_totals.specs.Totals.{atMost, together, arrayed as arrayedBy, totalsOf, nameTotals};
 ghost use Rattle.descr_totals.specs.Verdict.{verdict, both};
 
 // Entries and name bytes are counted up to the first number that is over their limit.
@@ -60,16 +60,6 @@ fn add(a: u64, b: u64, most: u64) -> u64
     }
 }
 
-// So many bytes, 2^64-1 where they are over that.
-fn held(n: ByteCount) -> Bytes
-    ensures { λ r. ⌜ r ≡ heldBytes n ⌝ }
-{
-    match n {
-        ByteCount::Is(n) => n,
-        ByteCount::Over => Bytes(u64::MAX),
-    }
-}
-
 // The totals of two parts together.
 fn plus(a: Totals, b: Totals) -> Totals
     ensures { λ r. ⌜ r ≡ together a b ⌝ }
@@ -82,13 +72,13 @@ fn plus(a: Totals, b: Totals) -> Totals
         object: a.object | b.object,
         over_levels: a.over_levels | b.over_levels,
         over: a.over | b.over | size.is_over(),
-        size: held(size),
+        size: size.held(),
     }
 }
 
 // The size, 0 where a dimension is 0.
 fn unless_empty(empty: bool, size: Bytes) -> Bytes
-    ensures { λ r. ⌜ r ≡ cond empty (record { 0 = 0 }) size ⌝ }
+    ensures { λ r. ⌜ r ≡ cond empty (asBytes 0) size ⌝ }
 {
     if empty { Bytes(0) } else { size }
 }
@@ -104,7 +94,7 @@ fn arrays(shape: Outline, of: Totals) -> Totals
         object: of.object,
         over_levels: (MOST_DIMENSIONS < shape.rank) | of.over_levels,
         over: size.is_over() | of.over,
-        size: unless_empty(shape.empty, held(size)),
+        size: unless_empty(shape.empty, size.held()),
     }
 }
 

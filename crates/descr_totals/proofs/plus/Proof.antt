@@ -2,10 +2,10 @@
 use Prim.Native.Nat.{_+_}
 use mathlib.Core.Path.{refl, ap, _∙_}
 use mathlib.Core.Bool.{Bool, _||_}
-use Rattle.counts.specs.Counts.{bytesOver}
+use Rattle.counts.specs.Counts.{bytesOver, heldBytes}
 use Rattle.counts.specs.declared.ByteCount.{ByteCount}
 use Rattle.counts.proofs.Counted.{bytes-test}
-use Rattle.descr_totals.specs.Totals.{heldBytes, together}
+use Rattle.descr_totals.specs.Totals.{together}
 use Rattle.descr_totals.proofs.Sums.{totals-eq, held-bytes}
 use borrow.Author.Needs.{needs}
 use Rattle.descr_totals.proofs.plus.Statement.{statement}
