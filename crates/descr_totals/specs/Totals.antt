@@ -21,7 +21,7 @@ use Rattle.descr_totals.specs.declared.Totals.{Totals}
 abbrev pub atMost : (most n : ℕ) → ℕ
 atMost most n = min most n
 
--- the number of a u64, the largest where it is over
+-- the largest number of a u64
 abbrev pub largest : ℕ
 largest = 18446744073709551615
 

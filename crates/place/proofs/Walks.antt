@@ -11,10 +11,10 @@ use lib.ListN.{length, getD, drop, length-drop, drop-of-length-le}
 use lib.Seq.{drop-cons}
 use Rattle.counts.specs.Outcome.{gives, refused}
 use Rattle.counts.specs.Number.{number}
-use Rattle.counts.specs.Counts.{bytes as asBytes}
+use Rattle.counts.specs.Counts.{bytes as byteCount, asBytes}
 use Rattle.counts.specs.declared.Bytes.{Bytes}
 use Rattle.counts.specs.declared.ByteCount.{ByteCount}
-use Rattle.counts.proofs.Counted.{bytes-back, bytes-over}
+use Rattle.counts.proofs.Counted.{bytes-back, bytes-over, bytes-eq}
 use Rattle.counts.proofs.Sides.{lt-or-ge}
 use Rattle.type_str.specs.declared.TypeStr.{TypeStr}
 use Rattle.type_str.specs.Text.{isType}
@@ -67,7 +67,7 @@ pub skipping-start : (t : List ℕ) (e i : ℕ) → Skipping t e i (e + 1) 0 0
 skipping-start t e i = record { within = omega arith; at = omega arith; is = refl }
 
 pub skipping-next : (t : List ℕ) (e i c bytes k : ℕ) → Skipping t e i c bytes k → k < i → (x : Entry) → x ≡ entryAt t c
-    → (more : Bytes) → ByteCount.Is more ≡ asBytes (number (bytes + x .bytes)) → Skipping t e i (c + x .extent) (more .0) (k + 1)
+    → (more : Bytes) → ByteCount.Is more ≡ byteCount (number (bytes + x .bytes)) → Skipping t e i (c + x .extent) (more .0) (k + 1)
 skipping-next t e i c bytes k s l x q more m =
     let z : k + 1 ≡ suc k = omega arith in
     let b = bytes-back (bytes + x .bytes) more m .0 in
@@ -96,19 +96,16 @@ skipping-turn t e i c bytes k s l (fs, w, g) x q =
     }
 
 -- so no sum is over
-pub skipping-over : {A : Type 0} (t : List ℕ) (c bytes : ℕ) (x : Entry) → Turn t c bytes x → ByteCount.Over ≡ asBytes (number (bytes + x .bytes)) → A
+pub skipping-over : {A : Type 0} (t : List ℕ) (c bytes : ℕ) (x : Entry) → Turn t c bytes x → ByteCount.Over ≡ byteCount (number (bytes + x .bytes)) → A
 skipping-over t c bytes x u o = absurd (omega (arith, u .fits, bytes-over (bytes + x .bytes) o))
 
 pub skipping-end : (t : List ℕ) (e i c : ℕ) (before : Bytes) (k : ℕ) → Skipping t e i c (before .0) k → i ≤ k
-    → Led.To (record { entry = c; before = before }) ≡ Led.To (record { entry = fieldAt t i (suc e); before = record { 0 = fieldBytes t i (suc e) } })
+    → Led.To (record { entry = c; before = before }) ≡ Led.To (record { entry = fieldAt t i (suc e); before = asBytes (fieldBytes t i (suc e)) })
 skipping-end t e i c before k s l =
     let z : k ≡ i = omega (arith, s .within) in
     let a : c ≡ fieldAt t i (suc e) = rw (← z) (s .at) in
-    let b : before ≡ record { 0 = fieldBytes t i (suc e) } = bytes-same (rw (← z) (s .is)) in
+    let b : before ≡ asBytes (fieldBytes t i (suc e)) = bytes-eq (rw (← z) (s .is)) in
     cc
-  where
-    bytes-same : {n : ℕ} → before .0 ≡ n → before ≡ record { 0 = n }
-    bytes-same h = ap (λ (n : ℕ). record { 0 = n }) h
 
 -- ---- one step
 module _ (t : List ℕ) (e i : ℕ) (x : Entry) (q : x ≡ entryAt t e) where
@@ -131,12 +128,12 @@ module _ (t : List ℕ) (e i : ℕ) (x : Entry) (q : x ≡ entryAt t e) where
         rw (z, v) r
     leads-into k y w (record-of fs) s = absurd (omega (arith, ap (λ (a : Entry). a .kind) (entry-is (record-of fs) s)))
 
-    pub into : x .kind ≡ 1 → (y : Entry) → y ≡ entryAt t (e + 1) → (before : Bytes) → ByteCount.Is before ≡ asBytes (number (i * y .bytes)) → (d : Dtype) → ListedSized t e d
+    pub into : x .kind ≡ 1 → (y : Entry) → y ≡ entryAt t (e + 1) → (before : Bytes) → ByteCount.Is before ≡ byteCount (number (i * y .bytes)) → (d : Dtype) → ListedSized t e d
         → Steps t e d i (Led.To (record { entry = e + 1; before = before }))
     into k y w before b d s = rw (← bytes-back (i * y .bytes) before b .0) (leads-into k y w d s)
 
     -- the offset is not over
-    pub into-over : x .kind ≡ 1 → (y : Entry) → y ≡ entryAt t (e + 1) → ByteCount.Over ≡ asBytes (number (i * y .bytes)) → (d : Dtype) → ListedSized t e d → Steps t e d i Led.Nowhere
+    pub into-over : x .kind ≡ 1 → (y : Entry) → y ≡ entryAt t (e + 1) → ByteCount.Over ≡ byteCount (number (i * y .bytes)) → (d : Dtype) → ListedSized t e d → Steps t e d i Led.Nowhere
     into-over k y w o d s p = let r = leads-into k y w d s in absurd (omega (arith, r .inside, size-fits d (s .none-over), bytes-over (i * y .bytes) o))
 
     -- what `skip` asks, and what it gives
@@ -146,7 +143,7 @@ module _ (t : List ℕ) (e i : ℕ) (x : Entry) (q : x ≡ entryAt t e) where
     skip-asks p r (record-of fs, s) = (fs, s, omega (arith, ap (λ (a : Entry). a .number) (entry-is (record-of fs) s)))
 
     pub to-field : (x .kind ≡ 0 → ⊥) → (x .kind ≡ 1 → ⊥) → (y : Led)
-        → y ≡ Led.To (record { entry = fieldAt t i (suc e); before = record { 0 = fieldBytes t i (suc e) } }) → (d : Dtype) → ListedSized t e d → Steps t e d i y
+        → y ≡ Led.To (record { entry = fieldAt t i (suc e); before = asBytes (fieldBytes t i (suc e)) }) → (d : Dtype) → ListedSized t e d → Steps t e d i y
     to-field p r y w (plain ty) s = absurd (p (ap (λ (a : Entry). a .kind) (entry-is (plain ty) s)))
     to-field p r y w (array n d) s = absurd (r (ap (λ (a : Entry). a .kind) (entry-is (array n d) s)))
     to-field p r y w (record-of fs) s =
@@ -199,10 +196,10 @@ module _ (t path : List ℕ) (e before k : ℕ) (w : Walking t path e before k) 
           let r = w .goes root h s in
           omega (arith, r .inside, leads (r .d) (r .stands) .inside, size-fits root s)
 
-      pub walking-over : {A : Type 0} → (d : Dtype) × (t ≡ table d) × (someOver d ≡ false) → ByteCount.Over ≡ asBytes (number (before + spot .before .0)) → A
+      pub walking-over : {A : Type 0} → (d : Dtype) × (t ≡ table d) × (someOver d ≡ false) → ByteCount.Over ≡ byteCount (number (before + spot .before .0)) → A
       walking-over g o = absurd (omega (arith, walking-fits g, bytes-over (before + spot .before .0) o))
 
-      pub walking-next : (more : Bytes) → ByteCount.Is more ≡ asBytes (number (before + spot .before .0)) → Walking t path (spot .entry) (more .0) (k + 1)
+      pub walking-next : (more : Bytes) → ByteCount.Is more ≡ byteCount (number (before + spot .before .0)) → Walking t path (spot .entry) (more .0) (k + 1)
       walking-next more m =
           let z : k + 1 ≡ suc k = omega arith in
           rw (← bytes-back (before + spot .before .0) more m .0)

@@ -14,6 +14,7 @@ ghost use mathlib.Core.Path.{_≡_};
 ghost use mathlib.Core.Bool.{false};
 ghost use mathlib.Core.List.{List};
 ghost use Prim.Native.Nat.{ℕ, suc, _<_};
+ghost use Rattle.counts.specs.Counts.{asBytes};
 ghost use Rattle.dtype.specs.Dtype.{Dtype, Fields, record-of};
 ghost use Rattle.dtype.specs.Entries.{fieldCount};
 ghost use Rattle.dtype.specs.Record.{table as tableFor};
@@ -157,7 +158,7 @@ fn step(table: &[u64], e: usize, i: u64) -> Led
 // Field i of the record at entry e.
 fn skip(table: &[u64], e: usize, i: u64) -> Led
     requires { ⌜ ((fs : Fields) × ListedSized (now table) e (record-of fs) × (i < fieldCount fs)) ⌝ }
-    ensures { λ r. ⌜ r ≡ Led.To (record { entry = fieldAt (now (table .entry)) i (suc e); before = record { 0 = fieldBytes (now (table .entry)) i (suc e) } }) ⌝ }
+    ensures { λ r. ⌜ r ≡ Led.To (record { entry = fieldAt (now (table .entry)) i (suc e); before = asBytes (fieldBytes (now (table .entry)) i (suc e)) }) ⌝ }
 {
     let mut c = e + 1;
     let mut before = Bytes(0);
