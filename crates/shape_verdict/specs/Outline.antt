@@ -5,7 +5,7 @@
 -- proofs/Orders.antt.
 use Prim.Native.Nat.{ℕ, _+_, _*_}
 use mathlib.Core.List.{List, [], _∷_}
-use mathlib.Core.Bool.{Bool, true, false, _||_, cond}
+use mathlib.Core.Bool.{Bool, false, _||_, cond}
 use lib.Dec.{eqb}
 use lib.ListN.{length}
 use Rattle.counts.specs.Number.{number, capped}
