@@ -9,9 +9,8 @@ use Rattle.dtype.specs.Limits.{over}
 use Rattle.dtype.specs.Agrees.{entryAt, Agrees, Agrees-as, Record-agrees}
 use Rattle.dtype.specs.Seen.{fieldBytes, overAt}
 use Rattle.dtype.specs.declared.Entry.{Entry}
-use Rattle.counts.specs.Counts.{bytes}
-use Rattle.check_scan.specs.Over.{isOver}
-use Rattle.check_scan.proofs.Over.{over-number}
+use Rattle.counts.specs.Counts.{bytes, bytesOver}
+use Rattle.counts.proofs.Counted.{bytes-test}
 
 module _ (t : List ℕ) (n e : ℕ) (x : Entry) (s : x ≡ entryAt t e) where
   kind-is : (k : ℕ) → x .kind ≡ k → entryAt t e .kind ≡ k
@@ -20,11 +19,11 @@ module _ (t : List ℕ) (n e : ℕ) (x : Entry) (s : x ≡ entryAt t e) where
   pub plain-size : x .kind ≡ 0 → over (bytesFor (x .letter) (x .number)) ≡ overAt t e
   plain-size h = rw (kind-is 0 h, s)
 
-  pub array-size : x .kind ≡ 1 → (y : Entry) → y ≡ entryAt t (e + 1) → isOver (bytes (number (x .number * y .bytes))) ≡ overAt t e
+  pub array-size : x .kind ≡ 1 → (y : Entry) → y ≡ entryAt t (e + 1) → bytesOver (bytes (number (x .number * y .bytes))) ≡ overAt t e
   array-size h y q =
       let z : e + 1 ≡ suc e = omega arith in
       let p : y ≡ entryAt t (suc e) = rw z at q in
-      over-number (x .number * y .bytes) ∙ rw (kind-is 1 h, s, p)
+      bytes-test (x .number * y .bytes) ∙ rw (kind-is 1 h, s, p)
 
   -- an entry that is neither plain nor an array is a record's
   pub is-record : (x .kind ≡ 0 → ⊥) → (x .kind ≡ 1 → ⊥) → Agrees t n e → (entryAt t e .kind ≡ 2) × Record-agrees t n e

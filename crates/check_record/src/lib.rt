@@ -1,8 +1,8 @@
 // The check of a caller's record that every function over a record makes first (document 01, "The refusal numbers": 27, 13, 20, 21, 22, in this order): `check_dtype` for
 // the dtype beside a shape, then 22 in `check`. Called before places, elements, writing and listing, and by the C interface.
+use counts::ByteCount;
 use counts::Bytes;
 use counts::Items;
-use counts::Number;
 use dtype::MOST_DIMENSIONS;
 use dtype::MOST_ENTRIES;
 use dtype::MOST_NAMES;
@@ -137,7 +137,8 @@ fn entry_over(table: &[u64], n: usize, e: usize) -> bool
     if entry.kind == dtype::ARRAY {
         let inner = table_entry::entry_at(table, e + 1);
         let count = Items(entry.number);
-        return check_scan::is_over(count.of_size(Bytes(inner.bytes)));
+        let bytes = count.of_size(Bytes(inner.bytes));
+        return bytes.is_over();
     }
     fields_over(table, n, e)
 }
@@ -149,11 +150,11 @@ fn fields_over(table: &[u64], n: usize, e: usize) -> bool
 {
     let entry = table_entry::entry_at(table, e);
     let mut c = e + 1;
-    let mut bytes: u64 = 0;
+    let mut bytes = Bytes(0);
     let mut left = entry.number;
     while 0 < left {
         let field = table_entry::entry_at(table, c);
-        let Number::Is(more) = counts::sum(bytes, field.bytes) else {
+        let ByteCount::Is(more) = bytes.plus(Bytes(field.bytes)) else {
             return true;
         };
         bytes = more;

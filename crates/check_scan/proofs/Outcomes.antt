@@ -5,12 +5,10 @@ use mathlib.Core.Bool.{Bool}
 use mathlib.Core.List.{List}
 use lib.Dec.{ltb}
 use Rattle.counts.specs.OneOutcome.{OneOutcome}
-use Rattle.counts.specs.declared.ByteCount.{ByteCount}
 use Rattle.counts.proofs.OneOutcome.{by-equation}
 use Rattle.dtype.specs.PlainBytes.{bytesFor}
 use Rattle.dtype.specs.Limits.{over}
 use Rattle.dtype.specs.Seen.{someFrom, objectAt, arraysFrom}
-use Rattle.check_scan.specs.Over.{isOver}
 
 pub too-deep-one : (t : List ℕ) (n : ℕ) → OneOutcome {A = Bool} (λ r. r ≡ someFrom (λ e. ltb 32 (arraysFrom t (n - e) e)) n 0)
 too-deep-one t n = by-equation (someFrom (λ e. ltb 32 (arraysFrom t (n - e) e)) n 0)
@@ -20,6 +18,3 @@ has-object-one t n = by-equation (someFrom (objectAt t) n 0)
 
 pub plain-over-one : (letter size : ℕ) → OneOutcome {A = Bool} (λ r. r ≡ over (bytesFor letter size))
 plain-over-one letter size = by-equation (over (bytesFor letter size))
-
-pub is-over-one : (n : ByteCount) → OneOutcome {A = Bool} (λ r. r ≡ isOver n)
-is-over-one n = by-equation (isOver n)

@@ -1,20 +1,17 @@
 -- 21 as the code tests it: objects, and counts of bytes that may be `Over`.
-use Prim.Native.Nat.{ℕ, _*_, _^_, _<_, _≤_}
+use Prim.Native.Nat.{ℕ, _*_, _^_, _<_}
 use mathlib.Core.Path.{_≡_, refl, ap, _∙_}
 use mathlib.Core.Bool.{Bool, true, false}
-use mathlib.Core.Logic.{⊎-elim}
 use mathlib.Core.List.{List}
-use borrow.Author.Tests.{le-leb, lt-leb, ne-eqb}
+use borrow.Author.Tests.{lt-leb, ne-eqb}
 use Rattle.counts.specs.Number.{number}
-use Rattle.counts.proofs.Fits.{number-is, number-over}
 use Rattle.dtype.specs.PlainBytes.{isObject, bytesFor}
 use Rattle.dtype.specs.Limits.{over}
 use Rattle.dtype.specs.Agrees.{entryAt}
 use Rattle.dtype.specs.Seen.{objectAt}
 use Rattle.dtype.specs.declared.Entry.{Entry}
-use Rattle.counts.specs.Counts.{bytes}
-use Rattle.counts.proofs.Sides.{lt-or-ge}
-use Rattle.check_scan.specs.Over.{isOver}
+use Rattle.counts.specs.Counts.{bytes, bytesOver}
+use Rattle.counts.proofs.Counted.{bytes-test}
 
 -- an entry is an object, or not
 pub object-here : (t : List ℕ) (e : ℕ) (x : Entry) → x ≡ entryAt t e → x .letter ≡ 79 → objectAt t e ≡ true
@@ -23,17 +20,9 @@ object-here t e x s h = let z : entryAt t e .letter ≡ 79 = rw s at h in rw z
 pub no-object-here : (t : List ℕ) (e : ℕ) (x : Entry) → x ≡ entryAt t e → (x .letter ≡ 79 → ⊥) → objectAt t e ≡ false
 no-object-here t e x s h = ne-eqb (entryAt t e .letter) 79 (λ p. h (ap (λ (a : Entry). a .letter) s ∙ p))
 
--- whether a count of bytes is `Over`
-pub over-number : (n : ℕ) → isOver (bytes (number n)) ≡ over n
-over-number n =
-    ⊎-elim
-    (λ (l : n < 2 ^ 64). simp (number-is n l, lt-leb (2 ^ 64) n l))
-    (λ (l : 2 ^ 64 ≤ n). simp (number-over n l, le-leb (2 ^ 64) n l))
-    (lt-or-ge n (2 ^ 64))
-
 -- `U`, and other letters
-pub unicode-over : (letter size : ℕ) → letter ≡ 85 → isOver (bytes (number (4 * size))) ≡ over (bytesFor letter size)
-unicode-over letter size h = over-number (4 * size) ∙ rw h
+pub unicode-over : (letter size : ℕ) → letter ≡ 85 → bytesOver (bytes (number (4 * size))) ≡ over (bytesFor letter size)
+unicode-over letter size h = bytes-test (4 * size) ∙ rw h
 
 not-over : (letter size : ℕ) (b : Bool) → isObject letter ≡ b → (letter ≡ 85 → ⊥) → size < 2 ^ 64 → false ≡ over (bytesFor letter size)
 not-over letter size true e h l = simp e

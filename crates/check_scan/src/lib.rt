@@ -1,6 +1,5 @@
 // The parts of the checks 13 and 21 (document 01, "The refusal numbers") that a walk over any table decides: nested array levels, objects, and sizes over 2^64-1.
 // Called by check_record.
-use counts::ByteCount;
 use counts::Points;
 ghost use mathlib.Core.Path.{_≡_};
 ghost use mathlib.Core.Bool.{cond};
@@ -9,7 +8,6 @@ ghost use lib.Dec.{eqb, ltb};
 ghost use Rattle.dtype.specs.PlainBytes.{bytesFor};
 ghost use Rattle.dtype.specs.Limits.{over};
 ghost use Rattle.dtype.specs.Seen.{someFrom, objectAt, arraysFrom};
-ghost use Rattle.check_scan.specs.Over.{isOver};
 
 // How many array levels may be nested.
 const MOST_LEVELS: u64 = dtype::MOST_DIMENSIONS as u64;
@@ -65,17 +63,8 @@ pub fn plain_over(letter: u64, size: u64) -> bool
 {
     if letter == UNICODE {
         let points = Points(size);
-        return is_over(points.in_bytes());
+        let bytes = points.in_bytes();
+        return bytes.is_over();
     }
     false
-}
-
-// Whether a number of bytes is over 2^64-1.
-pub fn is_over(n: ByteCount) -> bool
-    ensures { λ r. ⌜ r ≡ isOver n ⌝ }
-{
-    match n {
-        ByteCount::Is(n) => false,
-        ByteCount::Over => true,
-    }
 }

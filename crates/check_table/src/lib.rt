@@ -1,5 +1,7 @@
 // Whether a caller's table and names list a dtype that some reading gives, the test of 27 (document 01, "The refusal numbers"): each entry agrees with those after it,
 // the first one extends to the table's end, and the names are those of the entries. Called by check_record.
+use counts::Bytes;
+use counts::Items;
 use dtype::Entry;
 use saturating::held_bytes;
 use saturating::held_product;
@@ -25,7 +27,8 @@ fn plain_agrees(entry: Entry) -> bool
     if entry.extent != 1 {
         return false;
     }
-    entry.bytes == held_bytes(t)
+    let bytes = held_bytes(t);
+    entry.bytes == bytes.0
 }
 
 // Whether the numbers of a type are 0, as they must be in an entry that is not plain.
@@ -67,7 +70,8 @@ fn array_agrees(table: &[u64], n: usize, e: usize) -> bool
     if outer.extent - 1 != inner.extent {
         return false;
     }
-    outer.bytes == held_product(outer.number, inner.bytes)
+    let bytes = held_product(Items(outer.number), Bytes(inner.bytes));
+    outer.bytes == bytes.0
 }
 
 // Whether a record's entry agrees with those of its fields.
@@ -84,7 +88,7 @@ fn record_agrees(table: &[u64], n: usize, e: usize) -> bool
     }
     let end = e + outer.extent as usize;
     let mut c = e + 1;
-    let mut bytes: u64 = 0;
+    let mut bytes = Bytes(0);
     let mut left = outer.number;
     while 0 < left {
         if end <= c {
@@ -97,14 +101,14 @@ fn record_agrees(table: &[u64], n: usize, e: usize) -> bool
         if ((end - c) as u64) < field.extent {
             return false;
         }
-        bytes = held_sum(bytes, field.bytes);
+        bytes = held_sum(bytes, Bytes(field.bytes));
         c += field.extent as usize;
         left -= 1;
     }
     if c != end {
         return false;
     }
-    bytes == outer.bytes
+    bytes.0 == outer.bytes
 }
 
 // Whether an entry agrees with those after it and, if plain, has a type.

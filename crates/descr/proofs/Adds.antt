@@ -11,8 +11,10 @@ use lib.ListN.{length}
 use native.Mathlib.Nat.{mul-suc}
 use borrow.Author.Tests.{leb-true}
 use Rattle.counts.specs.Outcome.{Outcome, gives, refused, then, each, unless}
-use Rattle.counts.specs.declared.Number.{Number}
+use Rattle.counts.specs.Counts.{bytesOver, asBytes, heldBytes}
+use Rattle.counts.specs.declared.ByteCount.{ByteCount}
 use Rattle.counts.proofs.Alike.{false-true}
+use Rattle.counts.proofs.Counted.{bytes-eq, bytes-test}
 use Rattle.literal_grammar.specs.Value.{Value, Values, string, integer, True, False, None, list, tuple, dict, end-of-values, value-then}
 use Rattle.type_str.specs.declared.TypeStr.{TypeStr}
 use Rattle.type_str.specs.TypeString.{typeString}
@@ -23,12 +25,12 @@ use Rattle.record.specs.Parts.{stringOr}
 use Rattle.record.specs.Dimensions.{subShape}
 use Rattle.record.specs.Descr.{Field, arrays, descrOf, fieldsOf, fieldOf, twoOrThree, namedOf}
 use Rattle.record.proofs.Levels.{arrays-entries, arrays-name-bytes}
-use Rattle.shape_verdict.specs.Outline.{hasZero, afterZero, outlineOf, isOver, largestIn}
+use Rattle.shape_verdict.specs.Outline.{hasZero, afterZero, outlineOf, largestIn}
 use Rattle.shape_verdict.proofs.Levels.{largest-is, arrays-outline, arrays-over, arrays-wide, arrays-object}
 use Rattle.descr_totals.specs.declared.Totals.{Totals}
-use Rattle.descr_totals.specs.Totals.{atMost, largest, heldNumber, nothing, oneEntry, nameTotals, totalsOf, totalsIn, fieldTotals, together, arrayed}
+use Rattle.descr_totals.specs.Totals.{atMost, largest, nothing, oneEntry, nameTotals, totalsOf, totalsIn, fieldTotals, together, arrayed}
 use Rattle.descr_totals.specs.Verdict.{both}
-use Rattle.descr_totals.proofs.Sums.{totals-eq, over-never, over-not, over-more, over-number, held-number, cap-front}
+use Rattle.descr_totals.proofs.Sums.{totals-eq, over-never, over-not, over-more, held-bytes, cap-front}
 use Rattle.descr_totals.proofs.Limits.{own-over}
 
 over-front : (n : ℕ) → over (0 + atMost largest n) ≡ false
@@ -64,7 +66,7 @@ unfolding together
 fields-totals f fs =
     totals-eq (cap-two 513 _ _) (cap-three 65537 (length (f .name)) _ _) refl refl
     (over-fields (someOver (f .type)) (someEntryIn (λ e. over (sizeOf e)) fs) (sizeOf (f .type)) (sizesOf fs) (own-over (f .type)))
-    (cap-two largest (sizeOf (f .type)) (sizesOf fs))
+    (bytes-eq (cap-two largest (sizeOf (f .type)) (sizesOf fs)))
 
 fields-both : (a : Outcome Field) (b : Outcome Fields) → each totalsIn (then a (λ f. each (field-then (f .name) (f .type)) b)) ≡ both (each fieldTotals a) (each totalsIn b)
 fields-both (gives f) (gives fs) = ap gives (fields-totals f fs)
@@ -87,7 +89,7 @@ or-nothing a x h = rw h (sym (or-false a))
 fields-none : (o : Outcome Fields) → both (gives nothing) (each totalsIn o) ≡ each totalsIn o
 unfolding together
 fields-none (gives fs) =
-    ap gives (sym (totals-eq (sym (cap-front 513 _)) (sym (cap-front 65537 _)) refl refl (or-nothing _ _ (over-front (sizesOf fs))) (sym (cap-front largest _))))
+    ap gives (sym (totals-eq (sym (cap-front 513 _)) (sym (cap-front 65537 _)) refl refl (or-nothing _ _ (over-front (sizesOf fs))) (bytes-eq (sym (cap-front largest _)))))
 fields-none (refused n) = refl
 
 pub fields-start : (vs : Values) → both (gives nothing) (fieldsBy vs) ≡ fieldsBy vs
@@ -108,7 +110,7 @@ cap-one m n = omega arith
 
 record-both : (o : Outcome Fields) → each totalsOf (each record-of o) ≡ both (gives oneEntry) (each totalsIn o)
 unfolding together
-record-both (gives fs) = ap gives (totals-eq (cap-one 513 _) (sym (cap-front 65537 _)) refl refl (over-record _ _ (sizesOf fs) (over-front (sizesOf fs))) (sym (cap-front largest _)))
+record-both (gives fs) = ap gives (totals-eq (cap-one 513 _) (sym (cap-front 65537 _)) refl refl (over-record _ _ (sizesOf fs) (over-front (sizesOf fs))) (bytes-eq (sym (cap-front largest _))))
 record-both (refused n) = refl
 
 pub record-step : (vs : Values) → each totalsOf (descrOf (list vs)) ≡ both (gives oneEntry) (fieldsBy vs)
@@ -156,26 +158,28 @@ cap-times b s = go (over s) refl
         let e : atMost largest s ≡ s = omega arith in
         rw e
 
-over-levels : (ns : List ℕ) (s : ℕ) (own : Bool) → (over s ≡ true → own ≡ true) → (over (afterZero ns * s) || own) ≡ (isOver (largestIn (outlineOf ns) (atMost largest s)) || own)
-over-levels ns s true h = or-true (over (afterZero ns * s)) ∙ sym (or-true (isOver (largestIn (outlineOf ns) (atMost largest s))))
+over-levels : (ns : List ℕ) (s : ℕ) (own : Bool) → (over s ≡ true → own ≡ true) → (over (afterZero ns * s) || own) ≡ (bytesOver (largestIn (outlineOf ns) (atMost largest s)) || own)
+over-levels ns s true h = or-true (over (afterZero ns * s)) ∙ sym (or-true (bytesOver (largestIn (outlineOf ns) (atMost largest s))))
 over-levels ns s false h = ap (λ (t : Bool). t || false) (go (over s) refl)
   where
-    go : (t : Bool) → over s ≡ t → over (afterZero ns * s) ≡ isOver (largestIn (outlineOf ns) (atMost largest s))
+    go : (t : Bool) → over s ≡ t → over (afterZero ns * s) ≡ bytesOver (largestIn (outlineOf ns) (atMost largest s))
     go true k = false-true (h k)
     go false k =
         let lt = over-not s k in
         let e : atMost largest s ≡ s = omega arith in
-        sym (ap (λ (x : ℕ). isOver (largestIn (outlineOf ns) x)) e ∙ (ap (λ (x : Number). isOver x) (largest-is ns s) ∙ over-number (afterZero ns * s)))
+        sym (ap (λ (x : ℕ). bytesOver (largestIn (outlineOf ns) x)) e ∙ (ap (λ (x : ByteCount). bytesOver x) (largest-is ns s) ∙ bytes-test (afterZero ns * s)))
 
 cap-right : (m a b : ℕ) → atMost m (a + b) ≡ atMost m (a + atMost m b)
 cap-right m a b = omega arith
 
-held-levels : (ns : List ℕ) (s : ℕ) → atMost largest (cond (hasZero ns) 0 (afterZero ns * s)) ≡ cond (hasZero ns) 0 (heldNumber (largestIn (outlineOf ns) (atMost largest s)))
+held-levels : (ns : List ℕ) (s : ℕ)
+    → asBytes (atMost largest (cond (hasZero ns) 0 (afterZero ns * s))) ≡ cond (hasZero ns) (asBytes 0) (heldBytes (largestIn (outlineOf ns) (atMost largest s)))
 held-levels ns s = go (hasZero ns)
   where
-    go : (t : Bool) → atMost largest (cond t 0 (afterZero ns * s)) ≡ cond t 0 (heldNumber (largestIn (outlineOf ns) (atMost largest s)))
+    go : (t : Bool) → asBytes (atMost largest (cond t 0 (afterZero ns * s))) ≡ cond t (asBytes 0) (heldBytes (largestIn (outlineOf ns) (atMost largest s)))
     go true = refl
-    go false = sym (ap (λ (x : Number). heldNumber x) (largest-is ns (atMost largest s)) ∙ (held-number (afterZero ns * atMost largest s) ∙ cap-times (afterZero ns) s))
+    go false =
+        sym (ap (λ (x : ByteCount). heldBytes x) (largest-is ns (atMost largest s)) ∙ (held-bytes (afterZero ns * atMost largest s) ∙ bytes-eq (cap-times (afterZero ns) s)))
 
 arrays-totals : (ns : List ℕ) (d : Dtype) → levels d ≡ 0 → totalsOf (arrays ns d) ≡ arrayed (outlineOf ns) (totalsOf d)
 unfolding arrayed outlineOf
@@ -184,7 +188,7 @@ arrays-totals ns d h =
     totals-eq (ap (λ (x : ℕ). atMost 513 x) (arrays-entries ns d) ∙ cap-right 513 (length ns) _) (ap (λ (x : ℕ). atMost 65537 x) (arrays-name-bytes ns d)) (arrays-object ns d)
     (arrays-wide ns d ∙ ap (λ (x : ℕ). ltb 32 x || overLevels d) e)
     (arrays-over ns d ∙ over-levels ns (sizeOf d) (someOver d) (own-over d))
-    (ap (λ (x : ℕ). atMost largest x) (arrays-outline ns d) ∙ held-levels ns (sizeOf d))
+    (bytes-eq (ap (λ (x : ℕ). atMost largest x) (arrays-outline ns d)) ∙ held-levels ns (sizeOf d))
 
 -- ---- a field's items: its name, its inner descr, perhaps its sub-shape
 -- a value as a name

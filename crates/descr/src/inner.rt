@@ -1,6 +1,7 @@
 // The walk over a descr, which reads the text and judges it at once. `judge`, `fields`, `field` and `inner_at` call each other in a cycle; each bracket that opens leaves one
 // fewer. A refusal ends no walk, so that a wrong item count can come before what is refused inside; only a fault of the literal does. The verdict on a text with such a fault
 // means nothing: the caller looks at the end first.
+use counts::Bytes;
 use descr_field::DescrJudged;
 use descr_field::closing_at;
 use descr_field::misfit;
@@ -50,7 +51,7 @@ pub(crate) fn judge(text: &[u8], at: usize, room: usize) -> DescrJudged
         object: false,
         over_levels: false,
         over: false,
-        size: 0,
+        size: Bytes(0),
     });
     let r = fields(text, at + 1, room - 1);
     let end = r.ended;
@@ -72,7 +73,7 @@ fn fields(text: &[u8], from: usize, room: usize) -> DescrJudged
         object: false,
         over_levels: false,
         over: false,
-        size: 0,
+        size: Bytes(0),
     });
     loop {
         let Gap::Item(p) = g else {

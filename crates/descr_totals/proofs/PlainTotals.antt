@@ -7,7 +7,8 @@ use borrow.Author.Tests.{leb-true}
 use Rattle.counts.specs.Number.{number}
 use Rattle.counts.specs.declared.Number.{Number}
 use Rattle.counts.proofs.Fits.{number-is, number-over}
-use Rattle.counts.specs.Counts.{bytes}
+use Rattle.counts.proofs.Counted.{bytes-eq}
+use Rattle.counts.specs.Counts.{bytes, asBytes}
 use Rattle.type_str.specs.declared.TypeStr.{TypeStr}
 use Rattle.type_letters.specs.declared.TypeChar.{TypeChar}
 use Rattle.type_letters.specs.declared.TypeChar.the-variants.{Bool as Boolean, Int, Uint, Float as Floating, Complex, TimeDelta, DateTime, ByteStr, UnicodeStr, Object, RawData}
@@ -26,9 +27,9 @@ use Rattle.descr_totals.specs.Totals.{atMost, largest, totalsOf}
 use Rattle.descr_totals.proofs.Sums.{totals-eq, over-not}
 
 abbrev pub plainTotals : TypeBytes → Totals
-plainTotals (Sized n) = record { entries = 1; names = 0; object = false; «over_levels» = false; over = false; size = n .0 }
-plainTotals Unsized = record { entries = 1; names = 0; object = true; «over_levels» = false; over = false; size = 0 }
-plainTotals TooLarge = record { entries = 1; names = 0; object = false; «over_levels» = false; over = true; size = largest }
+plainTotals (Sized n) = record { entries = 1; names = 0; object = false; «over_levels» = false; over = false; size = n }
+plainTotals Unsized = record { entries = 1; names = 0; object = true; «over_levels» = false; over = false; size = asBytes 0 }
+plainTotals TooLarge = record { entries = 1; names = 0; object = false; «over_levels» = false; over = true; size = asBytes largest }
 
 -- a letter is an object exactly where its byte is
 object-byte : (l : TypeChar) → byte.isObject (letterByte l) ≡ isObject l
@@ -44,16 +45,16 @@ object-byte UnicodeStr = refl
 object-byte Object = refl
 object-byte RawData = refl
 
-plain-sized : (n : ℕ) → plainTotals (countedBytes (bytes (number n))) ≡ record { entries = 1; names = 0; object = false; «over_levels» = false; over = over n; size = atMost largest n }
+plain-sized : (n : ℕ) → plainTotals (countedBytes (bytes (number n))) ≡ record { entries = 1; names = 0; object = false; «over_levels» = false; over = over n; size = asBytes (atMost largest n) }
 plain-sized n = go (over n) refl
   where
-    go : (t : Bool) → over n ≡ t → plainTotals (countedBytes (bytes (number n))) ≡ record { entries = 1; names = 0; object = false; «over_levels» = false; over = over n; size = atMost largest n }
+    go : (t : Bool) → over n ≡ t → plainTotals (countedBytes (bytes (number n))) ≡ record { entries = 1; names = 0; object = false; «over_levels» = false; over = over n; size = asBytes (atMost largest n) }
     go true h =
         let le = leb-true (2 ^ 64) n h in
-        ap (λ (x : Number). plainTotals (countedBytes (bytes x))) (number-over n le) ∙ totals-eq refl refl refl refl (sym h) (omega arith)
+        ap (λ (x : Number). plainTotals (countedBytes (bytes x))) (number-over n le) ∙ totals-eq refl refl refl refl (sym h) (bytes-eq (omega arith))
     go false h =
         let lt = over-not n h in
-        ap (λ (x : Number). plainTotals (countedBytes (bytes x))) (number-is n lt) ∙ totals-eq refl refl refl refl (sym h) (omega arith)
+        ap (λ (x : Number). plainTotals (countedBytes (bytes x))) (number-is n lt) ∙ totals-eq refl refl refl refl (sym h) (bytes-eq (omega arith))
 
 module _ (t : TypeStr) where
   object-bytes : isObject (t .letter) ≡ true → (numBytes t ≡ Unsized) × (typeBytes t ≡ 0)
@@ -68,8 +69,8 @@ pub plain-totals : (t : TypeStr) → plainTotals (numBytes t) ≡ totalsOf (plai
 plain-totals t = go (isObject (t .letter)) refl
   where
     of-bytes : (o : Bool) → byte.isObject (letterByte (t .letter)) ≡ o → (n : ℕ) → plainBytes t ≡ n
-        → record { entries = 1; names = 0; object = o; «over_levels» = false; over = over n; size = atMost largest n } ≡ totalsOf (plain t)
-    of-bytes o ho n hn = totals-eq refl refl (sym ho) refl (ap over (sym hn)) (ap (λ (x : ℕ). atMost largest x) (sym hn))
+        → record { entries = 1; names = 0; object = o; «over_levels» = false; over = over n; size = asBytes (atMost largest n) } ≡ totalsOf (plain t)
+    of-bytes o ho n hn = totals-eq refl refl (sym ho) refl (ap over (sym hn)) (bytes-eq (ap (λ (x : ℕ). atMost largest x) (sym hn)))
 
     go : (o : Bool) → isObject (t .letter) ≡ o → plainTotals (numBytes t) ≡ totalsOf (plain t)
     go true h = ap plainTotals (object-bytes t h .0) ∙ of-bytes true (object-byte (t .letter) ∙ h) 0 (plain-bytes-type t ∙ object-bytes t h .1)

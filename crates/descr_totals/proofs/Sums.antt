@@ -4,17 +4,18 @@ use Prim.Native.Nat.{ℕ, _+_, _^_, _<_, _≤_}
 use native.Mathlib.Omega.{arith}
 use mathlib.Core.Path.{_≡_, refl, sym, ap, _∙_}
 use mathlib.Core.Bool.{Bool, true, false, _||_, or-assoc, or-false}
-use lib.Dec.{ltb}
-use borrow.Author.Tests.{leb-true, leb-false, le-leb, lt-leb, ltb-true, ltb-false}
+use borrow.Author.Tests.{leb-true, leb-false, le-leb, lt-leb}
 use Rattle.counts.specs.Outcome.{Outcome, gives, refused}
 use Rattle.counts.specs.Number.{number}
-use Rattle.counts.proofs.Fits.{number-is, number-over}
+use Rattle.counts.specs.Counts.{bytes, asBytes, heldBytes}
+use Rattle.counts.specs.declared.Bytes.{Bytes}
+use Rattle.counts.proofs.Counted.{bytes-eq, held-bytes as held}
 use Rattle.dtype.specs.Limits.{over}
 use Rattle.descr_totals.specs.declared.Totals.{Totals}
-use Rattle.descr_totals.specs.Totals.{atMost, largest, heldNumber, isOver, nothing, together}
+use Rattle.descr_totals.specs.Totals.{atMost, largest, nothing, together}
 use Rattle.descr_totals.specs.Verdict.{both}
 
-pub totals-eq : {e e′ n n′ z z′ : ℕ} {o o′ w w′ v v′ : Bool} → e ≡ e′ → n ≡ n′ → o ≡ o′ → w ≡ w′ → v ≡ v′ → z ≡ z′
+pub totals-eq : {e e′ n n′ : ℕ} {o o′ w w′ v v′ : Bool} {z z′ : Bytes} → e ≡ e′ → n ≡ n′ → o ≡ o′ → w ≡ w′ → v ≡ v′ → z ≡ z′
     → _≡_ {A = Totals} (record { entries = e; names = n; object = o; «over_levels» = w; over = v; size = z }) (record { entries = e′; names = n′; object = o′; «over_levels» = w′; over = v′; size = z′ })
 totals-eq he hn ho hw hv hz = cc
 
@@ -31,20 +32,8 @@ over-is n h = le-leb (2 ^ 64) n h
 pub over-more : (a b : ℕ) → a ≤ b → over a ≡ true → over b ≡ true
 over-more a b le h = over-is b (omega (arith, leb-true (2 ^ 64) a h))
 
-module _ (n : ℕ) where
-  pub over-number : isOver (number n) ≡ over n
-  over-number = go (ltb n (2 ^ 64)) refl
-    where
-      go : (t : Bool) → ltb n (2 ^ 64) ≡ t → isOver (number n) ≡ over n
-      go true h = let lt = ltb-true n (2 ^ 64) h in ap isOver (number-is n lt) ∙ sym (over-never n lt)
-      go false h = let le = ltb-false n (2 ^ 64) h in ap isOver (number-over n le) ∙ sym (over-is n le)
-
-  pub held-number : heldNumber (number n) ≡ atMost largest n
-  held-number = go (ltb n (2 ^ 64)) refl
-    where
-      go : (t : Bool) → ltb n (2 ^ 64) ≡ t → heldNumber (number n) ≡ atMost largest n
-      go true h = let lt = ltb-true n (2 ^ 64) h in ap heldNumber (number-is n lt) ∙ omega arith
-      go false h = let le = ltb-false n (2 ^ 64) h in ap heldNumber (number-over n le) ∙ omega arith
+pub held-bytes : (n : ℕ) → heldBytes (bytes (number n)) ≡ asBytes (atMost largest n)
+held-bytes n = held n ∙ bytes-eq (omega arith)
 
 -- ---- caps
 pub cap-assoc : (m a b c : ℕ) → atMost m (atMost m (a + b) + c) ≡ atMost m (a + atMost m (b + c))
@@ -98,16 +87,16 @@ pub together-assoc : (a b c : Totals) → together (together a b) c ≡ together
 unfolding together
 together-assoc a b c =
     totals-eq (cap-assoc 513 (a .entries) (b .entries) (c .entries)) (cap-assoc 65537 (a .names) (b .names) (c .names)) (or-assoc (a .object) (b .object) (c .object)) (or-assoc (a .«over_levels») (b .«over_levels») (c .«over_levels»))
-    (regroup (a .over) (b .over) (c .over) _ _ _ _ (over-either (a .size) (b .size) (c .size)))
-    (cap-assoc largest (a .size) (b .size) (c .size))
+    (regroup (a .over) (b .over) (c .over) _ _ _ _ (over-either (a .size .0) (b .size .0) (c .size .0)))
+    (bytes-eq (cap-assoc largest (a .size .0) (b .size .0) (c .size .0)))
 
 -- what was added once is capped
 pub together-nothing : (a b : Totals) → together (together a b) nothing ≡ together a b
 unfolding together
 together-nothing a b =
     totals-eq (cap-again 513 _) (cap-again 65537 _) (or-false _) (or-false _)
-    (ap (λ (t : Bool). (((a .over || b .over) || over (a .size + b .size)) || false) || t) (over-sum (a .size + b .size)) ∙ (or-false _ ∙ or-false _))
-    (cap-again largest _)
+    (ap (λ (t : Bool). (((a .over || b .over) || over (a .size .0 + b .size .0)) || false) || t) (over-sum (a .size .0 + b .size .0)) ∙ (or-false _ ∙ or-false _))
+    (bytes-eq (cap-again largest _))
 
 pub both-assoc : (a b c : Outcome Totals) → both (both a b) c ≡ both a (both b c)
 both-assoc (gives a) (gives b) (gives c) = ap gives (together-assoc a b c)

@@ -5,8 +5,7 @@ use Prim.Native.Nat.{ℕ, _+_, min}
 use mathlib.Core.Bool.{false, _||_, cond}
 use lib.Dec.{ltb}
 use lib.ListN.{length}
-use Rattle.counts.specs.declared.Number.{Number}
-use Rattle.counts.specs.declared.Number.the-variants.{Is, Over}
+use Rattle.counts.specs.Counts.{bytesOver, asBytes, heldBytes}
 use Rattle.dtype.specs.TypeNumbers.{letterByte}
 use Rattle.dtype.specs.PlainBytes.{isObject}
 use Rattle.dtype.specs.Dtype.{Dtype, Fields, sizeOf, sizesOf}
@@ -17,19 +16,14 @@ use Rattle.record.specs.Descr.{Field}
 use Rattle.shape_verdict.specs.declared.Outline.{Outline}
 use Rattle.shape_verdict.specs.Outline.{largestIn}
 use Rattle.descr_totals.specs.declared.Totals.{Totals}
-pub use Rattle.shape_verdict.specs.Outline.{isOver}
 
 -- the lesser of the two
 abbrev pub atMost : (most n : ℕ) → ℕ
 atMost most n = min most n
 
--- the number of a u64, the largest where it is over
+-- the largest number of a u64
 abbrev pub largest : ℕ
 largest = 18446744073709551615
-
-abbrev pub heldNumber : Number → ℕ
-heldNumber (Is n) = n
-heldNumber Over = largest
 
 -- of a dtype
 abbrev pub totalsOf : Dtype → Totals
@@ -40,7 +34,7 @@ totalsOf d =
       object = hasObject d;
       «over_levels» = overLevels d;
       over = someOver d;
-      size = atMost largest (sizeOf d);
+      size = asBytes (atMost largest (sizeOf d));
     }
 
 -- of fields, as they add up to their record's
@@ -52,18 +46,18 @@ totalsIn fs =
       object = someEntryIn (plainOnly (λ t. isObject (letterByte (t .letter)))) fs;
       «over_levels» = someEntryIn (λ e. ltb 32 (levels e)) fs;
       over = someEntryIn (λ e. over (sizeOf e)) fs || over (sizesOf fs);
-      size = atMost largest (sizesOf fs);
+      size = asBytes (atMost largest (sizesOf fs));
     }
 
 -- of no field, of a record's own entry, and of a name of so many bytes
 abbrev pub nothing : Totals
-nothing = record { entries = 0; names = 0; object = false; «over_levels» = false; over = false; size = 0 }
+nothing = record { entries = 0; names = 0; object = false; «over_levels» = false; over = false; size = asBytes 0 }
 
 abbrev pub oneEntry : Totals
-oneEntry = record { entries = 1; names = 0; object = false; «over_levels» = false; over = false; size = 0 }
+oneEntry = record { entries = 1; names = 0; object = false; «over_levels» = false; over = false; size = asBytes 0 }
 
 abbrev pub nameTotals : ℕ → Totals
-nameTotals n = record { entries = 0; names = atMost 65537 n; object = false; «over_levels» = false; over = false; size = 0 }
+nameTotals n = record { entries = 0; names = atMost 65537 n; object = false; «over_levels» = false; over = false; size = asBytes 0 }
 
 -- of two, one after the other
 unfoldable pub together : Totals → Totals → Totals
@@ -73,8 +67,8 @@ together t u =
       names = atMost 65537 (t .names + u .names);
       object = t .object || u .object;
       «over_levels» = t .«over_levels» || u .«over_levels»;
-      over = (t .over || u .over) || over (t .size + u .size);
-      size = atMost largest (t .size + u .size);
+      over = (t .over || u .over) || over (t .size .0 + u .size .0);
+      size = asBytes (atMost largest (t .size .0 + u .size .0));
     }
 
 -- of a field: its name, and then its type
@@ -89,6 +83,6 @@ arrayed o t =
       names = t .names;
       object = t .object;
       «over_levels» = ltb 32 (o .rank) || t .«over_levels»;
-      over = isOver (largestIn o (t .size)) || t .over;
-      size = cond (o .empty) 0 (heldNumber (largestIn o (t .size)));
+      over = bytesOver (largestIn o (t .size .0)) || t .over;
+      size = cond (o .empty) (asBytes 0) (heldBytes (largestIn o (t .size .0)));
     }

@@ -1,12 +1,12 @@
 // The verdict on a descr, put together from those on its parts (document 01, "The record": "An array has n times its inner size; a record has the sum"): what the later
 // refusals 13, 20 and 21 need of it, or the first of 11, 12 and 14 to 19 that applies. Called by descr_field and descr, which walk over a header's text.
+use counts::Bytes;
 use counts::Number;
 use counts::sum;
 use dtype::MOST_DIMENSIONS;
 use refusal::Refusal;
 use shape_verdict::Outline;
 use shape_verdict::ShapeVerdict;
-use shape_verdict::is_over;
 use shape_verdict::largest;
 use type_str::TypeBytes;
 use type_str::TypeRead;
@@ -15,10 +15,11 @@ ghost use mathlib.Core.Path.{_≡_};
 ghost use mathlib.Core.Bool.{cond};
 ghost use Prim.Native.Nat.{_+_};
 ghost use Rattle.counts.specs.Outcome.{each, then};
+ghost use Rattle.counts.specs.Counts.{asBytes};
 ghost use Rattle.dtype.specs.Dtype.{plain as plainType};
 ghost use Rattle.type_str.specs.Answer.{answer};
 ghost use Rattle.shape_verdict.specs.Answer.{outlined};
-ghost use Rattle.descr_totals.specs.Totals.{atMost, heldNumber, together, arrayed as arrayedBy, totalsOf, nameTotals};
+ghost use Rattle.descr_totals.specs.Totals.{atMost, together, arrayed as arrayedBy, totalsOf, nameTotals};
 ghost use Rattle.descr_totals.specs.Verdict.{verdict, both};
 
 // Entries and name bytes are counted up to the first number that is over their limit.
@@ -38,8 +39,8 @@ pub struct Totals {
     pub over_levels: bool,
     // an entry's size is over 2^64-1
     pub over: bool,
-    // bytes, capped at 2^64-1
-    pub size: u64,
+    // capped at 2^64-1
+    pub size: Bytes,
 }
 
 // The totals; or 11, 12, 14 to 19.
@@ -59,36 +60,27 @@ fn add(a: u64, b: u64, most: u64) -> u64
     }
 }
 
-// The number, 2^64-1 where it is over that.
-fn held(n: Number) -> u64
-    ensures { λ r. ⌜ r ≡ heldNumber n ⌝ }
-{
-    match n {
-        Number::Is(n) => n,
-        Number::Over => u64::MAX,
-    }
-}
-
 // The totals of two parts together.
 fn plus(a: Totals, b: Totals) -> Totals
     ensures { λ r. ⌜ r ≡ together a b ⌝ }
 {
-    let size = sum(a.size, b.size);
+    let own = a.size;
+    let size = own.plus(b.size);
     Totals {
         entries: add(a.entries, b.entries, ENTRIES_OVER),
         names: add(a.names, b.names, NAMES_OVER),
         object: a.object | b.object,
         over_levels: a.over_levels | b.over_levels,
-        over: a.over | b.over | is_over(size),
-        size: held(size),
+        over: a.over | b.over | size.is_over(),
+        size: size.held(),
     }
 }
 
 // The size, 0 where a dimension is 0.
-fn unless_empty(empty: bool, size: u64) -> u64
-    ensures { λ r. ⌜ r ≡ cond empty 0 size ⌝ }
+fn unless_empty(empty: bool, size: Bytes) -> Bytes
+    ensures { λ r. ⌜ r ≡ cond empty (asBytes 0) size ⌝ }
 {
-    if empty { 0 } else { size }
+    if empty { Bytes(0) } else { size }
 }
 
 // The totals of a type under a sub-shape.
@@ -101,8 +93,8 @@ fn arrays(shape: Outline, of: Totals) -> Totals
         names: of.names,
         object: of.object,
         over_levels: (MOST_DIMENSIONS < shape.rank) | of.over_levels,
-        over: is_over(size) | of.over,
-        size: unless_empty(shape.empty, held(size)),
+        over: size.is_over() | of.over,
+        size: unless_empty(shape.empty, size.held()),
     }
 }
 
@@ -144,7 +136,7 @@ fn plain(t: TypeStr) -> Totals
             object: false,
             over_levels: false,
             over: false,
-            size: n.0,
+            size: n,
         },
         TypeBytes::Unsized => Totals {
             entries: 1,
@@ -152,7 +144,7 @@ fn plain(t: TypeStr) -> Totals
             object: true,
             over_levels: false,
             over: false,
-            size: 0,
+            size: Bytes(0),
         },
         TypeBytes::TooLarge => Totals {
             entries: 1,
@@ -160,7 +152,7 @@ fn plain(t: TypeStr) -> Totals
             object: false,
             over_levels: false,
             over: true,
-            size: u64::MAX,
+            size: Bytes(u64::MAX),
         },
     }
 }
@@ -185,6 +177,6 @@ pub fn named(len: usize) -> Totals
         object: false,
         over_levels: false,
         over: false,
-        size: 0,
+        size: Bytes(0),
     }
 }

@@ -41,6 +41,8 @@ use Rattle.shape_text.specs.Answer.{dimensionsAt}
 use Rattle.shape_text.specs.declared.DimsStored.{DimsStored}
 use Rattle.shape_text.specs.Fill.{Stored}
 use Rattle.shape_text.proofs.Stored.{stored-over}
+use Rattle.counts.specs.Counts.{asBytes}
+use Rattle.counts.specs.declared.Bytes.{Bytes}
 use Rattle.table_fill.specs.Written.{sizeOver, above}
 use Rattle.shape_text.specs.Members.{closingOf}
 use Rattle.shape_text.proofs.Held.{Bracket, bracket, no-bracket}
@@ -244,15 +246,15 @@ module _ (k : ℕ) (s : List ℕ) (close : ℕ) (table : List ℕ) (r : DescrFil
         let q : end1 ≡ t .1 = h1 ∙ ap (λ (x : Got Node). endOf (pos x)) (t .3) in
         he ∙ ap (λ (x : ℕ). gapPlace (thenAt s x close)) q ∙ row-last (read.value k s) s close (thenAt s (t .1) close) e (t .4)
 
-    pub shaped-some : (entry up m rank end1 end size : ℕ) (front table′ : List ℕ) → rank ≡ length ns → front ≡ ns → end1 ≡ endOf (pos (read.value k s p)) → end ≡ gapPlace (thenAt s end1 close)
-        → size ≡ sizeOver front (r .size) → table′ ≡ above front entry up m (r .entry) (r .size) table → Shaped e entry up m ns table table′ r (record { end = end; entry = r .entry + rank; byte = r .byte; size = size })
+    pub shaped-some : (entry up m rank end1 end : ℕ) (size : Bytes) (front table′ : List ℕ) → rank ≡ length ns → front ≡ ns → end1 ≡ endOf (pos (read.value k s p)) → end ≡ gapPlace (thenAt s end1 close)
+        → size ≡ asBytes (sizeOver front (r .size .0)) → table′ ≡ above front entry up m (r .entry) (r .size .0) table → Shaped e entry up m ns table table′ r (record { end = end; entry = r .entry + rank; byte = r .byte; size = size })
     shaped-some entry up m rank end1 end size front table′ hr hf h1 he hs ht =
         record {
           ends = shape-ends end1 end h1 he;
           next = ap (λ (x : ℕ). r .entry + x) hr;
           next-name = refl;
-          sized = hs ∙ ap (λ (l : List ℕ). sizeOver l (r .size)) hf;
-          table-after = ht ∙ ap (λ (l : List ℕ). above l entry up m (r .entry) (r .size) table) hf;
+          sized = ap (λ (b : Bytes). b .0) hs ∙ ap (λ (l : List ℕ). sizeOver l (r .size .0)) hf;
+          table-after = ht ∙ ap (λ (l : List ℕ). above l entry up m (r .entry) (r .size .0) table) hf;
         }
 
 -- the dimensions at the front of a buffer that has room for them

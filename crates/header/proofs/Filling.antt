@@ -11,6 +11,8 @@ use denote.Enum.Declared.{tagOf}
 use types.Run.{OneOf}
 use Rattle.counts.specs.Outcome.{Outcome, gives, refused, then, each}
 use Rattle.dtype.specs.declared.Entry.{Entry}
+use Rattle.counts.specs.Counts.{asBytes}
+use Rattle.counts.specs.declared.Bytes.{Bytes}
 use Rattle.dtype.specs.Dtype.{Dtype, Fields, plain, record-of, end-of-fields, field-then, sizeOf, sizesOf}
 use Rattle.dtype.specs.Entries.{entriesOf, entriesIn, fieldCount, levels}
 use Rattle.dtype.specs.Names.{nameBytes, nameBytesIn, namesOf, namesIn}
@@ -120,14 +122,14 @@ module _ (k : ℕ) (s : List ℕ) (at e : ℕ) (d : Dtype) where
 -- ---- a record: its entry after its fields
 pub record-filled : (e entry up m byte : ℕ) (fs : Fields) (d : Dtype) (table names mid names′ table′ : List ℕ) (r : FieldsFilled) (x : Entry) → d ≡ record-of fs
     → FilledFields e (entry + 1) entry byte fs table names mid names′ r
-    → x ≡ record { parent = up; kind = 2; order = 0; letter = 0; number = r .count; units = 0; extent = r .entry - entry; bytes = r .size; name = m }
+    → x ≡ record { parent = up; kind = 2; order = 0; letter = 0; number = r .count; units = 0; extent = r .entry - entry; bytes = r .size .0; name = m }
     → table′ ≡ sets mid (entry-width * entry) (numbers x []) → Filled e entry up m byte d table names table′ names′ (record { end = r .end; entry = r .entry; byte = r .byte; size = r .size })
 record-filled e entry up m byte fs d table names mid names′ table′ r x hd w hx ht =
     let one : entry + 1 ≡ suc entry = omega arith in
     let ext : r .entry - entry ≡ suc (entriesIn fs) = omega (arith, w .next) in
     let is : x ≡ entryOf (record-of fs) up m =
-    hx ∙ ap (λ (y : ℕ). record { parent = up; kind = 2; order = 0; letter = 0; number = y; units = 0; extent = r .entry - entry; bytes = r .size; name = m }) (w .counted)
-    ∙ ap (λ (y : ℕ). record { parent = up; kind = 2; order = 0; letter = 0; number = fieldCount fs; units = 0; extent = y; bytes = r .size; name = m }) ext
+    hx ∙ ap (λ (y : ℕ). record { parent = up; kind = 2; order = 0; letter = 0; number = y; units = 0; extent = r .entry - entry; bytes = r .size .0; name = m }) (w .counted)
+    ∙ ap (λ (y : ℕ). record { parent = up; kind = 2; order = 0; letter = 0; number = fieldCount fs; units = 0; extent = y; bytes = r .size .0; name = m }) ext
     ∙ ap (λ (y : ℕ). record { parent = up; kind = 2; order = 0; letter = 0; number = fieldCount fs; units = 0; extent = suc (entriesIn fs); bytes = y; name = m }) (w .sized) in
     let n : entriesOf d ≡ suc (entriesIn fs) = ap entriesOf hd in
     record {
@@ -192,7 +194,7 @@ field-less k s p q v g g′ end hg hv he hg′ =
     rw (hg, hg′, he) (gap-falls p q (length s) (thenAt s q 93) (a .0) (a .1) (then-ahead s q 93 (omega arith)))
 
 module _ (k : ℕ) (s : List ℕ) (from entry up byte : ℕ) (table0 names0 : List ℕ) where
-  pub record Left (g : Gap) (at b count size : ℕ) (table names : List ℕ) (fs : Fields) (e : ℕ) : Type 0 where
+  pub record Left (g : Gap) (at b count : ℕ) (size : Bytes) (table names : List ℕ) (fs : Fields) (e : ℕ) : Type 0 where
     pub us : List Node
     pub gs : Fields
     pub row : Row (value k s) s 93 us g e
@@ -201,18 +203,18 @@ module _ (k : ℕ) (s : List ℕ) (from entry up byte : ℕ) (table0 names0 : Li
     pub adds : at + entriesIn gs ≡ entry + entriesIn fs
     pub adds-names : b + nameBytesIn gs ≡ byte + nameBytesIn fs
     pub counts : count + fieldCount gs ≡ fieldCount fs
-    pub sizes : capped (size + sizesOf gs) ≡ capped (sizesOf fs)
+    pub sizes : capped (size .0 + sizesOf gs) ≡ capped (sizesOf fs)
     pub due : sets table (entry-width * at) (flats gs at up []) ≡ sets table0 (entry-width * entry) (flats fs entry up [])
     pub due-names : sets names b (namesIn gs []) ≡ sets names0 byte (namesIn fs [])
 
-  pub record Filling (g : Gap) (at b count size : ℕ) (table names : List ℕ) : Type 0 where
+  pub record Filling (g : Gap) (at b count : ℕ) (size : Bytes) (table names : List ℕ) : Type 0 where
     pub long : length table ≡ length table0
     pub long-names : length names ≡ length names0
     pub low : count ≤ at
-    pub fits : capped size ≡ size
+    pub fits : capped (size .0) ≡ size .0
     pub goes : (ns : List Node) (e : ℕ) (fs : Fields) → DueFields k s from entry table0 byte names0 ns e fs → Left g at b count size table names fs e
 
-  pub filling-start : (g : Gap) → g ≡ gapAt s from 93 → Filling g entry byte 0 0 table0 names0
+  pub filling-start : (g : Gap) → g ≡ gapAt s from 93 → Filling g entry byte 0 (asBytes 0) table0 names0
   filling-start g hg =
       record {
         long = refl;
@@ -235,7 +237,7 @@ module _ (k : ℕ) (s : List ℕ) (from entry up byte : ℕ) (table0 names0 : Li
             };
       }
 
-  module _ (g : Gap) (at b count size : ℕ) (table names : List ℕ) (w : Filling g at b count size table names) where
+  module _ (g : Gap) (at b count : ℕ) (size : Bytes) (table names : List ℕ) (w : Filling g at b count size table names) where
     -- the next field, with its room
     pub filling-field : (p : ℕ) → g ≡ Item p → (ns : List Node) (e : ℕ) (fs : Fields) → DueFields k s from entry table0 byte names0 ns e fs
         → (v : Node) × (q : ℕ) × (f : Field) × DueField k s p at table b names v q f
@@ -267,8 +269,9 @@ module _ (k : ℕ) (s : List ℕ) (from entry up byte : ℕ) (table0 names0 : Li
           let x = filling-field p hg ns₀ e₀ fs₀ h₀ in
           field-less k s p (x .1) (x .0) g g′ (r .end) hg (x .3 .one .stands) (hf (x .0) (x .1) (x .2) (x .3) .ends) hg′
 
-      pub filling-more : (size′ : ℕ) → size′ ≡ capped (size + r .size) → Filling g′ (r .entry) (r .byte) (count + 1) size′ table′ names′
-      filling-more size′ hs =
+      pub filling-more : (size′ : Bytes) → size′ ≡ asBytes (capped (size .0 + r .size .0)) → Filling g′ (r .entry) (r .byte) (count + 1) size′ table′ names′
+      filling-more size′ h′ =
+          let hs = ap (λ (b : Bytes). b .0) h′ in
           let x₀ = filling-field p hg ns₀ e₀ fs₀ h₀ in
           let z₀ = hf (x₀ .0) (x₀ .1) (x₀ .2) (x₀ .3) in
           record {
@@ -335,7 +338,7 @@ module _ (k : ℕ) (s : List ℕ) (from entry up byte : ℕ) (table0 names0 : Li
         }
 
 -- ---- a type string's entry
-pub text-filled : (e entry up m byte : ℕ) (d : Dtype) (t u : TypeStr) (table names table′ : List ℕ) (size end : ℕ) → d ≡ plain t → u ≡ t → end ≡ e → size ≡ capped (sizeOf (plain u))
+pub text-filled : (e entry up m byte : ℕ) (d : Dtype) (t u : TypeStr) (table names table′ : List ℕ) (size : Bytes) (end : ℕ) → d ≡ plain t → u ≡ t → end ≡ e → size ≡ asBytes (capped (sizeOf (plain u)))
     → table′ ≡ sets table (entry-width * entry) (numbers (entryOf (plain u) up m) []) → Filled e entry up m byte d table names table′ names (record { end = end; entry = entry + 1; byte = byte; size = size })
 text-filled e entry up m byte d t u table names table′ size end hd hu he hs ht =
     let is : plain u ≡ d = ap plain hu ∙ sym hd in
@@ -343,7 +346,7 @@ text-filled e entry up m byte d t u table names table′ size end hd hu he hs ht
       ends = he;
       next = ap (λ (y : Dtype). entry + entriesOf y) (sym hd);
       next-name = (let z : byte ≡ byte + 0 = omega arith in z) ∙ ap (λ (y : Dtype). byte + nameBytes y) (sym hd);
-      sized = hs ∙ ap (λ (y : Dtype). capped (sizeOf y)) is;
+      sized = ap (λ (b : Bytes). b .0) hs ∙ ap (λ (y : Dtype). capped (sizeOf y)) is;
       table-after = ht ∙ ap (λ (y : Dtype). sets table (entry-width * entry) (flat y entry up m [])) is;
       names-after = ap (λ (y : Dtype). sets names byte (namesOf y [])) (sym hd);
     }
@@ -427,9 +430,9 @@ module _ (k : ℕ) (s : List ℕ) (at entry up byte : ℕ) (table names : List �
             ends = sh .ends;
             next = omega (arith, sh .next, fl .next, entries-are);
             next-name = omega (arith, sh .next-name, fl .next-name, bytes-are, length-is, hh .counted, hh .next-name);
-            sized = sh .sized ∙ size-over (w .ns) (w .d) (r .size) (fl .sized) ∙ ap (λ (x : Dtype). capped (sizeOf x)) (sym (w .typed));
-            table-after = sh .table-after ∙ ap (above (w .ns) entry up (h .len) (r .entry) (r .size)) (fl .table-after)
-                ∙ above-flat (w .ns) (w .d) entry up (h .len) (r .entry) (r .size) table (fl .sized) (fl .next) (omega (arith, fl .next, due .room, entries-are)) big
+            sized = sh .sized ∙ size-over (w .ns) (w .d) (r .size .0) (fl .sized) ∙ ap (λ (x : Dtype). capped (sizeOf x)) (sym (w .typed));
+            table-after = sh .table-after ∙ ap (above (w .ns) entry up (h .len) (r .entry) (r .size .0)) (fl .table-after)
+                ∙ above-flat (w .ns) (w .d) entry up (h .len) (r .entry) (r .size .0) table (fl .sized) (fl .next) (omega (arith, fl .next, due .room, entries-are)) big
                 ∙ ap (λ (x : ℕ). sets table (entry-width * entry) (flat (arrays (w .ns) (w .d)) entry up x [])) length-is
                 ∙ ap (λ (x : Dtype). sets table (entry-width * entry) (flat x entry up (length (f .name)) [])) (sym (w .typed));
             names-after = fl .names-after ∙ ap (λ (x : List ℕ). sets x (h .byte) more) (hh .names-after) ∙ ap (λ (x : ℕ). sets (sets names byte ws) x more) (hh .next-name)
@@ -459,7 +462,7 @@ module _ (k : ℕ) (s : List ℕ) (at entry up m byte : ℕ) (table names : List
 
     -- the quote is read where the text has it
     pub text-whole : (r : Typed) → (r .ended ≡ spelled (getD s at 0) s (at + 1) .ended) × (answer (r .read) ≡ typeString (spelled (getD s at 0) s (at + 1) .bytes))
-        → (u : TypeStr) → u ≡ typeIn (r .read) → (end : ℕ) → end ≡ endOf (r .ended) → (size : ℕ) → size ≡ capped (sizeOf (plain u))
+        → (u : TypeStr) → u ≡ typeIn (r .read) → (end : ℕ) → end ≡ endOf (r .ended) → (size : Bytes) → size ≡ asBytes (capped (sizeOf (plain u)))
         → (table′ : List ℕ) → table′ ≡ put table entry (entryOf (plain u) up m) → Filled e entry up m byte d table names table′ names (record { end = end; entry = entry + 1; byte = byte; size = size })
     text-whole r hr u hu end he size hs table′ ht =
         let t = text-due k s at e d n (h .stands) (h .is) hq in
@@ -486,10 +489,10 @@ module _ (k : ℕ) (s : List ℕ) (at entry up m byte : ℕ) (table names : List
           omega (arith, long, h .room, some-entry d)
 
       pub record-whole : (table′ : List ℕ)
-          → table′ ≡ put mid entry (bare 2 up (r .count) (r .entry - entry) (r .size) m)
+          → table′ ≡ put mid entry (bare 2 up (r .count) (r .entry - entry) (r .size .0) m)
           → Filled e entry up m byte d table names table′ names′ (record { end = r .end; entry = r .entry; byte = r .byte; size = r .size })
       record-whole table′ ht =
-          let x = bare 2 up (r .count) (r .entry - entry) (r .size) m in
+          let x = bare 2 up (r .count) (r .entry - entry) (r .size .0) m in
           record-filled e entry up m byte (listed .fs) d table names mid names′ table′ r x (listed .recorded) fields-filled refl (ht ∙ put-room mid entry x record-room)
 
 -- ---- no length changes

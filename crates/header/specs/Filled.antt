@@ -86,8 +86,8 @@ pub record Shaped (e entry up m : ℕ) (ns table table′ : List ℕ) (r r′ : 
   pub ends : r′ .end ≡ e
   pub next : r′ .entry ≡ r .entry + length ns
   pub next-name : r′ .byte ≡ r .byte
-  pub sized : r′ .size ≡ sizeOver ns (r .size)
-  pub table-after : table′ ≡ above ns entry up m (r .entry) (r .size) table
+  pub sized : r′ .size .0 ≡ sizeOver ns (r .size .0)
+  pub table-after : table′ ≡ above ns entry up m (r .entry) (r .size .0) table
 
 abbrev pub DueShapeAt : (k : ℕ) (s : List ℕ) (close : ℕ) (table : List ℕ) → DescrFilled → Type 0
 DueShapeAt k s close table r = (e : ℕ) × (ns : List ℕ) × DueShape k s close table r e ns
@@ -108,7 +108,7 @@ pub record Filled (e entry up m byte : ℕ) (d : Dtype) (table names table′ na
   pub ends : r .end ≡ e
   pub next : r .entry ≡ entry + entriesOf d
   pub next-name : r .byte ≡ byte + nameBytes d
-  pub sized : r .size ≡ capped (sizeOf d)
+  pub sized : r .size .0 ≡ capped (sizeOf d)
   pub table-after : table′ ≡ sets table (entry-width * entry) (flat d entry up m [])
   pub names-after : names′ ≡ sets names byte (namesOf d [])
 
@@ -125,7 +125,7 @@ pub record FilledFields (e entry up byte : ℕ) (fs : Fields) (table names table
   pub ends : r .end ≡ e
   pub next : r .entry ≡ entry + entriesIn fs
   pub next-name : r .byte ≡ byte + nameBytesIn fs
-  pub sized : r .size ≡ capped (sizesOf fs)
+  pub sized : r .size .0 ≡ capped (sizesOf fs)
   pub counted : r .count ≡ fieldCount fs
   pub table-after : table′ ≡ sets table (entry-width * entry) (flats fs entry up [])
   pub names-after : names′ ≡ sets names byte (namesIn fs [])
@@ -141,7 +141,7 @@ pub record FilledField (e entry up byte : ℕ) (f : Field) (table names table′
   pub ends : r .end ≡ e
   pub next : r .entry ≡ entry + entriesOf (f .type)
   pub next-name : r .byte ≡ byte + (length (f .name) + nameBytes (f .type))
-  pub sized : r .size ≡ capped (sizeOf (f .type))
+  pub sized : r .size .0 ≡ capped (sizeOf (f .type))
   pub table-after : table′ ≡ sets table (entry-width * entry) (flat (f .type) entry up (length (f .name)) [])
   pub names-after : names′ ≡ sets names byte (f .name ++ namesOf (f .type) [])
 

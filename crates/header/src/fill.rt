@@ -4,6 +4,7 @@
 // then.
 use crate::RecordInfo;
 use crate::TextRead;
+use counts::Bytes;
 use descr_field::closing_at;
 use descr_field::place_of;
 use descr_field::string_at;
@@ -44,7 +45,7 @@ struct DescrFilled {
     end: usize,
     entry: usize,
     byte: usize,
-    size: u64,
+    size: Bytes,
 }
 
 // The same of fields, and how many they are.
@@ -52,7 +53,7 @@ struct FieldsFilled {
     end: usize,
     entry: usize,
     byte: usize,
-    size: u64,
+    size: Bytes,
     count: u64,
 }
 
@@ -176,12 +177,13 @@ fn fill_record(
 {
     let own = entry as u64;
     let r = fields(text, at + 1, room - 1, table, entry + 1, own, names, byte);
-    put_record(table, entry, up, name, r.count, r.entry, r.size);
+    let size = r.size;
+    put_record(table, entry, up, name, r.count, r.entry, size);
     DescrFilled {
         end: r.end,
         entry: r.entry,
         byte: r.byte,
-        size: r.size,
+        size: size,
     }
 }
 
@@ -203,7 +205,7 @@ fn fields(
     let mut g = gap_at(text, from, b']');
     let mut at = entry;
     let mut b = byte;
-    let mut size: u64 = 0;
+    let mut size = Bytes(0);
     let mut count: u64 = 0;
     loop {
         let Gap::Item(p) = g else {
@@ -258,19 +260,20 @@ fn shaped(
     ensures { λ o. ⌜ Shapes room (now (text .entry)) close entry up name (now (table .entry)) (now (table .exit)) r o ⌝ }
 {
     let g = then_at(text, r.end, close);
+    let of = r.size;
     let Gap::Item(p) = g else {
         return DescrFilled {
             end: place_of(g),
             entry: r.entry,
             byte: r.byte,
-            size: r.size,
+            size: of,
         };
     };
     let mut shape: [u64; MOST_DIMENSIONS] = [0; MOST_DIMENSIONS];
     let s = shape_text::fill(text, p, room, &mut shape);
     let rank = s.rank;
     let stop = s.stop;
-    let size = put_over(table, entry, up, name, &shape[..rank], r.entry, r.size);
+    let size = put_over(table, entry, up, name, &shape[..rank], r.entry, of);
     DescrFilled {
         end: place_of(then_at(text, place_of(stop), close)),
         entry: r.entry + rank,

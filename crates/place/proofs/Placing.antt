@@ -37,7 +37,7 @@ use Rattle.check_record.proofs.Accepts.{accepts-valid}
 use Rattle.place_area.specs.declared.Run.{Run}
 use Rattle.place_area.specs.declared.Numbered.{Numbered}
 use Rattle.place_area.specs.Indexed.{numbered, indexed}
-use Rattle.place_area.proofs.Area.{bytes-back, bytes-over}
+use Rattle.counts.proofs.Counted.{bytes-back, bytes-over}
 use Rattle.place_area.proofs.Answers.{item-shows}
 use Rattle.place_item.specs.Item.{itemOf}
 use Rattle.place_item.proofs.Sums.{range-of}

@@ -10,6 +10,11 @@ use borrow.Author.Tests.{le-leb, lt-leb, not-false}
 use lib.ListN.{length, getD, drop, length-drop, drop-of-length-le}
 use lib.Seq.{drop-cons}
 use Rattle.counts.specs.Outcome.{gives, refused}
+use Rattle.counts.specs.Number.{number}
+use Rattle.counts.specs.Counts.{bytes as byteCount, asBytes}
+use Rattle.counts.specs.declared.Bytes.{Bytes}
+use Rattle.counts.specs.declared.ByteCount.{ByteCount}
+use Rattle.counts.proofs.Counted.{bytes-back, bytes-over, bytes-eq}
 use Rattle.counts.proofs.Sides.{lt-or-ge}
 use Rattle.type_str.specs.declared.TypeStr.{TypeStr}
 use Rattle.type_str.specs.Text.{isType}
@@ -62,14 +67,15 @@ pub skipping-start : (t : List ℕ) (e i : ℕ) → Skipping t e i (e + 1) 0 0
 skipping-start t e i = record { within = omega arith; at = omega arith; is = refl }
 
 pub skipping-next : (t : List ℕ) (e i c bytes k : ℕ) → Skipping t e i c bytes k → k < i → (x : Entry) → x ≡ entryAt t c
-    → Skipping t e i (c + x .extent) (bytes + x .bytes) (k + 1)
-skipping-next t e i c bytes k s l x q =
+    → (more : Bytes) → ByteCount.Is more ≡ byteCount (number (bytes + x .bytes)) → Skipping t e i (c + x .extent) (more .0) (k + 1)
+skipping-next t e i c bytes k s l x q more m =
     let z : k + 1 ≡ suc k = omega arith in
+    let b = bytes-back (bytes + x .bytes) more m .0 in
     let p : x ≡ entryAt t (fieldAt t k (suc e)) = q ∙ ap (λ (j : ℕ). entryAt t j) (s .at) in
     record {
       within = omega arith;
       at = rw z (omega (arith, s .at, ap (λ (a : Entry). a .extent) p, field-at-next t k (suc e)));
-      is = rw z (omega (arith, s .is, ap (λ (a : Entry). a .bytes) p, field-bytes-next t k (suc e)));
+      is = rw z (omega (arith, b, s .is, ap (λ (a : Entry). a .bytes) p, field-bytes-next t k (suc e)));
     }
 
 -- a turn of it stays in the table and below 2^64
@@ -89,8 +95,17 @@ skipping-turn t e i c bytes k s l (fs, w, g) x q =
       fits = omega (arith, s .is, ap (λ (a : Entry). a .bytes) p, b, h .inside, size-fits (record-of fs) (w .none-over));
     }
 
-pub skipping-end : (t : List ℕ) (e i c bytes k : ℕ) → Skipping t e i c bytes k → i ≤ k → (c ≡ fieldAt t i (suc e)) × (bytes ≡ fieldBytes t i (suc e))
-skipping-end t e i c bytes k s l = let z : k ≡ i = omega (arith, s .within) in rw (← z) (s .at, s .is)
+-- so no sum is over
+pub skipping-over : {A : Type 0} (t : List ℕ) (c bytes : ℕ) (x : Entry) → Turn t c bytes x → ByteCount.Over ≡ byteCount (number (bytes + x .bytes)) → A
+skipping-over t c bytes x u o = absurd (omega (arith, u .fits, bytes-over (bytes + x .bytes) o))
+
+pub skipping-end : (t : List ℕ) (e i c : ℕ) (before : Bytes) (k : ℕ) → Skipping t e i c (before .0) k → i ≤ k
+    → Led.To (record { entry = c; before = before }) ≡ Led.To (record { entry = fieldAt t i (suc e); before = asBytes (fieldBytes t i (suc e)) })
+skipping-end t e i c before k s l =
+    let z : k ≡ i = omega (arith, s .within) in
+    let a : c ≡ fieldAt t i (suc e) = rw (← z) (s .at) in
+    let b : before ≡ asBytes (fieldBytes t i (suc e)) = bytes-eq (rw (← z) (s .is)) in
+    cc
 
 -- ---- one step
 module _ (t : List ℕ) (e i : ℕ) (x : Entry) (q : x ≡ entryAt t e) where
@@ -104,19 +119,22 @@ module _ (t : List ℕ) (e i : ℕ) (x : Entry) (q : x ≡ entryAt t e) where
   past l d s p = past-leads-nowhere d i p (omega (arith, ap (λ (a : Entry). a .number) (entry-is d s)))
 
   module _ (l : i < x .number) where
-    pub into : x .kind ≡ 1 → (y : Entry) → y ≡ entryAt t (e + 1) → (d : Dtype) → ListedSized t e d
-        → Steps t e d i (Led.To (record { entry = e + 1; before = record { 0 = i * y .bytes } }))
-    into k y w (plain ty) s = absurd (omega (arith, ap (λ (a : Entry). a .kind) (entry-is (plain ty) s)))
-    into k y w (array n d) s =
+    leads-into : x .kind ≡ 1 → (y : Entry) → y ≡ entryAt t (e + 1) → (d : Dtype) → ListedSized t e d → Leads t d (e + entriesOf d) i (e + 1) (i * y .bytes)
+    leads-into k y w (plain ty) s = absurd (omega (arith, ap (λ (a : Entry). a .kind) (entry-is (plain ty) s)))
+    leads-into k y w (array n d) s =
         let z : e + 1 ≡ suc e = omega arith in
         let v : y ≡ entryAt t (suc e) = rw z at w in
         let r = array-leads n d t e (s .up) (s .name) (s .rest) i (s .is) (s .none-over) (omega (arith, ap (λ (a : Entry). a .number) (entry-is (array n d) s))) in
         rw (z, v) r
-    into k y w (record-of fs) s = absurd (omega (arith, ap (λ (a : Entry). a .kind) (entry-is (record-of fs) s)))
+    leads-into k y w (record-of fs) s = absurd (omega (arith, ap (λ (a : Entry). a .kind) (entry-is (record-of fs) s)))
 
-    -- the offset does not wrap
-    pub into-fits : x .kind ≡ 1 → (y : Entry) → y ≡ entryAt t (e + 1) → (d : Dtype) × ListedSized t e d → i * y .bytes < 2 ^ 64
-    into-fits k y w (d, s) = let r = into k y w d s in omega (arith, r .inside, size-fits d (s .none-over))
+    pub into : x .kind ≡ 1 → (y : Entry) → y ≡ entryAt t (e + 1) → (before : Bytes) → ByteCount.Is before ≡ byteCount (number (i * y .bytes)) → (d : Dtype) → ListedSized t e d
+        → Steps t e d i (Led.To (record { entry = e + 1; before = before }))
+    into k y w before b d s = rw (← bytes-back (i * y .bytes) before b .0) (leads-into k y w d s)
+
+    -- the offset is not over
+    pub into-over : x .kind ≡ 1 → (y : Entry) → y ≡ entryAt t (e + 1) → ByteCount.Over ≡ byteCount (number (i * y .bytes)) → (d : Dtype) → ListedSized t e d → Steps t e d i Led.Nowhere
+    into-over k y w o d s p = let r = leads-into k y w d s in absurd (omega (arith, r .inside, size-fits d (s .none-over), bytes-over (i * y .bytes) o))
 
     -- what `skip` asks, and what it gives
     pub skip-asks : (x .kind ≡ 0 → ⊥) → (x .kind ≡ 1 → ⊥) → (d : Dtype) × ListedSized t e d → (fs : Fields) × ListedSized t e (record-of fs) × (i < fieldCount fs)
@@ -124,13 +142,13 @@ module _ (t : List ℕ) (e i : ℕ) (x : Entry) (q : x ≡ entryAt t e) where
     skip-asks p r (array n d, s) = absurd (r (ap (λ (a : Entry). a .kind) (entry-is (array n d) s)))
     skip-asks p r (record-of fs, s) = (fs, s, omega (arith, ap (λ (a : Entry). a .number) (entry-is (record-of fs) s)))
 
-    pub to-field : (x .kind ≡ 0 → ⊥) → (x .kind ≡ 1 → ⊥) → (y : Reached) → (y .entry ≡ fieldAt t i (suc e)) × (y .before .0 ≡ fieldBytes t i (suc e))
-        → (d : Dtype) → ListedSized t e d → Steps t e d i (Led.To y)
+    pub to-field : (x .kind ≡ 0 → ⊥) → (x .kind ≡ 1 → ⊥) → (y : Led)
+        → y ≡ Led.To (record { entry = fieldAt t i (suc e); before = asBytes (fieldBytes t i (suc e)) }) → (d : Dtype) → ListedSized t e d → Steps t e d i y
     to-field p r y w (plain ty) s = absurd (p (ap (λ (a : Entry). a .kind) (entry-is (plain ty) s)))
     to-field p r y w (array n d) s = absurd (r (ap (λ (a : Entry). a .kind) (entry-is (array n d) s)))
     to-field p r y w (record-of fs) s =
         let h = record-leads fs t e (s .up) (s .name) (s .rest) i (s .is) (s .none-over) (omega (arith, ap (λ (a : Entry). a .number) (entry-is (record-of fs) s))) in
-        rw (w .0, w .1) h
+        rw w h
 
 -- ---- the loop of `follow`
 pub record Walk (t path : List ℕ) (e before k : ℕ) (root : Dtype) : Type 0 where
@@ -173,15 +191,19 @@ module _ (t path : List ℕ) (e before k : ℕ) (w : Walking t path e before k) 
       leads : (d : Dtype) → ListedSized t e d → Leads t d (e + entriesOf d) (getD path k 0) (spot .entry) (spot .before .0)
       leads d s = let v : Steps t e d (getD path k 0) (Led.To spot) = rw q at (g d s) in v
 
-      pub walking-fits : (d : Dtype) × (t ≡ table d) × (someOver d ≡ false) → before + spot .before .0 < 2 ^ 64
+      walking-fits : (d : Dtype) × (t ≡ table d) × (someOver d ≡ false) → before + spot .before .0 < 2 ^ 64
       walking-fits (root, h, s) =
           let r = w .goes root h s in
           omega (arith, r .inside, leads (r .d) (r .stands) .inside, size-fits root s)
 
-      pub walking-next : Walking t path (spot .entry) (before + spot .before .0) (k + 1)
-      walking-next =
+      pub walking-over : {A : Type 0} → (d : Dtype) × (t ≡ table d) × (someOver d ≡ false) → ByteCount.Over ≡ byteCount (number (before + spot .before .0)) → A
+      walking-over g o = absurd (omega (arith, walking-fits g, bytes-over (before + spot .before .0) o))
+
+      pub walking-next : (more : Bytes) → ByteCount.Is more ≡ byteCount (number (before + spot .before .0)) → Walking t path (spot .entry) (more .0) (k + 1)
+      walking-next more m =
           let z : k + 1 ≡ suc k = omega arith in
-          record {
+          rw (← bytes-back (before + spot .before .0) more m .0)
+          (record {
             within = omega arith;
             goes = λ root h s.
                 let r = w .goes root h s in
@@ -193,7 +215,7 @@ module _ (t path : List ℕ) (e before k : ℕ) (w : Walking t path e before k) 
                   further = rw z (further-next (r .d) (v .inner) (r .further) (v .further (drop (suc k) path)));
                   inside = omega (arith, r .inside, v .inside);
                 };
-          }
+          })
         where
           further-next : {o : ℕ} (d inner : Dtype) → o ≡ before + offset d (drop k path)
               → offset d (getD path k 0 ∷ drop (suc k) path) ≡ spot .before .0 + offset inner (drop (suc k) path)

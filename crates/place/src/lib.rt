@@ -14,6 +14,7 @@ ghost use mathlib.Core.Path.{_≡_};
 ghost use mathlib.Core.Bool.{false};
 ghost use mathlib.Core.List.{List};
 ghost use Prim.Native.Nat.{ℕ, suc, _<_};
+ghost use Rattle.counts.specs.Counts.{asBytes};
 ghost use Rattle.dtype.specs.Dtype.{Dtype, Fields, record-of};
 ghost use Rattle.dtype.specs.Entries.{fieldCount};
 ghost use Rattle.dtype.specs.Record.{table as tableFor};
@@ -23,6 +24,7 @@ ghost use Rattle.check_table.specs.Reading.{untyped};
 ghost use Rattle.place.specs.Place.{placed, placeOf};
 ghost use Rattle.place.specs.Answer.{answer};
 ghost use Rattle.place.specs.Walk.{ListedSized, Steps, Finds, Accepted};
+ghost use Rattle.place.specs.declared.Led.{Led};
 
 // A place; or 27, 13, 20, 21, 22, 24, 25, 26.
 pub enum Placed {
@@ -105,15 +107,17 @@ fn follow(table: &[u64], path: &[u64]) -> Placed
     ensures { λ r. ⌜ ((d : Dtype) → now (table .entry) ≡ tableFor d → someOver d ≡ false → untyped d ≡ false → Finds d (now (path .entry)) r) ⌝ }
 {
     let mut e: usize = 0;
-    let mut before: u64 = 0;
+    let mut before = Bytes(0);
     let mut k: usize = 0;
     while k < path.len() {
         let Led::To(spot) = step(table, e, path[k]) else {
             return Placed::Refused(Refusal::Nowhere);
         };
-        let further = spot.before;
+        let ByteCount::Is(further) = before.plus(spot.before) else {
+            return Placed::Refused(Refusal::Nowhere);
+        };
         e = spot.entry;
-        before += further.0;
+        before = further;
         k += 1;
     }
     let entry = table_entry::entry_at(table, e);
@@ -121,13 +125,13 @@ fn follow(table: &[u64], path: &[u64]) -> Placed
         return Placed::Refused(Refusal::Nowhere);
     };
     Placed::At(Run {
-        first: Bytes(before),
+        first: before,
         len: Bytes(entry.bytes),
         kind,
     })
 }
 
-// What number i of a path leads to from entry e.
+// What number i of a path leads to from entry e. No offset inside an item whose size fits is over 2^64-1.
 fn step(table: &[u64], e: usize, i: u64) -> Led
     requires { ⌜ ((d : Dtype) × ListedSized (now table) e d) ⌝ }
     ensures { λ r. ⌜ ((d : Dtype) → ListedSized (now (table .entry)) e d → Steps (now (table .entry)) e d i r) ⌝ }
@@ -142,30 +146,31 @@ fn step(table: &[u64], e: usize, i: u64) -> Led
     if entry.kind == dtype::ARRAY {
         let c = e + 1;
         let inner = table_entry::entry_at(table, c);
-        return Led::To(Reached {
-            entry: c,
-            before: Bytes(i * inner.bytes),
-        });
+        let items = Items(i);
+        let ByteCount::Is(before) = items.of_size(Bytes(inner.bytes)) else {
+            return Led::Nowhere;
+        };
+        return Led::To(Reached { entry: c, before });
     }
-    Led::To(skip(table, e, i))
+    skip(table, e, i)
 }
 
-// The entry of field i of the record at entry e.
-fn skip(table: &[u64], e: usize, i: u64) -> Reached
+// Field i of the record at entry e.
+fn skip(table: &[u64], e: usize, i: u64) -> Led
     requires { ⌜ ((fs : Fields) × ListedSized (now table) e (record-of fs) × (i < fieldCount fs)) ⌝ }
-    ensures { λ r. ⌜ (r .entry ≡ fieldAt (now (table .entry)) i (suc e)) × (r .before .0 ≡ fieldBytes (now (table .entry)) i (suc e)) ⌝ }
+    ensures { λ r. ⌜ r ≡ Led.To (record { entry = fieldAt (now (table .entry)) i (suc e); before = asBytes (fieldBytes (now (table .entry)) i (suc e)) }) ⌝ }
 {
     let mut c = e + 1;
-    let mut bytes: u64 = 0;
+    let mut before = Bytes(0);
     let mut k: u64 = 0;
     while k < i {
         let field = table_entry::entry_at(table, c);
-        bytes += field.bytes;
+        let ByteCount::Is(more) = before.plus(Bytes(field.bytes)) else {
+            return Led::Nowhere;
+        };
+        before = more;
         c += field.extent as usize;
         k += 1;
     }
-    Reached {
-        entry: c,
-        before: Bytes(bytes),
-    }
+    Led::To(Reached { entry: c, before })
 }

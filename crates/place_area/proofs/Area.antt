@@ -1,7 +1,6 @@
--- The data area: counts of bytes out of their answers, the end of the area and the first byte of an item by true products, and a part of a file as far as the file
--- reaches.
+-- The data area: the end of the area and the first byte of an item by true products, and a part of a file as far as the file reaches.
 use Prim.Native.Nat.{ℕ, _+_, _*_, _-_, _^_, _<_, _≤_, min}
-use mathlib.Core.Path.{_≡_, refl, ap, sym, _∙_}
+use mathlib.Core.Path.{_≡_, ap, sym, _∙_}
 use mathlib.Core.Bool.{true}
 use mathlib.Core.Logic.{⊎-elim}
 use mathlib.Core.List.{List}
@@ -12,29 +11,10 @@ use lib.ListN.{length, take, drop, length-drop, drop-of-length-le}
 use lib.Seq.{take-length, take-all, take-nil}
 use Rattle.counts.specs.Number.{number}
 use Rattle.counts.specs.Counts.{bytes}
-use Rattle.counts.specs.declared.Number.{Number}
 use Rattle.counts.specs.declared.Bytes.{Bytes}
 use Rattle.counts.specs.declared.ByteCount.{ByteCount}
-use Rattle.counts.proofs.Fits.{number-over, number-is-back, number-over-back}
+use Rattle.counts.proofs.Counted.{bytes-back, bytes-over, over-bytes}
 use Rattle.counts.proofs.Sides.{lt-or-ge}
-
--- ---- counts out of their answers
-bytes-of : (v : Number) (m : Bytes) → ByteCount.Is m ≡ bytes v → v ≡ Number.Is (m .0)
-bytes-of (Number.Is n) m e = let z : m ≡ record { 0 = n } = cc in ap (λ (x : Bytes). Number.Is (x .0)) (sym z)
-bytes-of Number.Over m e = let z : _≡_ {A = ℕ} 0 1 = cc in absurd (omega arith)
-
-bytes-over-of : (v : Number) → ByteCount.Over ≡ bytes v → v ≡ Number.Over
-bytes-over-of (Number.Is n) e = let z : _≡_ {A = ℕ} 0 1 = cc in absurd (omega arith)
-bytes-over-of Number.Over e = refl
-
-pub bytes-back : (n : ℕ) (m : Bytes) → ByteCount.Is m ≡ bytes (number n) → (n ≡ m .0) × (n < 2 ^ 64)
-bytes-back n m e = number-is-back n (m .0) (bytes-of (number n) m e)
-
-pub bytes-over : (n : ℕ) → ByteCount.Over ≡ bytes (number n) → 2 ^ 64 ≤ n
-bytes-over n e = number-over-back n (bytes-over-of (number n) e)
-
-over-bytes : (n : ℕ) → 2 ^ 64 ≤ n → ByteCount.Over ≡ bytes (number n)
-over-bytes n l = sym (ap (λ (v : Number). bytes v) (number-over n l))
 
 -- ---- `is_short`
 module _ (file start count size : ℕ) where

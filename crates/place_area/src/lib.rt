@@ -92,14 +92,18 @@ pub fn part(file: &[u8], run: Run) -> &[u8]
 {
     let first = run.first;
     let len = run.len;
-    let start = least(first.0, file.len());
-    let end = start + least(len.0, file.len() - start);
+    let start = least(first, file.len());
+    let end = start + least(len, file.len() - start);
     &file[start..end]
 }
 
-// The less of the two.
-fn least(n: u64, limit: usize) -> usize
-    ensures { λ r. ⌜ r ≡ min n limit ⌝ }
+// So many bytes as an index of a slice, at most `limit`.
+fn least(n: Bytes, limit: usize) -> usize
+    ensures { λ r. ⌜ r ≡ min (n .0) limit ⌝ }
 {
-    if n < limit as u64 { n as usize } else { limit }
+    if n.0 < limit as u64 {
+        n.0 as usize
+    } else {
+        limit
+    }
 }

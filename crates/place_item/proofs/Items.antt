@@ -27,7 +27,8 @@ use Rattle.dtype.proofs.Seen.{or-left}
 use Rattle.shape.specs.Count.{itemCount, stridesCount, stridesAfter, WritesStrides}
 use Rattle.shape.proofs.Turns.{counted-fits, counted-refused}
 use Rattle.place_item.specs.Item.{itemOf}
-use Rattle.place_item.proofs.Sums.{items-back, items-over, range-of, sum-front}
+use Rattle.counts.proofs.Counted.{items-back, items-over}
+use Rattle.place_item.proofs.Sums.{range-of, sum-front}
 
 -- where the shape is not over, all its items have a number that fits
 product-fits : (o : Order) (s : List ℕ) → overShape o s ≡ false → product s < 2 ^ 64

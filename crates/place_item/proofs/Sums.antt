@@ -1,4 +1,4 @@
--- The sum of index times stride: what its loop keeps, what a range test has seen, and counts taken out of their answers.
+-- The sum of index times stride: what its loop keeps, and what a range test has seen.
 use Prim.Native.Nat.{ℕ, zero, suc, _+_, _*_, _^_, _<_, _≤_}
 use mathlib.Core.Path.{_≡_, refl, ap, sym, _∙_}
 use mathlib.Core.Bool.{true, false, and-false}
@@ -11,26 +11,10 @@ use lib.Seq.{drop-cons}
 use Rattle.counts.specs.Number.{number}
 use Rattle.counts.specs.Counts.{items}
 use Rattle.counts.specs.declared.Items.{Items}
-use Rattle.counts.specs.declared.Number.{Number}
 use Rattle.counts.specs.declared.ItemCount.{ItemCount}
 use Rattle.counts.proofs.Alike.{and-left, and-right, true-false}
-use Rattle.counts.proofs.Fits.{number-is, number-over, number-is-back, number-over-back}
+use Rattle.counts.proofs.Counted.{items-back, items-over, is-items, over-items}
 use Rattle.dtype.specs.Shape.{In-range, inRange, sumOfProducts}
-
--- ---- counts out of their answers
-items-of : (v : Number) (m : Items) → ItemCount.Is m ≡ items v → v ≡ Number.Is (m .0)
-items-of (Number.Is n) m e = let z : m ≡ record { 0 = n } = cc in ap (λ (x : Items). Number.Is (x .0)) (sym z)
-items-of Number.Over m e = let z : _≡_ {A = ℕ} 0 1 = cc in absurd (omega arith)
-
-items-over-of : (v : Number) → ItemCount.Over ≡ items v → v ≡ Number.Over
-items-over-of (Number.Is n) e = let z : _≡_ {A = ℕ} 0 1 = cc in absurd (omega arith)
-items-over-of Number.Over e = refl
-
-pub items-back : (n : ℕ) (m : Items) → ItemCount.Is m ≡ items (number n) → (n ≡ m .0) × (n < 2 ^ 64)
-items-back n m e = number-is-back n (m .0) (items-of (number n) m e)
-
-pub items-over : (n : ℕ) → ItemCount.Over ≡ items (number n) → 2 ^ 64 ≤ n
-items-over n e = number-over-back n (items-over-of (number n) e)
 
 -- ---- the loop of `sum_of_products`
 pub record Summed (x ts : List ℕ) (sum k : ℕ) : Type 0 where
@@ -45,40 +29,34 @@ no-strides : (x : List ℕ) → sumOfProducts x [] ≡ 0
 no-strides [] = refl
 no-strides (i ∷ x) = refl
 
-is-number : (m : Items) (n : ℕ) → n ≡ m .0 → n < 2 ^ 64 → ItemCount.Is m ≡ items (number n)
-is-number m n e l = sym (ap (λ (v : Number). items v) (number-is n l) ∙ ap (λ (y : ℕ). ItemCount.Is (record { 0 = y })) e)
-
-over-number : (n : ℕ) → 2 ^ 64 ≤ n → ItemCount.Over ≡ items (number n)
-over-number n l = sym (ap (λ (v : Number). items v) (number-over n l))
-
 module _ (x ts : List ℕ) (m : Items) (k : ℕ) (s : Summed x ts (m .0) k) where
   -- no number is left, or no stride
   pub summed-end : length x ≤ k → ItemCount.Is m ≡ items (number (sumOfProducts x ts))
   summed-end l =
       let a : drop k x ≡ [] = drop-of-length-le x {i = k} l in
       let b : sumOfProducts x ts ≡ m .0 + 0 = rw a at (s .is) in
-      is-number m (sumOfProducts x ts) (omega (arith, b)) (omega (arith, b, s .low))
+      is-items m (sumOfProducts x ts) (omega (arith, b)) (omega (arith, b, s .low))
 
   pub summed-short : length ts ≤ k → ItemCount.Is m ≡ items (number (sumOfProducts x ts))
   summed-short l =
       let a : drop k ts ≡ [] = drop-of-length-le ts {i = k} l in
       let b : sumOfProducts x ts ≡ m .0 + sumOfProducts (drop k x) [] = rw a at (s .is) in
       let c = no-strides (drop k x) in
-      is-number m (sumOfProducts x ts) (omega (arith, b, c)) (omega (arith, b, c, s .low))
+      is-items m (sumOfProducts x ts) (omega (arith, b, c)) (omega (arith, b, c, s .low))
 
   module _ (l : k < length x) (u : k < length ts) where
     split : sumOfProducts x ts ≡ m .0 + (getD x k 0 * getD ts k 0 + sumOfProducts (drop (suc k) x) (drop (suc k) ts))
     split = s .is ∙ rw (drop-cons x k 0 l, drop-cons ts k 0 u)
 
     pub times-over : ItemCount.Over ≡ items (number (getD x k 0 * getD ts k 0)) → ItemCount.Over ≡ items (number (sumOfProducts x ts))
-    times-over e = over-number (sumOfProducts x ts) (omega (arith, split, items-over (getD x k 0 * getD ts k 0) e))
+    times-over e = over-items (sumOfProducts x ts) (omega (arith, split, items-over (getD x k 0 * getD ts k 0) e))
 
     module _ (more : Items) (e : ItemCount.Is more ≡ items (number (getD x k 0 * getD ts k 0))) where
       more-is : getD x k 0 * getD ts k 0 ≡ more .0
       more-is = items-back (getD x k 0 * getD ts k 0) more e .0
 
       pub plus-over : ItemCount.Over ≡ items (number (m .0 + more .0)) → ItemCount.Over ≡ items (number (sumOfProducts x ts))
-      plus-over f = over-number (sumOfProducts x ts) (omega (arith, split, more-is, items-over (m .0 + more .0) f))
+      plus-over f = over-items (sumOfProducts x ts) (omega (arith, split, more-is, items-over (m .0 + more .0) f))
 
       pub summed-next : (next : Items) → ItemCount.Is next ≡ items (number (m .0 + more .0)) → Summed x ts (next .0) (k + 1)
       summed-next next f =

@@ -1,5 +1,5 @@
--- Numbers as entries hold them, from the results of sums, products and `num_bytes`: a number that fits is itself, one that is over is held as 2^64-1, as `capped` says,
--- and an object, which has no size, as 0.
+-- The size of a plain type as an entry holds it, from the result of `num_bytes`: one that fits is itself, one that is over is held as 2^64-1, as `capped` says, and an
+-- object, which has no size, as 0.
 use Prim.Native.Nat.{ℕ}
 use mathlib.Core.Path.{_≡_, refl, ap, sym, _∙_}
 use mathlib.Core.Bool.{Bool, true, false, cond}
@@ -7,7 +7,8 @@ use native.Mathlib.Omega.{arith}
 use Rattle.counts.specs.Number.{number, capped}
 use Rattle.counts.specs.declared.Number.{Number}
 use Rattle.counts.proofs.Fits.{number-is-back, number-over-back}
-use Rattle.counts.specs.Counts.{bytes}
+use Rattle.counts.proofs.Counted.{bytes-eq}
+use Rattle.counts.specs.Counts.{bytes, asBytes}
 use Rattle.counts.specs.declared.Bytes.{Bytes}
 use Rattle.type_letters.specs.Classes.{isObject}
 use Rattle.type_str.specs.Bytes.{typeBytes, countedBytes, numBytes}
@@ -16,10 +17,10 @@ use Rattle.type_str.specs.declared.TypeStr.{TypeStr}
 use Rattle.dtype.specs.PlainBytes.{plainBytes}
 use Rattle.dtype.proofs.Types.{plain-bytes-type}
 
-pub held-is : (a n : ℕ) → Number.Is n ≡ number a → n ≡ capped a
+held-is : (a n : ℕ) → Number.Is n ≡ number a → n ≡ capped a
 held-is a n e = omega (arith, number-is-back a n (sym e))
 
-pub held-over : (a : ℕ) → Number.Over ≡ number a → 18446744073709551615 ≡ capped a
+held-over : (a : ℕ) → Number.Over ≡ number a → 18446744073709551615 ≡ capped a
 held-over a e = omega (arith, number-over-back a (sym e))
 
 -- a plain type's bytes, from the result of `num_bytes`
@@ -33,8 +34,8 @@ module _ (t : TypeStr) where
   unfolding numBytes
   bytes-by b e m q = rw (numBytes, e, q)
 
-  pub sized-held : (n : Bytes) → Sized n ≡ numBytes t → n .0 ≡ capped (plainBytes t)
-  sized-held n h = rw (plain-bytes-type t) (go (isObject (t .letter)) refl (number (typeBytes t)) refl)
+  pub sized-held : (n : Bytes) → Sized n ≡ numBytes t → n ≡ asBytes (capped (plainBytes t))
+  sized-held n h = rw (plain-bytes-type t) (bytes-eq (go (isObject (t .letter)) refl (number (typeBytes t)) refl))
     where
       go : (b : Bool) → isObject (t .letter) ≡ b → (m : Number) → number (typeBytes t) ≡ m → n .0 ≡ capped (typeBytes t)
       go true e m q = let z = h ∙ bytes-by true e m q in let y : _≡_ {A = ℕ} 0 1 = cc in absurd (omega arith)
@@ -44,16 +45,16 @@ module _ (t : TypeStr) where
           ap (λ (x : Bytes). x .0) y ∙ held-is (typeBytes t) k (sym q)
       go false e Number.Over q = let z = h ∙ bytes-by false e Number.Over q in let y : _≡_ {A = ℕ} 0 1 = cc in absurd (omega arith)
 
-  pub unsized-held : Unsized ≡ numBytes t → 0 ≡ capped (plainBytes t)
-  unsized-held h = rw (plain-bytes-type t) (go (isObject (t .letter)) refl (number (typeBytes t)) refl)
+  pub unsized-held : Unsized ≡ numBytes t → asBytes 0 ≡ asBytes (capped (plainBytes t))
+  unsized-held h = rw (plain-bytes-type t) (bytes-eq (go (isObject (t .letter)) refl (number (typeBytes t)) refl))
     where
       go : (b : Bool) → isObject (t .letter) ≡ b → (m : Number) → number (typeBytes t) ≡ m → 0 ≡ capped (typeBytes t)
       go true e m q = omega (arith, object-none true e)
       go false e (Number.Is k) q = let z = h ∙ bytes-by false e (Number.Is k) q in let y : _≡_ {A = ℕ} 0 1 = cc in absurd (omega arith)
       go false e Number.Over q = let z = h ∙ bytes-by false e Number.Over q in let y : _≡_ {A = ℕ} 0 1 = cc in absurd (omega arith)
 
-  pub large-held : TooLarge ≡ numBytes t → 18446744073709551615 ≡ capped (plainBytes t)
-  large-held h = rw (plain-bytes-type t) (go (isObject (t .letter)) refl (number (typeBytes t)) refl)
+  pub large-held : TooLarge ≡ numBytes t → asBytes 18446744073709551615 ≡ asBytes (capped (plainBytes t))
+  large-held h = rw (plain-bytes-type t) (bytes-eq (go (isObject (t .letter)) refl (number (typeBytes t)) refl))
     where
       go : (b : Bool) → isObject (t .letter) ≡ b → (m : Number) → number (typeBytes t) ≡ m → 18446744073709551615 ≡ capped (typeBytes t)
       go true e m q = let z = h ∙ bytes-by true e m q in let y : _≡_ {A = ℕ} 0 1 = cc in absurd (omega arith)

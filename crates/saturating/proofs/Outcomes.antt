@@ -6,12 +6,14 @@ use Rattle.counts.proofs.OneOutcome.{by-equation}
 use Rattle.type_str.specs.declared.TypeStr.{TypeStr}
 use Rattle.dtype.specs.PlainBytes.{plainBytes}
 use Rattle.counts.specs.Number.{capped}
+use Rattle.counts.specs.Counts.{asBytes}
+use Rattle.counts.specs.declared.Bytes.{Bytes}
 
-pub held-bytes-one : (t : TypeStr) → OneOutcome {A = ℕ} (λ r. r ≡ capped (plainBytes t))
-held-bytes-one t = by-equation (capped (plainBytes t))
+pub held-bytes-one : (t : TypeStr) → OneOutcome {A = Bytes} (λ r. r ≡ asBytes (capped (plainBytes t)))
+held-bytes-one t = by-equation (asBytes (capped (plainBytes t)))
 
-pub held-sum-one : (a b : ℕ) → OneOutcome {A = ℕ} (λ r. r ≡ capped (a + b))
-held-sum-one a b = by-equation (capped (a + b))
+pub held-sum-one : (a b : ℕ) → OneOutcome {A = Bytes} (λ r. r ≡ asBytes (capped (a + b)))
+held-sum-one a b = by-equation (asBytes (capped (a + b)))
 
-pub held-product-one : (a b : ℕ) → OneOutcome {A = ℕ} (λ r. r ≡ capped (a * b))
-held-product-one a b = by-equation (capped (a * b))
+pub held-product-one : (a b : ℕ) → OneOutcome {A = Bytes} (λ r. r ≡ asBytes (capped (a * b)))
+held-product-one a b = by-equation (asBytes (capped (a * b)))

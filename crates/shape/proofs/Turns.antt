@@ -12,8 +12,9 @@ use lib.Seq.{ext-getD, getD-set-same, getD-set-other, getD-append-add, getD-drop
 use Rattle.counts.specs.Outcome.{gives, refused, unless}
 use Rattle.counts.specs.declared.Items.{Items}
 use Rattle.counts.specs.Number.{number}
-use Rattle.counts.specs.declared.Number.the-variants.{Is, Over}
-use Rattle.counts.proofs.Fits.{number-is-back, number-over-back}
+use Rattle.counts.specs.Counts.{items}
+use Rattle.counts.specs.declared.ItemCount.{ItemCount}
+use Rattle.counts.proofs.Counted.{items-back, items-over}
 use Rattle.dtype.specs.declared.Order.{Order}
 use Rattle.dtype.specs.Shape.{product, stride, strides}
 use Rattle.dtype.specs.Limits.{overShape}
@@ -29,8 +30,8 @@ use Rattle.shape.specs.Visit.{visited}
 use Rattle.shape.proofs.Passed.{visited-below, visited-back, visited-apart, passed, passed-none, passed-all, passed-next, stride-passed, all-fit, one-over}
 
 -- the product after one more turn, `at` being the dimension that it visits
-next-product : (o : Order) (s : List ℕ) (acc k at : ℕ) → acc ≡ passed o s k → k < length s → at ≡ visited o (length s) k → passed o s (k + 1) ≡ acc * getD s at 0
-next-product o s acc k at e l v = rw (v, e) (passed-next o s k l)
+next-product : (o : Order) (s : List ℕ) (acc k at : ℕ) → acc ≡ passed o s k → k < length s → at ≡ visited o (length s) k → passed o s (k + 1) ≡ getD s at 0 * acc
+next-product o s acc k at e l v = rw (v, e) (passed-next o s k l ∙ omega arith)
 
 -- the loop of `count`
 pub record Counting (o : Order) (s : List ℕ) (acc k : ℕ) : Type 0 where
@@ -47,24 +48,24 @@ counting-start o s =
     }
 
 module _ (o : Order) (s : List ℕ) (acc k at : ℕ) (c : Counting o s acc k) (l : k < length s) (v : at ≡ visited o (length s) k) where
-  pub counting-next : (m : ℕ) → Is m ≡ number (acc * getD s at 0) → Counting o s m (k + 1)
+  pub counting-next : (m : Items) → ItemCount.Is m ≡ items (number (getD s at 0 * acc)) → Counting o s (m .0) (k + 1)
   counting-next m e =
-      let b = number-is-back (acc * getD s at 0) m (sym e) in
-      let q : passed o s (k + 1) ≡ m = next-product o s acc k at (c .is) l v ∙ b .0 in
+      let b = items-back (getD s at 0 * acc) m e in
+      let q : passed o s (k + 1) ≡ m .0 = next-product o s acc k at (c .is) l v ∙ b .0 in
       record {
         within = omega arith;
         is = sym q;
         fit = λ j h.
             ⊎-elim
             (λ (u : j < k + 1). c .fit j (omega arith))
-            (λ (u : k + 1 ≤ j). let z : j ≡ k + 1 = omega arith in rw (z, q) (omega arith))
+            (λ (u : k + 1 ≤ j). let z : j ≡ k + 1 = omega arith in rw (z, q) (omega (arith, b .0, b .1)))
             (lt-or-ge j (k + 1));
       }
 
-  pub counting-over : Over ≡ number (acc * getD s at 0) → refused 22 ≡ itemCount o s
+  pub counting-over : ItemCount.Over ≡ items (number (getD s at 0 * acc)) → refused 22 ≡ itemCount o s
   unfolding itemCount
   counting-over e =
-      let b = number-over-back (acc * getD s at 0) (sym e) in
+      let b = items-over (getD s at 0 * acc) e in
       simp (one-over o s (k + 1) (omega arith) (rw (next-product o s acc k at (c .is) l v) b))
 
 pub counting-end : (o : Order) (s : List ℕ) (acc k : ℕ) → Counting o s acc k → length s ≤ k → gives acc ≡ itemCount o s
@@ -99,7 +100,7 @@ filling-start o s old r f =
 module _ (o : Order) (s old : List ℕ) (acc k at : ℕ) (out : List ℕ) (f : Filling o s old acc k out) (l : k < length s)
     (v : at ≡ visited o (length s) k) where
   -- where the shape is not over, the next product fits
-  pub filling-fits : acc * getD s at 0 < 2 ^ 64
+  filling-fits : getD s at 0 * acc < 2 ^ 64
   filling-fits =
       let q = next-product o s acc k at (f .is) l v in
       ⊎-elim
@@ -110,8 +111,11 @@ module _ (o : Order) (s old : List ℕ) (acc k at : ℕ) (out : List ℕ) (f : F
       absurd (omega arith))
       (lt-or-ge (passed o s (k + 1)) (2 ^ 64))
 
-  pub filling-next : Filling o s old (acc * getD s at 0) (k + 1) (set out at acc)
-  filling-next =
+  pub filling-over : {A : Type 0} → ItemCount.Over ≡ items (number (getD s at 0 * acc)) → A
+  filling-over e = absurd (omega (arith, filling-fits, items-over (getD s at 0 * acc) e))
+
+  pub filling-next : (m : Items) → ItemCount.Is m ≡ items (number (getD s at 0 * acc)) → Filling o s old (m .0) (k + 1) (set out at acc)
+  filling-next m e =
       let b : at < length s = rw v (visited-below o (length s) k l) in
       let put : getD (set out at acc) at 0 ≡ acc = getD-set-same out at acc 0 (omega (arith, f .same-length, f .room)) in
       record {
@@ -119,7 +123,7 @@ module _ (o : Order) (s old : List ℕ) (acc k at : ℕ) (out : List ℕ) (f : F
         fit = f .fit;
         same-length = length-set out at acc ∙ f .same-length;
         within = omega arith;
-        is = sym (next-product o s acc k at (f .is) l v);
+        is = sym (next-product o s acc k at (f .is) l v ∙ items-back (getD s at 0 * acc) m e .0);
         placed = λ j h.
             ⊎-elim
             (λ (u : j < k). getD-set-other out at (visited o (length s) j) acc 0 (λ e. visited-apart o (length s) j k u l (e ∙ v)) ∙ f .placed j u)

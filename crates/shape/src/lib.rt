@@ -1,7 +1,7 @@
 // The item count and the strides of a shape, or 22, or 23 (document 01, "The record"; `strides` of npyz's read.rs). Called by the check of a record, by item numbers, by
 // the listing and by the C interface.
+use counts::ItemCount;
 use counts::Items;
-use counts::Number;
 use dtype::Order;
 use refusal::ItemsAnswer;
 use refusal::Refusal;
@@ -20,17 +20,17 @@ ghost use Rattle.shape.specs.Visit.{visited};
 pub fn count(shape: &[u64], order: Order) -> ItemsAnswer
     ensures { λ r. ⌜ itemsAnswer r ≡ itemCount order (now (shape .entry)) ⌝ }
 {
-    let mut product: u64 = 1;
+    let mut product = Items(1);
     let mut k: usize = 0;
     while k < shape.len() {
         let at = visit(order, shape.len(), k);
-        let Number::Is(next) = counts::product(product, shape[at]) else {
+        let ItemCount::Is(next) = product.times(shape[at]) else {
             return ItemsAnswer::Refused(Refusal::Shape);
         };
         product = next;
         k += 1;
     }
-    ItemsAnswer::Is(Items(product))
+    ItemsAnswer::Is(product)
 }
 
 // Writes the strides of a shape, in items, to the front of `out`, and returns the item count; or 22; or 23 where `out` is shorter than the shape. A refusal leaves
@@ -49,17 +49,20 @@ pub fn strides(shape: &[u64], order: Order, out: &mut [u64]) -> ItemsAnswer
     ItemsAnswer::Is(items)
 }
 
-// Each stride is the product of the dimensions visited before.
+// Each stride is the product of the dimensions visited before. None of these products is over.
 fn fill(shape: &[u64], order: Order, out: &mut [u64])
     requires { ⌜ (length (now shape) ≤ length (now out)) × (overShape order (now shape) ≡ false) ⌝ }
     ensures { λ r. ⌜ now (out .exit) ≡ atFront (strides order (now (shape .entry))) (now (out .entry)) ⌝ }
 {
-    let mut stride: u64 = 1;
+    let mut stride = Items(1);
     let mut k: usize = 0;
     while k < shape.len() {
         let at = visit(order, shape.len(), k);
-        out[at] = stride;
-        stride = stride * shape[at];
+        out[at] = stride.0;
+        let ItemCount::Is(next) = stride.times(shape[at]) else {
+            return;
+        };
+        stride = next;
         k += 1;
     }
 }

@@ -7,7 +7,7 @@ use mathlib.Core.List.{List, [], _∷_}
 use mathlib.Core.Bool.{false}
 use lib.ListN.{length}
 use Rattle.counts.specs.Outcome.{Outcome, gives, refused, then, each}
-use Rattle.counts.specs.declared.Number.the-variants.{Is}
+use Rattle.counts.specs.declared.ItemCount.{ItemCount}
 use Rattle.counts.proofs.Fits.{number-is}
 use Rattle.record.specs.Parts.{membersOr}
 use Rattle.record.specs.Dimensions.{dimension}
@@ -33,11 +33,11 @@ use Rattle.shape_text.specs.Members.{closingOf}
 use Rattle.shape_text.specs.Walk.{dimensionsOf, goesOn}
 
 -- ---- members, one after the other
-none-outline : outlineOf [] ≡ record { rank = 0; empty = false; before = Is 1; after = Is 1 }
+none-outline : outlineOf [] ≡ record { rank = 0; empty = false; before = ItemCount.Is (record { 0 = 1 }); after = ItemCount.Is (record { 0 = 1 }) }
 unfolding outlineOf
 none-outline = rw (number-is 1 (omega arith))
 
-pub nothing-is : Good (record { rank = 0; empty = false; before = Is 1; after = Is 1 }) ≡ Good (outlineOf [])
+pub nothing-is : Good (record { rank = 0; empty = false; before = ItemCount.Is (record { 0 = 1 }); after = ItemCount.Is (record { 0 = 1 }) }) ≡ Good (outlineOf [])
 nothing-is = ap Good (sym none-outline)
 
 -- no members are met yet

@@ -1,6 +1,7 @@
 // Shapes and sub-shapes in the text of a header (document 01, "The record"): `judge` decides 11 and 12 and outlines the dimensions for 13, 21 and 22; `fill` stores the
 // dimensions. Called by descr_field and judge, which judge a header's text, and by header, which stores an accepted one.
-use counts::Number;
+use counts::ItemCount;
+use counts::Items;
 use literal::value;
 use literal_bytes::Gap;
 use literal_bytes::MINUS;
@@ -191,8 +192,8 @@ fn nothing() -> ShapeVerdict
     ShapeVerdict::Good(Outline {
         rank: 0,
         empty: false,
-        before: Number::Is(1),
-        after: Number::Is(1),
+        before: ItemCount::Is(Items(1)),
+        after: ItemCount::Is(Items(1)),
     })
 }
 

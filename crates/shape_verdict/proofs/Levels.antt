@@ -11,7 +11,8 @@ use lib.ListN.{length}
 use lib.Dec.{eqb, ltb}
 use borrow.Author.Tests.{eqb-true, eqb-false, le-leb, lt-leb, lt-ltb, le-ltb}
 use Rattle.counts.specs.Number.{number}
-use Rattle.counts.specs.declared.Number.the-variants.{Is}
+use Rattle.counts.specs.Counts.{items, bytes}
+use Rattle.counts.specs.declared.ByteCount.{ByteCount}
 use Rattle.counts.proofs.Fits.{number-is}
 use Rattle.counts.proofs.Sides.{lt-or-ge}
 use Rattle.dtype.specs.Dtype.{Dtype, plain, array, record-of, sizeOf}
@@ -19,8 +20,8 @@ use Rattle.dtype.specs.Entries.{someEntry, levels, hasObject}
 use Rattle.dtype.specs.Shape.{product}
 use Rattle.dtype.specs.Limits.{over, someOver, overLevels}
 use Rattle.record.specs.Descr.{arrays}
-use Rattle.shape_verdict.specs.Outline.{hasZero, afterZero, outlineOf, scaledBy, largestIn}
-use Rattle.shape_verdict.proofs.Outlines.{number-scaled}
+use Rattle.shape_verdict.specs.Outline.{hasZero, afterZero, outlineOf, sizedBy, largestIn}
+use Rattle.shape_verdict.proofs.Outlines.{bytes-sized}
 
 -- ---- products
 pub zero-product : (ns : List ℕ) → hasZero ns ≡ true → product ns ≡ 0
@@ -105,15 +106,15 @@ arrays-over (n ∷ ns) d =
     (sym (or-assoc (over (n * (product ns * sizeOf d))) (over (afterZero ns * sizeOf d)) (someOver d)) ∙ ap (λ (b : Bool). b || someOver d) (over-front (sizeOf d) n ns))
 
 -- both by the outline and the inner size alone
-pub largest-is : (ns : List ℕ) (s : ℕ) → largestIn (outlineOf ns) s ≡ number (afterZero ns * s)
+pub largest-is : (ns : List ℕ) (s : ℕ) → largestIn (outlineOf ns) s ≡ bytes (number (afterZero ns * s))
 unfolding largestIn outlineOf
 largest-is ns s = go (eqb s 0) refl
   where
-    go : (t : Bool) → eqb s 0 ≡ t → cond t (Is 0) (scaledBy (number (afterZero ns)) s) ≡ number (afterZero ns * s)
+    go : (t : Bool) → eqb s 0 ≡ t → cond t (ByteCount.Is (record { 0 = 0 })) (sizedBy (items (number (afterZero ns))) s) ≡ bytes (number (afterZero ns * s))
     go true h =
         let z : afterZero ns * s ≡ 0 = ap (λ (x : ℕ). afterZero ns * x) (eqb-true s 0 h) ∙ omega arith in
-        sym (ap number z ∙ number-is 0 (omega arith))
-    go false h = sym (number-scaled (afterZero ns) s h)
+        sym (ap (λ (x : ℕ). bytes (number x)) z ∙ ap bytes (number-is 0 (omega arith)))
+    go false h = sym (bytes-sized (afterZero ns) s h)
 
 -- 13: the outermost level has the most levels below it
 pub arrays-levels : (ns : List ℕ) (d : Dtype) → levels (arrays ns d) ≡ length ns + levels d

@@ -12,7 +12,8 @@ use Rattle.dtype.specs.Shape.{product, strides}
 use Rattle.dtype.specs.Limits.{over, anyOver, overShape}
 use Rattle.dtype.proofs.Strides.{strides-c, strides-reverse, product-reverse}
 use Rattle.shape_verdict.specs.Outline.{beforeZero, afterZero, outlineOf, overIn}
-use Rattle.shape_verdict.proofs.Outlines.{number-over-is, after-last}
+use Rattle.counts.proofs.Counted.{items-test}
+use Rattle.shape_verdict.proofs.Outlines.{after-last}
 use Rattle.shape_verdict.proofs.Levels.{over-front}
 
 times-one : (x : ℕ) → x * 1 ≡ x
@@ -63,5 +64,5 @@ fortran-over ns = mirrored ns ∙ c-over (reverse ns) ∙ ap over (after-reverse
 -- both, by the outline
 pub outline-over : (o : Order) (ns : List ℕ) → overIn o (outlineOf ns) ≡ overShape o ns
 unfolding outlineOf
-outline-over C ns = number-over-is (afterZero ns) ∙ sym (c-over ns)
-outline-over Fortran ns = number-over-is (beforeZero ns) ∙ sym (fortran-over ns)
+outline-over C ns = items-test (afterZero ns) ∙ sym (c-over ns)
+outline-over Fortran ns = items-test (beforeZero ns) ∙ sym (fortran-over ns)

@@ -7,6 +7,7 @@ use Rattle.counts.specs.OneOutcome.{OneOutcome}
 use Rattle.counts.proofs.OneOutcome.{by-equation}
 use Rattle.counts.specs.Number.{number}
 use Rattle.counts.specs.declared.Number.{Number}
+use Rattle.counts.specs.declared.ByteCount.{ByteCount}
 use Rattle.refusal.proofs.Names.{refusal-back}
 use Rattle.refusal.proofs.Answers.{answerFor, answer-one}
 use Rattle.dtype.specs.declared.Order.{Order}
@@ -15,7 +16,7 @@ use Rattle.shape_verdict.specs.declared.Outline.{Outline}
 use Rattle.shape_verdict.specs.declared.ShapeVerdict.{ShapeVerdict}
 use Rattle.shape_verdict.specs.declared.ShapeVerdict.the-variants.{Good, Refused}
 use Rattle.shape_verdict.specs.declared.Member.{Member}
-use Rattle.shape_verdict.specs.Outline.{isOver, largestIn, overIn}
+use Rattle.shape_verdict.specs.Outline.{largestIn, overIn}
 use Rattle.shape_verdict.specs.Answer.{sized, outlined}
 use Rattle.shape_verdict.specs.Signs.{positiveOf, negativeOf}
 
@@ -30,11 +31,8 @@ joined-one o = answer-one outlined Good Refused same o
 pub over-one : (o : Order) (shape : Outline) → OneOutcome {A = Bool} (λ r. r ≡ overIn o shape)
 over-one o shape = by-equation (overIn o shape)
 
-pub largest-one : (levels : Outline) (size : ℕ) → OneOutcome {A = Number} (λ r. r ≡ largestIn levels size)
+pub largest-one : (levels : Outline) (size : ℕ) → OneOutcome {A = ByteCount} (λ r. r ≡ largestIn levels size)
 largest-one levels size = by-equation (largestIn levels size)
-
-pub is-over-one : (n : Number) → OneOutcome {A = Bool} (λ r. r ≡ isOver n)
-is-over-one n = by-equation (isOver n)
 
 pub positive-one : (n : Number) → OneOutcome {A = Member} (λ r. ((m : ℕ) → n ≡ number m → sized r ≡ signed false m) × (r ≡ positiveOf n))
 positive-one n x y a b = a .1 ∙ sym (b .1)

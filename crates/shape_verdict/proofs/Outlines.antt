@@ -9,12 +9,11 @@ use mathlib.Core.List.{List, [], _∷_, _++_, append-nil, append-assoc}
 use mathlib.Core.Bool.{Bool, true, false, _||_, cond, or-true, or-assoc, or-false}
 use lib.ListN.{length-append}
 use lib.Dec.{eqb}
-use borrow.Author.Tests.{eqb-false, eq-eqb, ne-eqb, le-leb, lt-leb}
+use borrow.Author.Tests.{eqb-false, eq-eqb, ne-eqb}
 use Rattle.counts.specs.Number.{number, capped}
-use Rattle.counts.specs.declared.Number.{Number}
-use Rattle.counts.specs.declared.Number.the-variants.{Is}
+use Rattle.counts.specs.Counts.{items, bytes}
+use Rattle.counts.specs.declared.ItemCount.{ItemCount}
 use Rattle.counts.proofs.Fits.{number-is, number-over}
-use Rattle.dtype.specs.Limits.{over}
 use Rattle.counts.specs.Outcome.{Outcome, gives, refused, then, each}
 use Rattle.counts.proofs.Sides.{lt-or-ge}
 use Rattle.shape_verdict.specs.declared.Outline.{Outline}
@@ -22,27 +21,29 @@ use Rattle.shape_verdict.specs.declared.ShapeVerdict.{ShapeVerdict}
 use Rattle.shape_verdict.specs.declared.ShapeVerdict.the-variants.{Good, Refused}
 use Rattle.shape_verdict.specs.declared.Member.{Member}
 use Rattle.shape_verdict.specs.Answer.{sized, outlined, rankOf}
-use Rattle.shape_verdict.specs.Outline.{hasZero, beforeZero, afterZero, outlineOf, scaledBy, extendedTo, extendedBy, extends, extendedCapped, isOver}
+use Rattle.shape_verdict.specs.Outline.{hasZero, beforeZero, afterZero, outlineOf, scaledBy, sizedBy, extendedTo, extendedBy, extends, extendedCapped}
 
--- a product of numbers that fit or are over, where the new factor is not 0
-pub number-scaled : (a n : ℕ) → eqb n 0 ≡ false → number (a * n) ≡ scaledBy (number a) n
+-- a product that fits or is over, where the new factor is not 0
+large : (a : ℕ) → 2 ^ 64 ≤ a → (m : ℕ) → (m ≡ 0 → ⊥) → 2 ^ 64 ≤ a * m
+large a l zero z = absurd (z refl)
+large a l (suc m) z = omega (arith, mul-suc a m)
+
+pub items-scaled : (a n : ℕ) → eqb n 0 ≡ false → items (number (a * n)) ≡ scaledBy (items (number a)) n
 unfolding scaledBy
-number-scaled a n h =
+items-scaled a n h =
+    let e : a * n ≡ n * a = omega arith in
+    ⊎-elim
+    (λ (l : a < 2 ^ 64). rw (number-is a l) (ap (λ (x : ℕ). items (number x)) e))
+    (λ (l : 2 ^ 64 ≤ a). rw (number-over a l) (ap items (number-over (a * n) (large a l n (eqb-false n 0 h)))))
+    (lt-or-ge a (2 ^ 64))
+
+pub bytes-sized : (a s : ℕ) → eqb s 0 ≡ false → bytes (number (a * s)) ≡ sizedBy (items (number a)) s
+unfolding sizedBy
+bytes-sized a s h =
     ⊎-elim
     (λ (l : a < 2 ^ 64). rw (number-is a l))
-    (λ (l : 2 ^ 64 ≤ a). rw (number-over a l) (number-over (a * n) (large l n (eqb-false n 0 h))))
+    (λ (l : 2 ^ 64 ≤ a). rw (number-over a l) (ap bytes (number-over (a * s) (large a l s (eqb-false s 0 h)))))
     (lt-or-ge a (2 ^ 64))
-  where
-    large : 2 ^ 64 ≤ a → (m : ℕ) → (m ≡ 0 → ⊥) → 2 ^ 64 ≤ a * m
-    large l zero z = absurd (z refl)
-    large l (suc m) z = omega (arith, mul-suc a m)
-
-pub number-over-is : (n : ℕ) → isOver (number n) ≡ over n
-number-over-is n =
-    ⊎-elim
-    (λ (h : n < 2 ^ 64). rw (number-is n h, lt-leb (2 ^ 64) n h))
-    (λ (h : 2 ^ 64 ≤ n). rw (number-over n h, le-leb (2 ^ 64) n h))
-    (lt-or-ge n (2 ^ 64))
 
 pub zero-last : (us : List ℕ) (n : ℕ) → hasZero (us ++ n ∷ []) ≡ (hasZero us || eqb n 0)
 zero-last [] n = or-false (eqb n 0)
@@ -82,28 +83,29 @@ outline-eq hr he ha hb = cc
 -- one dimension more
 pub outline-last : (us : List ℕ) (n : ℕ) → outlineOf (us ++ n ∷ []) ≡ extendedBy (outlineOf us) n
 unfolding outlineOf extendedTo
-outline-last us n = outline-eq (length-append us (n ∷ [])) (zero-last us n) (ap number (before-last us n) ∙ before (hasZero us) (eqb n 0) refl) (ap number (after-last us n) ∙ after (eqb n 0) refl)
+outline-last us n = outline-eq (length-append us (n ∷ [])) (zero-last us n) (ap (λ (x : ℕ). items (number x)) (before-last us n) ∙ before (hasZero us) (eqb n 0) refl) (ap (λ (x : ℕ). items (number x)) (after-last us n) ∙ after (eqb n 0) refl)
   where
-    before : (b z : Bool) → eqb n 0 ≡ z → number (cond (b || z) (beforeZero us) (beforeZero us * n)) ≡ cond (b || z) (number (beforeZero us)) (scaledBy (number (beforeZero us)) n)
+    before : (b z : Bool) → eqb n 0 ≡ z
+        → items (number (cond (b || z) (beforeZero us) (beforeZero us * n))) ≡ cond (b || z) (items (number (beforeZero us))) (scaledBy (items (number (beforeZero us))) n)
     before true z h = refl
     before false true h = refl
-    before false false h = number-scaled (beforeZero us) n h
+    before false false h = items-scaled (beforeZero us) n h
 
-    after : (z : Bool) → eqb n 0 ≡ z → number (cond z 1 (afterZero us * n)) ≡ cond z (Is 1) (scaledBy (number (afterZero us)) n)
-    after true h = number-is 1 (omega arith)
-    after false h = number-scaled (afterZero us) n h
+    after : (z : Bool) → eqb n 0 ≡ z → items (number (cond z 1 (afterZero us * n))) ≡ cond z (ItemCount.Is (record { 0 = 1 })) (scaledBy (items (number (afterZero us))) n)
+    after true h = ap items (number-is 1 (omega arith))
+    after false h = items-scaled (afterZero us) n h
 
 -- by whether the new dimension is 0, and whether one before it is
 module _ (k : ℕ) (o : Outline) (n : ℕ) where
-  pub extended-zero : n ≡ 0 → record { rank = k; empty = true; before = o .before; after = Is 1 } ≡ extendedTo k o n
+  pub extended-zero : n ≡ 0 → record { rank = k; empty = true; before = o .before; after = ItemCount.Is (record { 0 = 1 }) } ≡ extendedTo k o n
   unfolding extendedTo
   extended-zero h = rw (eq-eqb n 0 h, or-true (o .empty))
 
-  pub extended-empty : (b : Number) → (n ≡ 0 → ⊥) → o .empty ≡ true → b ≡ scaledBy (o .after) n → record { rank = k; empty = true; before = o .before; after = b } ≡ extendedTo k o n
+  pub extended-empty : (b : ItemCount) → (n ≡ 0 → ⊥) → o .empty ≡ true → b ≡ scaledBy (o .after) n → record { rank = k; empty = true; before = o .before; after = b } ≡ extendedTo k o n
   unfolding extendedTo
   extended-empty b h e hb = rw (ne-eqb n 0 h, e, hb)
 
-  pub extended-more : (a b : Number) → (n ≡ 0 → ⊥) → o .empty ≡ false → a ≡ scaledBy (o .before) n → b ≡ scaledBy (o .after) n
+  pub extended-more : (a b : ItemCount) → (n ≡ 0 → ⊥) → o .empty ≡ false → a ≡ scaledBy (o .before) n → b ≡ scaledBy (o .after) n
       → record { rank = k; empty = false; before = a; after = b } ≡ extendedTo k o n
   unfolding extendedTo
   extended-more a b h e ha hb = rw (ne-eqb n 0 h, e, ha, hb)

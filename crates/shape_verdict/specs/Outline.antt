@@ -5,12 +5,13 @@
 -- proofs/Orders.antt.
 use Prim.Native.Nat.{ℕ, _+_, _*_}
 use mathlib.Core.List.{List, [], _∷_}
-use mathlib.Core.Bool.{Bool, true, false, _||_, cond}
+use mathlib.Core.Bool.{Bool, false, _||_, cond}
 use lib.Dec.{eqb}
 use lib.ListN.{length}
 use Rattle.counts.specs.Number.{number, capped}
-use Rattle.counts.specs.declared.Number.{Number}
-use Rattle.counts.specs.declared.Number.the-variants.{Is, Over}
+use Rattle.counts.specs.Counts.{items, bytes, itemsOver}
+use Rattle.counts.specs.declared.ItemCount.{ItemCount}
+use Rattle.counts.specs.declared.ByteCount.{ByteCount}
 use Rattle.dtype.specs.declared.Order.{Order}
 use Rattle.dtype.specs.declared.Order.the-variants.{C, Fortran}
 use Rattle.shape_verdict.specs.declared.Outline.{Outline}
@@ -32,12 +33,12 @@ afterZero (n ∷ ns) = cond (hasZero (n ∷ ns)) (afterZero ns) (n * afterZero n
 
 -- the four together
 unfoldable pub outlineOf : List ℕ → Outline
-outlineOf ns = record { rank = length ns; empty = hasZero ns; before = number (beforeZero ns); after = number (afterZero ns) }
+outlineOf ns = record { rank = length ns; empty = hasZero ns; before = items (number (beforeZero ns)); after = items (number (afterZero ns)) }
 
--- a product, or over, times a number that is not 0
-unfoldable pub scaledBy : Number → ℕ → Number
-scaledBy (Is a) n = number (a * n)
-scaledBy Over n = Over
+-- a product, or over, times a dimension that is not 0
+unfoldable pub scaledBy : ItemCount → ℕ → ItemCount
+scaledBy (ItemCount.Is a) n = items (number (n * a .0))
+scaledBy ItemCount.Over n = ItemCount.Over
 
 -- the outline with one dimension more after the others, where that makes the rank k
 unfoldable pub extendedTo : ℕ → Outline → ℕ → Outline
@@ -46,7 +47,7 @@ extendedTo k o n =
       rank = k;
       empty = o .empty || eqb n 0;
       before = cond (o .empty || eqb n 0) (o .before) (scaledBy (o .before) n);
-      after = cond (eqb n 0) (Is 1) (scaledBy (o .after) n);
+      after = cond (eqb n 0) (ItemCount.Is (record { 0 = 1 })) (scaledBy (o .after) n);
     }
 
 abbrev pub extendedBy : Outline → ℕ → Outline
@@ -61,15 +62,16 @@ extends o (n ∷ ns) = extends (extendedBy o n) ns
 abbrev pub extendedCapped : Outline → ℕ → Outline
 extendedCapped o n = extendedTo (capped (o .rank + 1)) o n
 
+-- so many items of s bytes, where s is not 0
+unfoldable pub sizedBy : ItemCount → ℕ → ByteCount
+sizedBy (ItemCount.Is a) s = bytes (number (a .0 * s))
+sizedBy ItemCount.Over s = ByteCount.Over
+
 -- 21, by the outline: the largest size that an array level has, over items of s bytes
-unfoldable pub largestIn : Outline → ℕ → Number
-largestIn o s = cond (eqb s 0) (Is 0) (scaledBy (o .after) s)
+unfoldable pub largestIn : Outline → ℕ → ByteCount
+largestIn o s = cond (eqb s 0) (ByteCount.Is (record { 0 = 0 })) (sizedBy (o .after) s)
 
 -- 22, by the outline
-abbrev pub isOver : Number → Bool
-isOver (Is n) = false
-isOver Over = true
-
 abbrev pub overIn : Order → Outline → Bool
-overIn C o = isOver (o .after)
-overIn Fortran o = isOver (o .before)
+overIn C o = itemsOver (o .after)
+overIn Fortran o = itemsOver (o .before)

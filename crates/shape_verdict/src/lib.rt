@@ -1,10 +1,14 @@
 // Whether numbers are the dimensions of a shape or sub-shape (11, 12), and what 13, 21 and 22 need of them (document 01, "The record" and "The refusal numbers"). Called by
 // shape_text for each member of a shape in a header's text, and by descr_totals and judge_limits for the finished outline.
+use counts::ByteCount;
+use counts::Bytes;
+use counts::ItemCount;
+use counts::Items;
 use counts::Number;
 use dtype::Order;
 use refusal::Refusal;
 ghost use mathlib.Core.Path.{_≡_};
-ghost use Rattle.shape_verdict.specs.Outline.{scaledBy, isOver, largestIn, overIn, extendedCapped};
+ghost use Rattle.shape_verdict.specs.Outline.{scaledBy, sizedBy, largestIn, overIn, extendedCapped};
 ghost use mathlib.Core.Bool.{true, false};
 ghost use Prim.Native.Nat.{ℕ, _+_};
 ghost use Rattle.counts.specs.Number.{number, capped};
@@ -17,8 +21,8 @@ ghost use Rattle.counts.specs.Outcome.{then, each};
 pub struct Outline {
     pub rank: usize,
     pub empty: bool,
-    pub before: Number,
-    pub after: Number,
+    pub before: ItemCount,
+    pub after: ItemCount,
 }
 
 // A shape or sub-shape; or 11; or 12.
@@ -40,39 +44,39 @@ pub fn over(shape: Outline, order: Order) -> bool
     let before = shape.before;
     let after = shape.after;
     match order {
-        Order::C => is_over(after),
-        Order::Fortran => is_over(before),
+        Order::C => after.is_over(),
+        Order::Fortran => before.is_over(),
     }
 }
 
 // The largest size that an array level of a sub-shape has, over items of `size` bytes (21).
-pub fn largest(levels: Outline, size: u64) -> Number
-    ensures { λ r. ⌜ r ≡ largestIn levels size ⌝ }
+pub fn largest(levels: Outline, size: Bytes) -> ByteCount
+    ensures { λ r. ⌜ r ≡ largestIn levels (size .0) ⌝ }
 {
     let after = levels.after;
-    if size == 0 {
-        return Number::Is(0);
+    if size.0 == 0 {
+        return ByteCount::Is(Bytes(0));
     }
-    scaled(after, size)
+    sized(after, size)
 }
 
-// Whether a product is over 2^64-1.
-pub fn is_over(n: Number) -> bool
-    ensures { λ r. ⌜ r ≡ isOver n ⌝ }
+// The bytes of a product of dimensions, over items of `size` bytes.
+fn sized(n: ItemCount, size: Bytes) -> ByteCount
+    ensures { λ r. ⌜ r ≡ sizedBy n (size .0) ⌝ }
 {
     match n {
-        Number::Is(_) => false,
-        Number::Over => true,
+        ItemCount::Is(n) => n.of_size(size),
+        ItemCount::Over => ByteCount::Over,
     }
 }
 
 // A product times one more dimension.
-fn scaled(a: Number, n: u64) -> Number
+fn scaled(a: ItemCount, n: u64) -> ItemCount
     ensures { λ r. ⌜ r ≡ scaledBy a n ⌝ }
 {
     match a {
-        Number::Is(a) => counts::product(a, n),
-        Number::Over => Number::Over,
+        ItemCount::Is(a) => a.times(n),
+        ItemCount::Over => ItemCount::Over,
     }
 }
 
@@ -129,7 +133,7 @@ fn extended(o: Outline, n: u64) -> Outline
             rank: rank,
             empty: true,
             before: before,
-            after: Number::Is(1),
+            after: ItemCount::Is(Items(1)),
         };
     }
     if o.empty {

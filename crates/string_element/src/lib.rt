@@ -87,19 +87,19 @@ pub fn judge(run: &[u8], order: Endianness) -> PointsAnswer
     ensures { λ r. ⌜ pointsAnswer r ≡ each (λ ps. length (trimmed ps)) (points order (now (run .entry))) ⌝ }
 {
     let mut at: usize = 0;
-    let mut count: u64 = 0;
-    let mut kept: u64 = 0;
+    let mut count = Points(0);
+    let mut kept = Points(0);
     while at < run.len() {
         let PointRead::Scalar(p) = point_at(run, order, at) else {
             return PointsAnswer::Refused(Refusal::Scalar);
         };
         at += 4;
-        count += 1;
+        count = Points(count.0 + 1);
         if p != 0 {
             kept = count;
         }
     }
-    PointsAnswer::Is(Points(kept))
+    PointsAnswer::Is(kept)
 }
 
 // The code point in the four bytes from `at` on.
@@ -159,39 +159,39 @@ pub fn write_bytes(t: TypeStr, value: &[u8], out: &mut [u8]) -> BytesAnswer
             if t.size < value.len() as u64 {
                 return BytesAnswer::Refused(Refusal::Misfit);
             }
-            place_bytes(t.size, value, out)
+            place_bytes(Bytes(t.size), value, out)
         }
         StringKind::UnicodeStr => BytesAnswer::Refused(Refusal::Nowhere),
         StringKind::RawData => {
             if t.size != value.len() as u64 {
                 return BytesAnswer::Refused(Refusal::Misfit);
             }
-            place_bytes(t.size, value, out)
+            place_bytes(Bytes(t.size), value, out)
         }
         StringKind::Other => BytesAnswer::Refused(Refusal::Nowhere),
     }
 }
 
 // Writes a value that fits, filled up with zeros, and returns its size; or 28. Nothing is written unless all of it has room, so the loop never runs over a size that has none.
-fn place_bytes(size: u64, value: &[u8], out: &mut [u8]) -> BytesAnswer
-    requires { ⌜ length (now value) ≤ size ⌝ }
-    ensures { λ r. ⌜ Owes (roomed 28 (now (out .entry)) (zeroFilled size (now (value .entry)))) (now (out .entry)) (bytesAnswer r) (now (out .exit)) ⌝ }
+fn place_bytes(size: Bytes, value: &[u8], out: &mut [u8]) -> BytesAnswer
+    requires { ⌜ length (now value) ≤ size .0 ⌝ }
+    ensures { λ r. ⌜ Owes (roomed 28 (now (out .entry)) (zeroFilled (size .0) (now (value .entry)))) (now (out .entry)) (bytesAnswer r) (now (out .exit)) ⌝ }
 {
-    if (out.len() as u64) < size {
+    if (out.len() as u64) < size.0 {
         return BytesAnswer::Refused(Refusal::OutputRoom);
     }
     put_filled(out, size, value);
-    BytesAnswer::Is(Bytes(size))
+    BytesAnswer::Is(size)
 }
 
 // Writes a value filled up with zeros to the front of `out`, and returns where it ends.
-fn put_filled(out: &mut [u8], size: u64, value: &[u8]) -> usize
-    requires { ⌜ length (now value) ≤ size ⌝ }
-    ensures { λ r. ⌜ Emits (λ x. zeroFilled size (now (value .entry)) ++ x) (now (out .entry)) 0 (now (out .exit)) r ⌝ }
+fn put_filled(out: &mut [u8], size: Bytes, value: &[u8]) -> usize
+    requires { ⌜ length (now value) ≤ size .0 ⌝ }
+    ensures { λ r. ⌜ Emits (λ x. zeroFilled (size .0) (now (value .entry)) ++ x) (now (out .entry)) 0 (now (out .exit)) r ⌝ }
 {
     let mut p: usize = 0;
-    let mut i: u64 = 0;
-    while i < size {
+    let mut i: usize = 0;
+    while (i as u64) < size.0 {
         p = emit::put(out, p, byte_at(value, i));
         i += 1;
     }
@@ -199,11 +199,10 @@ fn put_filled(out: &mut [u8], size: u64, value: &[u8]) -> usize
 }
 
 // The byte at i, and 0 after the end.
-fn byte_at(value: &[u8], i: u64) -> u8
+fn byte_at(value: &[u8], i: usize) -> u8
     ensures { λ r. ⌜ r ≡ getD (now (value .entry)) i 0 ⌝ }
 {
-    let at = i as usize;
-    if at < value.len() { value[at] } else { 0 }
+    if i < value.len() { value[i] } else { 0 }
 }
 
 // Writes an element of U, and returns how many bytes were written; or the first of 27, 26, 29, 30, 28 that applies.
@@ -262,8 +261,8 @@ fn put_points(out: &mut [u8], order: Endianness, size: Points, value: &[u32]) ->
     ensures { λ r. ⌜ Emits (pointBytes order (zeroFilled (size .0) (now (value .entry)))) (now (out .entry)) 0 (now (out .exit)) r ⌝ }
 {
     let mut p: usize = 0;
-    let mut i: u64 = 0;
-    while i < size.0 {
+    let mut i: usize = 0;
+    while (i as u64) < size.0 {
         p = number_bytes::put(out, p, order, 4, point_of(value, i));
         i += 1;
     }
@@ -271,15 +270,10 @@ fn put_points(out: &mut [u8], order: Endianness, size: Points, value: &[u32]) ->
 }
 
 // The code point at i, and 0 after the end.
-fn point_of(value: &[u32], i: u64) -> u64
+fn point_of(value: &[u32], i: usize) -> u64
     ensures { λ r. ⌜ r ≡ getD (now (value .entry)) i 0 ⌝ }
 {
-    let at = i as usize;
-    if at < value.len() {
-        value[at] as u64
-    } else {
-        0
-    }
+    if i < value.len() { value[i] as u64 } else { 0 }
 }
 
 // Whether a type is S, U, V or another.

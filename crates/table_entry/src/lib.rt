@@ -136,6 +136,7 @@ pub fn plain_entry(t: TypeStr, parent: u64, name: u64) -> Entry
     let order = t.order;
     let letter = t.letter;
     let units = t.units;
+    let bytes = held_bytes(t);
     Entry {
         parent: parent,
         kind: PLAIN,
@@ -144,7 +145,7 @@ pub fn plain_entry(t: TypeStr, parent: u64, name: u64) -> Entry
         number: t.size,
         units: units_number(units),
         extent: 1,
-        bytes: held_bytes(t),
+        bytes: bytes.0,
         name: name,
     }
 }

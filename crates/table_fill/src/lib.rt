@@ -1,11 +1,13 @@
 // Writes entries of the dtype table to lent room (document 01, "The record": "one entry for each plain type, array level and record"); an entry without room is not written.
 // Called by header. The levels of a sub-shape come before their type in the table, but their sizes are known only after it: the type's entries are moved to make room.
+use counts::Bytes;
+use counts::Items;
+use counts::Number;
 use dtype::ARRAY;
 use dtype::ENTRY;
 use dtype::Entry;
 use dtype::RECORD;
 use saturating::held_product;
-use saturating::held_sum;
 use table_entry::plain_entry;
 use type_letters::Endianness;
 use type_letters::TypeChar;
@@ -19,6 +21,7 @@ ghost use Rattle.dtype.specs.Flat.{entry-width, entryOf};
 ghost use Rattle.table_fill.specs.Lifted.{movedOn, relinked, lifted};
 ghost use Rattle.dtype.specs.Dtype.{plain, sizeOf};
 ghost use Rattle.counts.specs.Number.{capped};
+ghost use Rattle.counts.specs.Counts.{asBytes};
 ghost use Rattle.table_fill.specs.Written.{noType, typeIn, put, bare, upOf, nameOf, sizeOver, levelled, above};
 
 // Moves `count` entries from `entry` on by `by` entries, and adds the shift to their parent numbers. Does nothing if there is no room.
@@ -60,7 +63,7 @@ fn relink(table: &mut [u64], entry: usize, count: usize, by: usize)
     while 1 < k {
         k -= 1;
         let i = ENTRY * (entry + k);
-        table[i] = held_sum(table[i], by as u64);
+        table[i] = capped_sum(table[i], by as u64);
     }
     if k == 1 {
         let first = ENTRY * entry;
@@ -77,6 +80,16 @@ pub fn entries_between(at: usize, stop: usize) -> u64
         return 0;
     }
     (stop - at) as u64
+}
+
+// The sum of two numbers of entries, or 2^64-1 where it is larger: no table has so many.
+fn capped_sum(a: u64, b: u64) -> u64
+    ensures { λ r. ⌜ r ≡ capped (a + b) ⌝ }
+{
+    match counts::sum(a, b) {
+        Number::Is(n) => n,
+        Number::Over => u64::MAX,
+    }
 }
 
 // The type that was read, or a placeholder.
@@ -108,7 +121,7 @@ fn parent(k: usize, entry: usize, up: u64) -> u64
     if k == 0 {
         return up;
     }
-    held_sum(entry as u64, (k - 1) as u64)
+    capped_sum(entry as u64, (k - 1) as u64)
 }
 
 // The length of the name of level k of a field: only the outermost has one.
@@ -119,13 +132,13 @@ fn name_of(k: usize, name: u64) -> u64
 }
 
 // Writes the entry of a plain type, and returns its size as the entry holds it.
-pub fn put_plain(table: &mut [u64], at: usize, t: TypeStr, up: u64, name: u64) -> u64
-    ensures { λ r. ⌜ r ≡ capped (sizeOf (plain t)) ⌝ }
+pub fn put_plain(table: &mut [u64], at: usize, t: TypeStr, up: u64, name: u64) -> Bytes
+    ensures { λ r. ⌜ r ≡ asBytes (capped (sizeOf (plain t))) ⌝ }
     ensures { λ _. ⌜ now (table .exit) ≡ put (now (table .entry)) at (entryOf (plain t) up name) ⌝ }
 {
     let e = plain_entry(t, up, name);
     put_entry(table, at, e);
-    e.bytes
+    Bytes(e.bytes)
 }
 
 // Writes the entry of a record of `count` fields, whose entries end before `stop`.
@@ -136,9 +149,9 @@ pub fn put_record(
     name: u64,
     count: u64,
     stop: usize,
-    size: u64,
+    size: Bytes,
 )
-    ensures { λ _. ⌜ now (table .exit) ≡ put (now (table .entry)) at (bare 2 up count (stop - at) size name) ⌝ }
+    ensures { λ _. ⌜ now (table .exit) ≡ put (now (table .entry)) at (bare 2 up count (stop - at) (size .0) name) ⌝ }
 {
     put_entry(
         table,
@@ -155,17 +168,17 @@ pub fn put_over(
     name: u64,
     shape: &[u64],
     stop: usize,
-    size: u64,
-) -> u64
-    ensures { λ r. ⌜ r ≡ sizeOver (now (shape .entry)) size ⌝ }
-    ensures { λ _. ⌜ now (table .exit) ≡ above (now (shape .entry)) entry up name stop size (now (table .entry)) ⌝ }
+    size: Bytes,
+) -> Bytes
+    ensures { λ r. ⌜ r ≡ asBytes (sizeOver (now (shape .entry)) (size .0)) ⌝ }
+    ensures { λ _. ⌜ now (table .exit) ≡ above (now (shape .entry)) entry up name stop (size .0) (now (table .entry)) ⌝ }
 {
     let rank = shape.len();
     if rank == 0 {
         return size;
     }
     let count = entries_between(entry, stop) as usize;
-    let last = held_sum(stop as u64, rank as u64) as usize;
+    let last = capped_sum(stop as u64, rank as u64) as usize;
     lift(table, entry, count, rank);
     put_levels(table, entry, up, name, shape, last, size)
 }
@@ -178,16 +191,16 @@ fn put_levels(
     name: u64,
     shape: &[u64],
     stop: usize,
-    size: u64,
-) -> u64
-    ensures { λ r. ⌜ r ≡ sizeOver (now (shape .entry)) size ⌝ }
-    ensures { λ _. ⌜ now (table .exit) ≡ levelled (now (shape .entry)) entry up name stop size (now (table .entry)) ⌝ }
+    size: Bytes,
+) -> Bytes
+    ensures { λ r. ⌜ r ≡ asBytes (sizeOver (now (shape .entry)) (size .0)) ⌝ }
+    ensures { λ _. ⌜ now (table .exit) ≡ levelled (now (shape .entry)) entry up name stop (size .0) (now (table .entry)) ⌝ }
 {
     let mut k = shape.len();
     let mut held = size;
     while 0 < k {
         k -= 1;
-        held = held_product(shape[k], held);
+        held = held_product(Items(shape[k]), held);
         put_level(table, entry, k, up, name, shape[k], stop, held);
     }
     held
@@ -202,9 +215,9 @@ fn put_level(
     name: u64,
     number: u64,
     stop: usize,
-    bytes: u64,
+    size: Bytes,
 )
-    ensures { λ _. ⌜ now (table .exit) ≡ put (now (table .entry)) (entry + k) (bare 1 (upOf k entry up) number (stop - (entry + k)) bytes (nameOf k name)) ⌝ }
+    ensures { λ _. ⌜ now (table .exit) ≡ put (now (table .entry)) (entry + k) (bare 1 (upOf k entry up) number (stop - (entry + k)) (size .0) (nameOf k name)) ⌝ }
 {
     let all = table.len() / ENTRY;
     if all <= k {
@@ -219,7 +232,7 @@ fn put_level(
     put_entry(
         table,
         at,
-        bare_entry(ARRAY, head, number, entries_between(at, stop), bytes, own),
+        bare_entry(ARRAY, head, number, entries_between(at, stop), size, own),
     );
 }
 
@@ -243,8 +256,8 @@ fn put_entry(table: &mut [u64], at: usize, e: Entry)
 }
 
 // The entry of an array level or a record, with the numbers of a type 0.
-fn bare_entry(kind: u64, up: u64, number: u64, extent: u64, bytes: u64, name: u64) -> Entry
-    ensures { λ r. ⌜ r ≡ bare kind up number extent bytes name ⌝ }
+fn bare_entry(kind: u64, up: u64, number: u64, extent: u64, size: Bytes, name: u64) -> Entry
+    ensures { λ r. ⌜ r ≡ bare kind up number extent (size .0) name ⌝ }
 {
     Entry {
         parent: up,
@@ -254,7 +267,7 @@ fn bare_entry(kind: u64, up: u64, number: u64, extent: u64, bytes: u64, name: u6
         number: number,
         units: 0,
         extent: extent,
-        bytes: bytes,
+        bytes: size.0,
         name: name,
     }
 }

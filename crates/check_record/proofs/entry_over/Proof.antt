@@ -1,6 +1,6 @@
 -- `check_record::entry_over` meets its contract, by the entry's kind.
 use Rattle.check_record.proofs.Sizes.{plain-size, array-size, is-record, record-size}
-use Rattle.check_scan.specs.Over.{isOver}
+use Rattle.counts.specs.Counts.{bytesOver}
 use mathlib.Core.Path.{ap, _∙_}
 use borrow.Author.Needs.{needs}
 use Rattle.check_record.proofs.entry_over.Statement.{statement}
@@ -28,7 +28,7 @@ is-over-requires : tie.Need-is-over-requires
 is-over-requires c κs = search needs
 
 returns-2 : tie.Need-returns-2
-returns-2 c = let a = c .before .before .before .before .before .before .before .before .before .args in c .is-over .ensures ∙ ap isOver (c .before .of-size .ensures) ∙ array-size (a .table .now) (a .n) (a .e) _ (c .before .before .before .before .before .before .before .entry-at .ensures) (c .before .before .before .if2 .taken) _ (c .before .before .entry-at2 .ensures)
+returns-2 c = let a = c .before .before .before .before .before .before .before .before .before .args in c .is-over .ensures ∙ ap bytesOver (c .before .of-size .ensures) ∙ array-size (a .table .now) (a .n) (a .e) _ (c .before .before .before .before .before .before .before .entry-at .ensures) (c .before .before .before .if2 .taken) _ (c .before .before .entry-at2 .ensures)
 
 fields-over-requires : tie.Need-fields-over-requires
 fields-over-requires c κs = let a = c .before .before .before .before .before .before .args in (c .before .before .before .before .before .before .pre .0, is-record (a .table .now) (a .n) (a .e) _ (c .before .before .before .before .entry-at .ensures) (c .before .before .if1 .left) (c .if2 .left) (c .before .before .before .before .before .before .pre .1) .1)

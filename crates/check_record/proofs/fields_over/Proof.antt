@@ -2,14 +2,14 @@
 -- is how many fields are left.
 use borrow.Author.Needs.{needs}
 use Rattle.check_record.proofs.Fields.{Summing, summing-start, field-in, summing-over, summing-next, summing-end}
-use Rattle.counts.proofs.Fits.{number-is-back, number-over-back}
+use Rattle.counts.proofs.Counted.{bytes-back, bytes-over}
 use native.Mathlib.Omega.{arith}
 use mathlib.Core.Path.{ap, sym, _∙_}
 use Rattle.check_record.proofs.fields_over.Statement.{statement}
 use Rattle.check_record.proofs.fields_over.Tie as tie
 
 abbrev Inv-loop : tie.InvT-loop
-Inv-loop table n e c₀ bytes₀ left₀ c bytes left = Summing table n e left c bytes
+Inv-loop table n e c₀ bytes₀ left₀ c bytes left = Summing table n e left c (bytes .0)
 
 abbrev μ-loop : tie.MeasureT-loop
 μ-loop table n e c₀ bytes₀ left₀ c bytes left = left
@@ -26,8 +26,8 @@ loop-holds c = summing-start _ _ _ _ (c .entry-at .ensures) (c .before .before .
 entry-at-requires-2 : tie.Need-entry-at-requires-2 Inv-loop μ-loop
 entry-at-requires-2 c κs = search needs
 
-sum-requires : tie.Need-sum-requires Inv-loop μ-loop
-sum-requires c κs = search needs
+plus-requires : tie.Need-plus-requires Inv-loop μ-loop
+plus-requires c κs = search needs
 
 enum-known-more : tie.Need-enum-known-more Inv-loop μ-loop
 enum-known-more c = search needs
@@ -37,11 +37,11 @@ enum-told c = search needs
 
 returns : tie.Need-returns Inv-loop μ-loop
 returns c = let l = c .before .before .before .before .before .loop in
-    summing-over _ _ _ (l .left) (l .c) (l .bytes) (l .inv) (c .before .before .before .before .loop-test .taken) _ (c .before .before .before .entry-at2 .ensures) (number-over-back _ (sym (sym (c .enum-told .given .1) ∙ c .before .before .sum .ensures)))
+    summing-over _ _ _ (l .left) (l .c) (l .bytes .0) (l .inv) (c .before .before .before .before .loop-test .taken) _ (c .before .before .before .entry-at2 .ensures) (bytes-over _ (sym (c .enum-told .given .1) ∙ c .before .before .plus .ensures))
 
 add-c-2 : tie.Need-add-c-2 Inv-loop μ-loop
 add-c-2 c = let l = c .before .before .before .before .before .before .loop in
-    omega (arith, field-in _ _ _ (l .left) (l .c) (l .bytes) (l .inv) (c .before .before .before .before .before .loop-test .taken), ap (λ x. x .extent) (c .before .before .before .before .entry-at2 .ensures), c .before .before .before .before .before .before .before .before .before .fits .n)
+    omega (arith, field-in _ _ _ (l .left) (l .c) (l .bytes .0) (l .inv) (c .before .before .before .before .before .loop-test .taken), ap (λ x. x .extent) (c .before .before .before .before .entry-at2 .ensures), c .before .before .before .before .before .before .before .before .before .fits .n)
 
 sub-left : tie.Need-sub-left Inv-loop μ-loop
 sub-left c = search needs
@@ -51,11 +51,11 @@ loop-less c = search needs
 
 loop-again : tie.Need-loop-again Inv-loop μ-loop
 loop-again c = let l = c .before .before .before .before .before .before .loop in
-    let b = number-is-back _ _ (sym (sym (c .before .more .given .1) ∙ c .before .before .before .sum .ensures)) in
-    summing-next _ _ _ (l .left) (l .c) (l .bytes) (l .inv) (c .before .before .before .before .before .loop-test .taken) _ _ (c .before .before .before .before .entry-at2 .ensures) (sym (b .0)) (omega (arith, b .0, b .1))
+    let b = bytes-back _ _ (sym (c .before .more .given .1) ∙ c .before .before .before .plus .ensures) in
+    summing-next _ _ _ (l .left) (l .c) (l .bytes .0) (l .inv) (c .before .before .before .before .before .loop-test .taken) _ _ (c .before .before .before .before .entry-at2 .ensures) (sym (b .0)) (omega (arith, b .0, b .1))
 
 returns-2 : tie.Need-returns-2 Inv-loop μ-loop
-returns-2 c = summing-end _ _ _ (c .before .loop .left) (c .before .loop .c) (c .before .loop .bytes) (c .before .loop .inv) (c .loop-test .left)
+returns-2 c = summing-end _ _ _ (c .before .loop .left) (c .before .loop .c) (c .before .loop .bytes .0) (c .before .loop .inv) (c .loop-test .left)
 
 pub fields-over-spec : {M : Type 1} → statement M
 fields-over-spec =
@@ -67,7 +67,7 @@ fields-over-spec =
     add-c
     loop-holds
     entry-at-requires-2
-    sum-requires
+    plus-requires
     enum-known-more
     enum-told
     returns

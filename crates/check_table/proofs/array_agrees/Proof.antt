@@ -2,7 +2,9 @@
 use Rattle.check_table.proofs.Fields.{array-view, array-decided}
 use Rattle.check_table.proofs.Tests.{no, fails}
 use borrow.Author.Tests.{not-true, not-false}
+use mathlib.Core.Path.{ap}
 use native.Mathlib.Omega.{arith}
+use Rattle.counts.specs.declared.Bytes.{Bytes}
 use borrow.Author.Needs.{needs}
 use Rattle.check_table.proofs.array_agrees.Statement.{statement}
 use Rattle.check_table.proofs.array_agrees.Tie as tie
@@ -44,7 +46,7 @@ held-product-requires : tie.Need-held-product-requires
 held-product-requires c κs = search needs
 
 returns-7 : tie.Need-returns-7
-returns-7 c = array-decided _ _ _ _ _ (c .before .before .before .before .before .before .before .before .before .before .before .before .before .before .entry-at .ensures) (c .before .before .before .before .before .before .before .before .before .before .before .before .before .entry-at2 .ensures) _ (omega (arith, c .before .before .before .before .before .before .before .before .before .before .before .before .before .before .before .if1 .left)) (c .before .before .before .before .before .before .before .before .before .before .before .before .is-bare .ensures .only (not-false _ (c .before .before .before .before .before .before .before .before .before .before .before .if2 .left))) (c .before .before .before .before .before .before .before .before .before .if3 .left) (c .before .before .before .before .before .before .before .if4 .left) (omega (arith, c .before .before .before .before .before .if5 .left, c .before .before .if6 .left)) (c .before .held-product .ensures)
+returns-7 c = array-decided _ _ _ _ _ (c .before .before .before .before .before .before .before .before .before .before .before .before .before .before .before .entry-at .ensures) (c .before .before .before .before .before .before .before .before .before .before .before .before .before .before .entry-at2 .ensures) _ (omega (arith, c .before .before .before .before .before .before .before .before .before .before .before .before .before .before .before .before .if1 .left)) (c .before .before .before .before .before .before .before .before .before .before .before .before .before .is-bare .ensures .only (not-false _ (c .before .before .before .before .before .before .before .before .before .before .before .before .if2 .left))) (c .before .before .before .before .before .before .before .before .before .before .if3 .left) (c .before .before .before .before .before .before .before .before .if4 .left) (omega (arith, c .before .before .before .before .before .before .if5 .left, c .before .before .before .if6 .left)) (ap (λ (b : Bytes). b .0) (c .before .before .held-product .ensures))
 
 pub array-agrees-spec : {M : Type 1} → statement M
 array-agrees-spec =

@@ -2,6 +2,8 @@
 use Rattle.check_table.proofs.Plain.{plain-untyped, plain-decided}
 use Rattle.check_table.proofs.Tests.{no}
 use Rattle.table_entry.specs.Answer.{typeAnswer}
+use mathlib.Core.Path.{ap}
+use Rattle.counts.specs.declared.Bytes.{Bytes}
 use Rattle.counts.proofs.OneOutcome.{told}
 use borrow.Author.Needs.{needs}
 use Rattle.check_table.proofs.plain_agrees.Statement.{statement}
@@ -26,7 +28,7 @@ held-bytes-requires : tie.Need-held-bytes-requires
 held-bytes-requires c κs = search needs
 
 returns-3 : tie.Need-returns-3
-returns-3 c = plain-decided _ _ _ (told typeAnswer (c .before .before .before .before .before .before .before .type-of .ensures) (c .before .before .before .before .before .t .given .1)) (c .before .before .if1 .left) (c .before .held-bytes .ensures)
+returns-3 c = plain-decided _ _ _ (told typeAnswer (c .before .before .before .before .before .before .before .before .type-of .ensures) (c .before .before .before .before .before .before .t .given .1)) (c .before .before .before .if1 .left) (ap (λ (b : Bytes). b .0) (c .before .before .held-bytes .ensures))
 
 pub plain-agrees-spec : {M : Type 1} → statement M
 plain-agrees-spec =

@@ -4,12 +4,14 @@ use borrow.Author.Needs.{needs}
 use Rattle.check_table.proofs.Fields.{record-view, Linking, linking-start, next-field, field-view, linking-next, linking-end, linking-back}
 use Rattle.check_table.proofs.Tests.{no, by-eqb, fails}
 use borrow.Author.Tests.{not-true, not-false}
+use mathlib.Core.Path.{ap}
 use native.Mathlib.Omega.{arith}
+use Rattle.counts.specs.declared.Bytes.{Bytes}
 use Rattle.check_table.proofs.record_agrees.Statement.{statement}
 use Rattle.check_table.proofs.record_agrees.Tie as tie
 
 abbrev Inv-loop : tie.InvT-loop
-Inv-loop table n e outer end c₀ bytes₀ left₀ c bytes left = Linking table n e end (outer .bytes) left c bytes
+Inv-loop table n e outer end c₀ bytes₀ left₀ c bytes left = Linking table n e end (outer .bytes) left c (bytes .0)
 
 abbrev μ-loop : tie.MeasureT-loop
 μ-loop table n e outer end c₀ bytes₀ left₀ c bytes left = left
@@ -39,19 +41,19 @@ loop-holds : tie.Need-loop-holds Inv-loop μ-loop
 loop-holds c = linking-start _ _ _ _ (c .before .before .before .before .entry-at .ensures) (c .before .before .before .before .before .before .pre) (c .before .before .before .is-bare .ensures .only (not-false _ (c .before .before .if1 .left))) (omega (arith, c .if2 .left))
 
 returns-3 : tie.Need-returns-3 Inv-loop μ-loop
-returns-3 c = no (λ h. let l = c .before .before .loop in let k = next-field _ _ _ _ _ (l .left) (l .c) (l .bytes) (l .inv) (c .before .loop-test .taken) h .0 in omega (arith, c .if3 .taken))
+returns-3 c = no (λ h. let l = c .before .before .loop in let k = next-field _ _ _ _ _ (l .left) (l .c) (l .bytes .0) (l .inv) (c .before .loop-test .taken) h .0 in omega (arith, c .if3 .taken))
 
 entry-at-requires-2 : tie.Need-entry-at-requires-2 Inv-loop μ-loop
 entry-at-requires-2 c κs = search needs
 
 returns-4 : tie.Need-returns-4 Inv-loop μ-loop
-returns-4 c = no (λ h. let l = c .before .before .before .before .before .loop in c .if4 .taken (field-view _ _ _ _ _ (l .left) (l .c) (l .bytes) (l .inv) (c .before .before .before .before .loop-test .taken) _ (c .before .before .entry-at2 .ensures) h .1))
+returns-4 c = no (λ h. let l = c .before .before .before .before .before .loop in c .if4 .taken (field-view _ _ _ _ _ (l .left) (l .c) (l .bytes .0) (l .inv) (c .before .before .before .before .loop-test .taken) _ (c .before .before .entry-at2 .ensures) h .1))
 
 sub-if5 : tie.Need-sub-if5 Inv-loop μ-loop
 sub-if5 c = search needs
 
 returns-5 : tie.Need-returns-5 Inv-loop μ-loop
-returns-5 c = no (λ h. let l = c .before .before .before .before .before .before .before .loop in let k = field-view _ _ _ _ _ (l .left) (l .c) (l .bytes) (l .inv) (c .before .before .before .before .before .before .loop-test .taken) _ (c .before .before .before .before .entry-at2 .ensures) h .2 in omega (arith, c .if5 .taken))
+returns-5 c = no (λ h. let l = c .before .before .before .before .before .before .before .loop in let k = field-view _ _ _ _ _ (l .left) (l .c) (l .bytes .0) (l .inv) (c .before .before .before .before .before .before .loop-test .taken) _ (c .before .before .before .before .entry-at2 .ensures) h .2 in omega (arith, c .if5 .taken))
 
 held-sum-requires : tie.Need-held-sum-requires Inv-loop μ-loop
 held-sum-requires c κs = search needs
@@ -67,16 +69,16 @@ loop-less c = search needs
 
 loop-again : tie.Need-loop-again Inv-loop μ-loop
 loop-again c = let l = c .before .before .before .before .before .before .before .before .loop in
-    linking-next _ _ _ _ _ (l .left) (l .c) (l .bytes) (l .inv) (c .before .before .before .before .before .before .before .loop-test .taken) _ _ (c .before .before .before .before .before .entry-at2 .ensures) (omega (arith, c .before .before .before .before .before .before .if3 .left)) (c .before .before .before .if4 .left) (omega (arith, c .before .if5 .left)) (c .held-sum .ensures)
+    linking-next _ _ _ _ _ (l .left) (l .c) (l .bytes .0) (l .inv) (c .before .before .before .before .before .before .before .loop-test .taken) _ _ (c .before .before .before .before .before .entry-at2 .ensures) (omega (arith, c .before .before .before .before .before .before .if3 .left)) (c .before .before .before .if4 .left) (omega (arith, c .before .if5 .left)) (ap (λ (b : Bytes). b .0) (c .held-sum .ensures))
 
 returns-6 : tie.Need-returns-6 Inv-loop μ-loop
-returns-6 c = let l = c .before .before .loop in no (λ h. c .if6 .taken (linking-end _ _ _ _ _ (l .left) (l .c) (l .bytes) (l .inv) (c .before .loop-test .left) h .0))
+returns-6 c = let l = c .before .before .loop in no (λ h. c .if6 .taken (linking-end _ _ _ _ _ (l .left) (l .c) (l .bytes .0) (l .inv) (c .before .loop-test .left) h .0))
 
 returns-7 : tie.Need-returns-7 Inv-loop μ-loop
-returns-7 c = let l = c .before .before .before .loop in
+returns-7 c = let l = c .before .before .before .before .loop in
     by-eqb _ _
-    (λ q. linking-back _ _ _ _ _ (l .left) (l .c) (l .bytes) (l .inv) (c .before .before .loop-test .left) (c .before .if6 .left) q)
-    (λ h. linking-end _ _ _ _ _ (l .left) (l .c) (l .bytes) (l .inv) (c .before .before .loop-test .left) h .1)
+    (λ q. linking-back _ _ _ _ _ (l .left) (l .c) (l .bytes .0) (l .inv) (c .before .before .before .loop-test .left) (c .before .before .if6 .left) q)
+    (λ h. linking-end _ _ _ _ _ (l .left) (l .c) (l .bytes .0) (l .inv) (c .before .before .before .loop-test .left) h .1)
 
 pub record-agrees-spec : {M : Type 1} → statement M
 record-agrees-spec =

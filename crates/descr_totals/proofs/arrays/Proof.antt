@@ -1,9 +1,10 @@
 -- Each part by its function.
 use mathlib.Core.Path.{refl, ap, _∙_}
 use mathlib.Core.Bool.{Bool, _||_, cond}
-use Prim.Native.Nat.{ℕ}
-use Rattle.counts.specs.declared.Number.{Number}
-use Rattle.descr_totals.specs.Totals.{isOver, heldNumber, arrayed}
+use Rattle.counts.specs.Counts.{bytesOver, asBytes, heldBytes}
+use Rattle.counts.specs.declared.Bytes.{Bytes}
+use Rattle.counts.specs.declared.ByteCount.{ByteCount}
+use Rattle.descr_totals.specs.Totals.{arrayed}
 use Rattle.descr_totals.proofs.Sums.{totals-eq}
 use borrow.Author.Needs.{needs}
 use Rattle.descr_totals.proofs.arrays.Statement.{statement}
@@ -31,8 +32,8 @@ returns c =
     let t = c .before .before .before .before .before .before .before .before .args .of in
     let s = c .before .before .before .before .before .before .before .largest .ensures in
     totals-eq (c .before .before .before .before .before .before .add .ensures) refl refl refl
-    (ap (λ (b : Bool). b || t .over) (c .before .before .before .is-over .ensures ∙ ap (λ (n : Number). isOver n) s))
-    (c .unless-empty .ensures ∙ ap (λ (n : ℕ). cond (o .empty) 0 n) (c .before .held .ensures ∙ ap (λ (n : Number). heldNumber n) s))
+    (ap (λ (b : Bool). b || t .over) (c .before .before .before .is-over .ensures ∙ ap (λ (n : ByteCount). bytesOver n) s))
+    (c .unless-empty .ensures ∙ ap (λ (n : Bytes). cond (o .empty) (asBytes 0) n) (c .before .held .ensures ∙ ap (λ (n : ByteCount). heldBytes n) s))
 
 pub arrays-spec : {M : Type 1} → statement M
 arrays-spec =

@@ -1,6 +1,7 @@
--- `place::skip` meets its contract. The loop keeps that entry c is where field k begins, and `bytes` the bytes of the fields before it (`Skipping`); the measure is how many
--- fields are left.
-use Rattle.place.proofs.Walks.{stands-room, Skipping, skipping-start, skipping-turn, skipping-next, skipping-end}
+-- `place::skip` meets its contract. The loop keeps that entry c is where field k begins, and `before` the bytes of the fields before it (`Skipping`), which are not over; the measure is how
+-- many fields are left.
+use Rattle.place.proofs.Walks.{stands-room, Skipping, skipping-start, skipping-turn, skipping-over, skipping-next, skipping-end}
+use mathlib.Core.Path.{sym, _∙_}
 use native.Mathlib.Omega.{arith}
 use Prim.Native.Nat.{_-_}
 use borrow.Author.Needs.{needs}
@@ -8,10 +9,10 @@ use Rattle.place.proofs.skip.Statement.{statement}
 use Rattle.place.proofs.skip.Tie as tie
 
 abbrev Inv-loop : tie.InvT-loop
-Inv-loop table e i c₀ bytes₀ k₀ c bytes k = Skipping table e i c bytes k
+Inv-loop table e i c₀ before₀ k₀ c before k = Skipping table e i c (before .0) k
 
 abbrev μ-loop : tie.MeasureT-loop
-μ-loop table e i c₀ bytes₀ k₀ c bytes k = i - k
+μ-loop table e i c₀ before₀ k₀ c before k = i - k
 
 add-c : tie.Need-add-c Inv-loop μ-loop
 add-c c = omega (arith, stands-room _ _ _ (c .before .pre .1))
@@ -22,11 +23,25 @@ loop-holds c = skipping-start _ _ _
 entry-at-requires : tie.Need-entry-at-requires Inv-loop μ-loop
 entry-at-requires c κs = search needs
 
-add-bytes : tie.Need-add-bytes Inv-loop μ-loop
-add-bytes c = let l = c .before .before .before .loop in record { fits = skipping-turn _ _ _ (l .c) (l .bytes) (l .k) (l .inv) (c .before .before .loop-test .taken) (c .before .before .before .before .before .pre) _ (c .before .entry-at .ensures) .fits }
+plus-requires : tie.Need-plus-requires Inv-loop μ-loop
+plus-requires c κs = search needs
+
+enum-known-more : tie.Need-enum-known-more Inv-loop μ-loop
+enum-known-more c = search needs
+
+enum-told : tie.Need-enum-told Inv-loop μ-loop
+enum-told c = search needs
+
+returns : tie.Need-returns Inv-loop μ-loop
+returns c =
+    let l = c .before .before .before .before .before .loop in
+    let turn = skipping-turn _ _ _ (l .c) (l .before .0) (l .k) (l .inv) (c .before .before .before .before .loop-test .taken) (c .before .before .before .before .before .before .before .pre) _ (c .before .before .before .entry-at .ensures) in
+    skipping-over _ _ _ _ turn (sym (c .enum-told .given .1) ∙ c .before .before .plus .ensures)
 
 add-c-2 : tie.Need-add-c-2 Inv-loop μ-loop
-add-c-2 c = let l = c .before .before .before .loop in omega (arith, skipping-turn _ _ _ (l .c) (l .bytes) (l .k) (l .inv) (c .before .before .loop-test .taken) (c .before .before .before .before .before .pre) _ (c .before .entry-at .ensures) .inside)
+add-c-2 c =
+    let l = c .before .before .before .before .before .before .loop in
+    omega (arith, skipping-turn _ _ _ (l .c) (l .before .0) (l .k) (l .inv) (c .before .before .before .before .before .loop-test .taken) (c .before .before .before .before .before .before .before .before .pre) _ (c .before .before .before .before .entry-at .ensures) .inside)
 
 add-k : tie.Need-add-k Inv-loop μ-loop
 add-k c = search needs
@@ -35,10 +50,12 @@ loop-less : tie.Need-loop-less Inv-loop μ-loop
 loop-less c = search needs
 
 loop-again : tie.Need-loop-again Inv-loop μ-loop
-loop-again c = let l = c .before .before .before .loop in skipping-next _ _ _ (l .c) (l .bytes) (l .k) (l .inv) (c .before .before .loop-test .taken) _ (c .before .entry-at .ensures)
+loop-again c =
+    let l = c .before .before .before .before .before .before .loop in
+    skipping-next _ _ _ (l .c) (l .before .0) (l .k) (l .inv) (c .before .before .before .before .before .loop-test .taken) _ (c .before .before .before .before .entry-at .ensures) _ (sym (c .before .more .given .1) ∙ c .before .before .before .plus .ensures)
 
-returns : tie.Need-returns Inv-loop μ-loop
-returns c = skipping-end _ _ _ (c .before .loop .c) (c .before .loop .bytes) (c .before .loop .k) (c .before .loop .inv) (c .loop-test .left)
+returns-2 : tie.Need-returns-2 Inv-loop μ-loop
+returns-2 c = skipping-end _ _ _ (c .before .loop .c) (c .before .loop .before) (c .before .loop .k) (c .before .loop .inv) (c .loop-test .left)
 
 pub skip-spec : {M : Type 1} → statement M
 skip-spec =
@@ -49,9 +66,12 @@ skip-spec =
     add-c
     loop-holds
     entry-at-requires
-    add-bytes
+    plus-requires
+    enum-known-more
+    enum-told
+    returns
     add-c-2
     add-k
     loop-less
     loop-again
-    returns)
+    returns-2)

@@ -1,5 +1,6 @@
 -- `place::step` meets its contract, by the entry's kind.
-use Rattle.place.proofs.Walks.{stands-room, at-plain, past, into, into-fits, skip-asks, to-field}
+use Rattle.place.proofs.Walks.{stands-room, at-plain, past, into, into-over, skip-asks, to-field}
+use mathlib.Core.Path.{sym, _∙_}
 use native.Mathlib.Omega.{arith}
 use borrow.Author.Needs.{needs}
 use Rattle.place.proofs.step.Statement.{statement}
@@ -20,17 +21,26 @@ add-c c = omega (arith, stands-room _ _ _ (c .before .before .before .before .be
 entry-at-requires-2 : tie.Need-entry-at-requires-2
 entry-at-requires-2 c κs = search needs
 
-mul-t8 : tie.Need-mul-t8
-mul-t8 c = record { fits = into-fits _ _ _ _ (c .before .before .before .before .before .before .before .before .entry-at .ensures) (c .before .before .before .before .if2 .left) (c .before .before .if3 .taken) _ (c .before .entry-at2 .ensures) (c .before .before .before .before .before .before .before .before .before .before .pre) }
+of-size-requires : tie.Need-of-size-requires
+of-size-requires c κs = search needs
+
+enum-known-before : tie.Need-enum-known-before
+enum-known-before c = search needs
+
+enum-told : tie.Need-enum-told
+enum-told c = search needs
 
 returns-3 : tie.Need-returns-3
-returns-3 c = into _ _ _ _ (c .before .before .before .before .before .before .before .before .entry-at .ensures) (c .before .before .before .before .if2 .left) (c .before .before .if3 .taken) _ (c .before .entry-at2 .ensures)
+returns-3 c = into-over _ _ _ _ (c .before .before .before .before .before .before .before .before .before .before .entry-at .ensures) (c .before .before .before .before .before .before .if2 .left) (c .before .before .before .before .if3 .taken) _ (c .before .before .before .entry-at2 .ensures) (sym (c .enum-told .given .1) ∙ c .before .before .of-size .ensures)
+
+returns-4 : tie.Need-returns-4
+returns-4 c = into _ _ _ _ (c .before .before .before .before .before .before .before .before .before .before .before .entry-at .ensures) (c .before .before .before .before .before .before .before .if2 .left) (c .before .before .before .before .before .if3 .taken) _ (c .before .before .before .before .entry-at2 .ensures) _ (sym (c .before .before2 .given .1) ∙ c .before .before .before .of-size .ensures)
 
 skip-requires : tie.Need-skip-requires
 skip-requires c κs = skip-asks _ _ _ _ (c .before .before .before .before .before .before .entry-at .ensures) (c .before .before .if2 .left) (c .before .before .before .before .if1 .left) (c .if3 .left) (c .before .before .before .before .before .before .before .before .pre)
 
-returns-4 : tie.Need-returns-4
-returns-4 c = to-field _ _ _ _ (c .before .before .before .before .before .before .before .entry-at .ensures) (c .before .before .before .if2 .left) (c .before .before .before .before .before .if1 .left) (c .before .if3 .left) _ (c .skip .ensures)
+returns-5 : tie.Need-returns-5
+returns-5 c = to-field _ _ _ _ (c .before .before .before .before .before .before .before .entry-at .ensures) (c .before .before .before .if2 .left) (c .before .before .before .before .before .if1 .left) (c .before .if3 .left) _ (c .skip .ensures)
 
 pub step-spec : {M : Type 1} → statement M
 step-spec =
@@ -41,7 +51,10 @@ step-spec =
     returns-2
     add-c
     entry-at-requires-2
-    mul-t8
+    of-size-requires
+    enum-known-before
+    enum-told
     returns-3
+    returns-4
     skip-requires
-    returns-4)
+    returns-5)

@@ -1,24 +1,19 @@
 -- `saturating::held_sum` meets its contract: the sum, or the largest number where it is over.
-use Rattle.saturating.proofs.Held.{held-is, held-over}
-use mathlib.Core.Path.{sym, _∙_}
+use mathlib.Core.Path.{ap, _∙_}
+use Rattle.counts.specs.Counts.{heldBytes}
+use Rattle.counts.proofs.Counted.{held-bytes}
 use borrow.Author.Needs.{needs}
 use Rattle.saturating.proofs.held_sum.Statement.{statement}
 use Rattle.saturating.proofs.held_sum.Tie as tie
 
-sum-requires : tie.Need-sum-requires
-sum-requires c κs = search needs
+plus-requires : tie.Need-plus-requires
+plus-requires c κs = search needs
 
-enum-known-n : tie.Need-enum-known-n
-enum-known-n c = search needs
-
-enum-told : tie.Need-enum-told
-enum-told c = search needs
+held-requires : tie.Need-held-requires
+held-requires c κs = search needs
 
 returns : tie.Need-returns
-returns c = held-is _ _ (sym (c .before .n .given .1) ∙ c .before .before .before .sum .ensures)
-
-returns-2 : tie.Need-returns-2
-returns-2 c = held-over _ (sym (c .enum-told .given .1) ∙ c .before .before .sum .ensures)
+returns c = c .held .ensures ∙ ap heldBytes (c .before .plus .ensures) ∙ held-bytes _
 
 pub held-sum-spec : {M : Type 1} → statement M
-held-sum-spec = tie.close (tie.spec sum-requires enum-known-n enum-told returns returns-2)
+held-sum-spec = tie.close (tie.spec plus-requires held-requires returns)

@@ -9,7 +9,7 @@ use Rattle.shape.proofs.count.Statement.{statement}
 use Rattle.shape.proofs.count.Tie as tie
 
 abbrev Inv-loop : tie.InvT-loop
-Inv-loop shape order product₀ k₀ product k = Counting order shape product k
+Inv-loop shape order product₀ k₀ product k = Counting order shape (product .0) k
 
 abbrev μ-loop : tie.MeasureT-loop
 μ-loop shape order product₀ k₀ product k = length shape - k
@@ -20,14 +20,14 @@ loop-holds c = counting-start _ _
 visit-requires : tie.Need-visit-requires Inv-loop μ-loop
 visit-requires c κs = search needs
 
-mul-product : tie.Need-mul-product Inv-loop μ-loop
-mul-product c = search needs
+mul-times : tie.Need-mul-times Inv-loop μ-loop
+mul-times c = search needs
 
-shared-slice-read-product : tie.Need-shared-slice-read-product Inv-loop μ-loop
-shared-slice-read-product c = search needs
+shared-slice-read-times : tie.Need-shared-slice-read-times Inv-loop μ-loop
+shared-slice-read-times c = search needs
 
-product-requires : tie.Need-product-requires Inv-loop μ-loop
-product-requires c κs = search needs
+times-requires : tie.Need-times-requires Inv-loop μ-loop
+times-requires c κs = search needs
 
 enum-known-next : tie.Need-enum-known-next Inv-loop μ-loop
 enum-known-next c = search needs
@@ -38,7 +38,7 @@ enum-told c = search needs
 returns : tie.Need-returns Inv-loop μ-loop
 returns c =
     let l = c .before .before .before .before .before .before .loop in
-    counting-over _ _ (l .product) (l .k) _ (l .inv) (c .before .before .before .before .before .loop-test .taken) (c .before .before .before .before .visit .ensures .0) (sym (c .enum-told .given .1) ∙ c .before .before .product .ensures)
+    counting-over _ _ (l .product .0) (l .k) _ (l .inv) (c .before .before .before .before .before .loop-test .taken) (c .before .before .before .before .visit .ensures .0) (sym (c .enum-told .given .1) ∙ c .before .before .times .ensures)
 
 add-k : tie.Need-add-k Inv-loop μ-loop
 add-k c = search needs
@@ -49,7 +49,7 @@ loop-less c = search needs
 loop-again : tie.Need-loop-again Inv-loop μ-loop
 loop-again c =
     let l = c .before .before .before .before .before .before .before .loop in
-    counting-next _ _ (l .product) (l .k) _ (l .inv) (c .before .before .before .before .before .before .loop-test .taken) (c .before .before .before .before .before .visit .ensures .0) _ (sym (c .before .next .given .1) ∙ c .before .before .before .product .ensures)
+    counting-next _ _ (l .product .0) (l .k) _ (l .inv) (c .before .before .before .before .before .before .loop-test .taken) (c .before .before .before .before .before .visit .ensures .0) _ (sym (c .before .next .given .1) ∙ c .before .before .before .times .ensures)
 
 returns-2 : tie.Need-returns-2 Inv-loop μ-loop
 returns-2 c = counting-end _ _ _ _ (c .before .loop .inv) (c .loop-test .left)
@@ -62,9 +62,9 @@ count-spec =
     μ-loop
     loop-holds
     visit-requires
-    mul-product
-    shared-slice-read-product
-    product-requires
+    mul-times
+    shared-slice-read-times
+    times-requires
     enum-known-next
     enum-told
     returns

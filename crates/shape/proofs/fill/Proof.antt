@@ -1,14 +1,15 @@
 -- `shape::fill` meets its contract. The loop keeps that the strides of the dimensions passed are at their places, that the product so far is the stride of the next, and that the room after
--- the rank is as it was (`Filling`); the measure is what is left of the rank.
+-- the rank is as it was (`Filling`), so that no product is over; the measure is what is left of the rank.
 use Prim.Native.Nat.{_-_}
-use borrow.Author.Needs.{needs}
+use mathlib.Core.Path.{sym, _∙_}
 use lib.ListN.{length}
-use Rattle.shape.proofs.Turns.{Filling, filling-start, filling-fits, filling-next, filling-end}
+use Rattle.shape.proofs.Turns.{Filling, filling-start, filling-over, filling-next, filling-end}
+use borrow.Author.Needs.{needs}
 use Rattle.shape.proofs.fill.Statement.{statement}
 use Rattle.shape.proofs.fill.Tie as tie
 
 abbrev Inv-loop : tie.InvT-loop
-Inv-loop shape order out₀ stride₀ k₀ out stride k = Filling order shape out₀ stride k out
+Inv-loop shape order out₀ stride₀ k₀ out stride k = Filling order shape out₀ (stride .0) k out
 
 abbrev μ-loop : tie.MeasureT-loop
 μ-loop shape order out₀ stride₀ k₀ out stride k = length shape - k
@@ -25,16 +26,28 @@ mul-out c = search needs
 slice-write-out : tie.Need-slice-write-out Inv-loop μ-loop
 slice-write-out c = search needs
 
-mul-stride : tie.Need-mul-stride Inv-loop μ-loop
-mul-stride c = search needs
+mul-times : tie.Need-mul-times Inv-loop μ-loop
+mul-times c = search needs
 
-shared-slice-read-stride : tie.Need-shared-slice-read-stride Inv-loop μ-loop
-shared-slice-read-stride c = search needs
+shared-slice-read-times : tie.Need-shared-slice-read-times Inv-loop μ-loop
+shared-slice-read-times c = search needs
 
-mul-stride-2 : tie.Need-mul-stride-2 Inv-loop μ-loop
-mul-stride-2 c =
-    let l = c .before .before .before .loop in
-    record { fits = filling-fits _ _ _ (l .stride) (l .k) _ (l .out) (l .inv) (c .before .before .loop-test .taken) (c .before .visit .ensures .0) }
+times-requires : tie.Need-times-requires Inv-loop μ-loop
+times-requires c κs = search needs
+
+enum-known-next : tie.Need-enum-known-next Inv-loop μ-loop
+enum-known-next c = search needs
+
+enum-told : tie.Need-enum-told Inv-loop μ-loop
+enum-told c = search needs
+
+same-length : tie.Need-same-length Inv-loop μ-loop
+same-length c = search needs
+
+returns : tie.Need-returns Inv-loop μ-loop
+returns c =
+    let l = c .before .before .before .before .before .before .loop in
+    filling-over _ _ _ (l .stride .0) (l .k) _ (l .out) (l .inv) (c .before .before .before .before .before .loop-test .taken) (c .before .before .before .before .visit .ensures .0) (sym (c .enum-told .given .1) ∙ c .before .before .times .ensures)
 
 add-k : tie.Need-add-k Inv-loop μ-loop
 add-k c = search needs
@@ -44,14 +57,14 @@ loop-less c = search needs
 
 loop-again : tie.Need-loop-again Inv-loop μ-loop
 loop-again c =
-    let l = c .before .before .before .loop in
-    filling-next _ _ _ (l .stride) (l .k) _ (l .out) (l .inv) (c .before .before .loop-test .taken) (c .before .visit .ensures .0)
+    let l = c .before .before .before .before .before .before .before .loop in
+    filling-next _ _ _ (l .stride .0) (l .k) _ (l .out) (l .inv) (c .before .before .before .before .before .before .loop-test .taken) (c .before .before .before .before .before .visit .ensures .0) _ (sym (c .before .next .given .1) ∙ c .before .before .before .times .ensures)
 
-same-length : tie.Need-same-length Inv-loop μ-loop
-same-length c = search needs
+same-length-2 : tie.Need-same-length-2 Inv-loop μ-loop
+same-length-2 c = search needs
 
-returns : tie.Need-returns Inv-loop μ-loop
-returns c = filling-end _ _ _ _ _ _ (c .before .loop .inv) (c .loop-test .left)
+returns-2 : tie.Need-returns-2 Inv-loop μ-loop
+returns-2 c = filling-end _ _ _ _ _ _ (c .before .loop .inv) (c .loop-test .left)
 
 pub fill-spec : {M : Type 1} → statement M
 fill-spec =
@@ -63,11 +76,15 @@ fill-spec =
     visit-requires
     mul-out
     slice-write-out
-    mul-stride
-    shared-slice-read-stride
-    mul-stride-2
+    mul-times
+    shared-slice-read-times
+    times-requires
+    enum-known-next
+    enum-told
+    same-length
+    returns
     add-k
     loop-less
     loop-again
-    same-length
-    returns)
+    same-length-2
+    returns-2)

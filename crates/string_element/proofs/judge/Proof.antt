@@ -11,7 +11,7 @@ use Rattle.string_element.proofs.judge.Statement.{statement}
 use Rattle.string_element.proofs.judge.Tie as tie
 
 abbrev Inv-loop : tie.InvT-loop
-Inv-loop run order at₀ count₀ kept₀ at count kept = Judging order run at count kept
+Inv-loop run order at₀ count₀ kept₀ at count kept = Judging order run at (count .0) (kept .0)
 
 abbrev μ-loop : tie.MeasureT-loop
 μ-loop run order at₀ count₀ kept₀ at count kept = length run - at
@@ -34,20 +34,20 @@ returns c = judging-bad _ _ _ _ _ (c .before .before .before .before .loop .inv)
 add-at : tie.Need-add-at Inv-loop μ-loop
 add-at c = omega (arith, judging-inside _ _ _ _ _ _ (c .before .before .before .before .before .loop .inv) (sym (told pointAnswer (c .before .before .before .point-at .ensures) (c .before .p .given .1))))
 
-add-count : tie.Need-add-count Inv-loop μ-loop
-add-count c = omega (arith, c .before .before .before .before .before .loop .inv .four)
+add-t11 : tie.Need-add-t11 Inv-loop μ-loop
+add-t11 c = omega (arith, c .before .before .before .before .before .before .loop .inv .four)
 
 loop-less : tie.Need-loop-less Inv-loop μ-loop
-loop-less c = omega (arith, judging-inside _ _ _ _ _ _ (c .before .before .before .before .before .before .loop .inv) (sym (told pointAnswer (c .before .before .before .before .point-at .ensures) (c .before .before .p .given .1))))
+loop-less c = omega (arith, judging-inside _ _ _ _ _ _ (c .before .before .before .before .before .before .before .loop .inv) (sym (told pointAnswer (c .before .before .before .before .before .point-at .ensures) (c .before .before .before .p .given .1))))
 
 loop-again : tie.Need-loop-again Inv-loop μ-loop
-loop-again c = judging-some _ _ _ _ _ _ (c .before .before .before .before .before .before .loop .inv) (sym (told pointAnswer (c .before .before .before .before .point-at .ensures) (c .before .before .p .given .1))) (c .if1 .taken)
+loop-again c = judging-some _ _ _ _ _ _ (c .before .before .before .before .before .before .before .loop .inv) (sym (told pointAnswer (c .before .before .before .before .before .point-at .ensures) (c .before .before .before .p .given .1))) (c .if1 .taken)
 
 loop-less-2 : tie.Need-loop-less-2 Inv-loop μ-loop
-loop-less-2 c = omega (arith, judging-inside _ _ _ _ _ _ (c .before .before .before .before .before .before .loop .inv) (sym (told pointAnswer (c .before .before .before .before .point-at .ensures) (c .before .before .p .given .1))))
+loop-less-2 c = omega (arith, judging-inside _ _ _ _ _ _ (c .before .before .before .before .before .before .before .loop .inv) (sym (told pointAnswer (c .before .before .before .before .before .point-at .ensures) (c .before .before .before .p .given .1))))
 
 loop-again-2 : tie.Need-loop-again-2 Inv-loop μ-loop
-loop-again-2 c = judging-zero _ _ _ _ _ _ (c .before .before .before .before .before .before .loop .inv) (sym (told pointAnswer (c .before .before .before .before .point-at .ensures) (c .before .before .p .given .1))) (c .if1 .left)
+loop-again-2 c = judging-zero _ _ _ _ _ _ (c .before .before .before .before .before .before .before .loop .inv) (sym (told pointAnswer (c .before .before .before .before .before .point-at .ensures) (c .before .before .before .p .given .1))) (c .if1 .left)
 
 returns-2 : tie.Need-returns-2 Inv-loop μ-loop
 returns-2 c = judging-end _ _ _ _ _ (c .before .loop .inv) (c .loop-test .left)
@@ -64,7 +64,7 @@ judge-spec =
     enum-told
     returns
     add-at
-    add-count
+    add-t11
     loop-less
     loop-again
     loop-less-2

@@ -11,10 +11,10 @@ use Rattle.string_element.proofs.put_filled.Statement.{statement}
 use Rattle.string_element.proofs.put_filled.Tie as tie
 
 abbrev Inv-loop : tie.InvT-loop
-Inv-loop out₀ size value p₀ i₀ out p i = Left _++_ (zeroFilled size value) out₀ 0 out p i
+Inv-loop out₀ size value p₀ i₀ out p i = Left _++_ (zeroFilled (size .0) value) out₀ 0 out p i
 
 abbrev μ-loop : tie.MeasureT-loop
-μ-loop out₀ size value p₀ i₀ out p i = size - i
+μ-loop out₀ size value p₀ i₀ out p i = size .0 - i
 
 loop-holds : tie.Need-loop-holds Inv-loop μ-loop
 loop-holds c = left-start _∷_ _++_ (λ x. refl) (λ b s x. refl) (zeroFilled _ _) _ _
@@ -32,13 +32,13 @@ loop-less : tie.Need-loop-less Inv-loop μ-loop
 loop-less c = omega arith
 
 loop-again : tie.Need-loop-again Inv-loop μ-loop
-loop-again c = left-more _∷_ _++_ (λ x. refl) (λ b s x. refl) (zeroFilled _ _) _ _ _ _ _ _ _ (c .before .before .before .before .before .before .loop .inv) (rw (length-filled (c .before .before .before .before .before .before .before .before .before .args .size) (c .before .before .before .before .before .before .before .before .before .args .value .now) (c .before .before .before .before .before .before .before .before .before .pre)) (c .before .before .before .before .before .loop-test .taken)) (emits-byte _ _ _ _ _ _ (c .before .before .before .byte-at .ensures ∙ sym (at-filled (c .before .before .before .before .before .before .before .before .before .args .size) (c .before .before .before .before .before .before .before .before .before .args .value .now) _)) (c .before .before .put .ensures))
+loop-again c = left-more _∷_ _++_ (λ x. refl) (λ b s x. refl) (zeroFilled _ _) _ _ _ _ _ _ _ (c .before .before .before .before .before .before .before .loop .inv) (rw (length-filled (c .before .before .before .before .before .before .before .before .before .before .args .size .0) (c .before .before .before .before .before .before .before .before .before .before .args .value .now) (c .before .before .before .before .before .before .before .before .before .before .pre)) (c .before .before .before .before .before .if1 .taken)) (emits-byte _ _ _ _ _ _ (c .before .before .before .byte-at .ensures ∙ sym (at-filled (c .before .before .before .before .before .before .before .before .before .before .args .size .0) (c .before .before .before .before .before .before .before .before .before .before .args .value .now) _)) (c .before .before .put .ensures))
 
 same-length : tie.Need-same-length Inv-loop μ-loop
-same-length c = c .before .loop .inv .same
+same-length c = c .before .before .loop .inv .same
 
 returns : tie.Need-returns Inv-loop μ-loop
-returns c = left-end _∷_ _++_ (λ x. refl) (λ b s x. refl) (zeroFilled _ _) _ _ _ _ _ (c .before .loop .inv) (rw (length-filled (c .before .before .before .before .args .size) (c .before .before .before .before .args .value .now) (c .before .before .before .before .pre)) (c .loop-test .left))
+returns c = left-end _∷_ _++_ (λ x. refl) (λ b s x. refl) (zeroFilled _ _) _ _ _ _ _ (c .before .before .loop .inv) (rw (length-filled (c .before .before .before .before .before .args .size .0) (c .before .before .before .before .before .args .value .now) (c .before .before .before .before .before .pre)) (c .if1 .left))
 
 pub put-filled-spec : {M : Type 1} → statement M
 put-filled-spec =

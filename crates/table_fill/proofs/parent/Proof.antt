@@ -8,14 +8,14 @@ use Rattle.table_fill.proofs.parent.Tie as tie
 returns : tie.Need-returns
 returns c = up-first _ _ _ (c .if1 .taken) (c .before .fits .up .fits)
 
-sub-held-sum : tie.Need-sub-held-sum
-sub-held-sum c = search needs
+sub-capped-sum : tie.Need-sub-capped-sum
+sub-capped-sum c = search needs
 
-held-sum-requires : tie.Need-held-sum-requires
-held-sum-requires c κs = search needs
+capped-sum-requires : tie.Need-capped-sum-requires
+capped-sum-requires c κs = search needs
 
 returns-2 : tie.Need-returns-2
-returns-2 c = c .held-sum .ensures ∙ up-later _ _ (c .before .before .args .up) (c .before .if1 .left)
+returns-2 c = c .capped-sum .ensures ∙ up-later _ _ (c .before .before .args .up) (c .before .if1 .left)
 
 pub parent-spec : {M : Type 1} → statement M
-parent-spec = tie.close (tie.spec returns sub-held-sum held-sum-requires returns-2)
+parent-spec = tie.close (tie.spec returns sub-capped-sum capped-sum-requires returns-2)

@@ -44,9 +44,9 @@ returns-3 c =
     let at = a .entry + a .k in
     let up = c .before .before .before .before .before .before .before .parent .ensures ∙ up-fits (a .k) (a .entry) (a .up) (c .before .before .before .before .before .before .before .before .before .before .before .fits .up .fits) (omega (arith, c .before .before .before .before .before .before .before .before .if2 .left, c .before .before .before .before .before .before .before .before .before .if1 .left)) in
     c .before .before .put-entry .ensures ∙ ap (put (a .table .now) at) (c .before .before .before .bare-entry .ensures)
-    ∙ ap (λ (x : ℕ). put (a .table .now) at (bare 1 x (a .number) (c .before .before .before .before .entries-between .result) (a .bytes) (c .before .before .before .before .before .before .name-of .result))) up
-    ∙ ap (λ (x : ℕ). put (a .table .now) at (bare 1 (upOf (a .k) (a .entry) (a .up)) (a .number) x (a .bytes) (c .before .before .before .before .before .before .name-of .result))) (c .before .before .before .before .entries-between .ensures)
-    ∙ ap (λ (x : ℕ). put (a .table .now) at (bare 1 (upOf (a .k) (a .entry) (a .up)) (a .number) (a .stop - at) (a .bytes) x)) (c .before .before .before .before .before .before .name-of .ensures)
+    ∙ ap (λ (x : ℕ). put (a .table .now) at (bare 1 x (a .number) (c .before .before .before .before .entries-between .result) (a .size .0) (c .before .before .before .before .before .before .name-of .result))) up
+    ∙ ap (λ (x : ℕ). put (a .table .now) at (bare 1 (upOf (a .k) (a .entry) (a .up)) (a .number) x (a .size .0) (c .before .before .before .before .before .before .name-of .result))) (c .before .before .before .before .entries-between .ensures)
+    ∙ ap (λ (x : ℕ). put (a .table .now) at (bare 1 (upOf (a .k) (a .entry) (a .up)) (a .number) (a .stop - at) (a .size .0) x)) (c .before .before .before .before .before .before .name-of .ensures)
 
 pub put-level-spec : {M : Type 1} → statement M
 put-level-spec =

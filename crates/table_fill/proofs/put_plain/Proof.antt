@@ -1,5 +1,6 @@
 -- The entry is made, and then written; it holds the size.
 use mathlib.Core.Path.{ap, _∙_}
+use Rattle.counts.specs.Counts.{asBytes}
 use Rattle.dtype.specs.declared.Entry.{Entry}
 use Rattle.table_fill.specs.Written.{put}
 use borrow.Author.Needs.{needs}
@@ -17,7 +18,7 @@ same-length c = search needs
 
 returns : tie.Need-returns
 returns c = (
-  ap (λ (e : Entry). e .bytes) (c .before .before .before .before .plain-entry .ensures),
+  ap (λ (e : Entry). asBytes (e .bytes)) (c .before .before .before .before .plain-entry .ensures),
   c .before .before .put-entry .ensures ∙ ap (put (c .before .before .before .before .before .before .args .table .now) (c .before .before .before .before .before .before .args .at)) (c .before .before .before .before .plain-entry .ensures),
 )
 

@@ -22,7 +22,7 @@ returns : tie.Need-returns
 returns c =
     let a = c .before .before .before .before .before .before .before .args in
     c .before .before .put-entry .ensures ∙ ap (put (a .table .now) (a .at)) (c .before .before .before .bare-entry .ensures)
-    ∙ ap (λ (x : ℕ). put (a .table .now) (a .at) (bare 2 (a .up) (a .count) x (a .size) (a .name))) (c .before .before .before .before .entries-between .ensures)
+    ∙ ap (λ (x : ℕ). put (a .table .now) (a .at) (bare 2 (a .up) (a .count) x (a .size .0) (a .name))) (c .before .before .before .before .entries-between .ensures)
 
 pub put-record-spec : {M : Type 1} → statement M
 put-record-spec = tie.close (tie.spec entries-between-requires bare-entry-requires put-entry-requires same-length returns)

@@ -27,14 +27,14 @@ add-i c = omega (arith, telling-low (c .before .before .before .args .table .now
 mul-i : tie.Need-mul-i Inv-loop μ-loop
 mul-i c = omega (arith, telling-low (c .before .before .before .args .table .now) (c .before .before .before .args .entry) (c .before .before .before .args .count) (c .before .before .before .args .by) (c .before .before .before .pre) (c .before .loop .k) (c .before .loop .table) (c .before .loop .inv), c .loop-test .taken, c .before .before .before .pre)
 
-mul-held-sum : tie.Need-mul-held-sum Inv-loop μ-loop
-mul-held-sum c = omega (arith, telling-low (c .before .before .before .args .table .now) (c .before .before .before .args .entry) (c .before .before .before .args .count) (c .before .before .before .args .by) (c .before .before .before .pre) (c .before .loop .k) (c .before .loop .table) (c .before .loop .inv), c .loop-test .taken, c .before .before .before .pre)
+mul-capped-sum : tie.Need-mul-capped-sum Inv-loop μ-loop
+mul-capped-sum c = omega (arith, telling-low (c .before .before .before .args .table .now) (c .before .before .before .args .entry) (c .before .before .before .args .count) (c .before .before .before .args .by) (c .before .before .before .pre) (c .before .loop .k) (c .before .loop .table) (c .before .loop .inv), c .loop-test .taken, c .before .before .before .pre)
 
-slice-read-held-sum : tie.Need-slice-read-held-sum Inv-loop μ-loop
-slice-read-held-sum c = omega (arith, telling-low (c .before .before .before .before .args .table .now) (c .before .before .before .before .args .entry) (c .before .before .before .before .args .count) (c .before .before .before .before .args .by) (c .before .before .before .before .pre) (c .before .before .loop .k) (c .before .before .loop .table) (c .before .before .loop .inv), c .before .loop-test .taken, c .before .before .before .before .pre, c .before .before .loop .inv .long)
+slice-read-capped-sum : tie.Need-slice-read-capped-sum Inv-loop μ-loop
+slice-read-capped-sum c = omega (arith, telling-low (c .before .before .before .before .args .table .now) (c .before .before .before .before .args .entry) (c .before .before .before .before .args .count) (c .before .before .before .before .args .by) (c .before .before .before .before .pre) (c .before .before .loop .k) (c .before .before .loop .table) (c .before .before .loop .inv), c .before .loop-test .taken, c .before .before .before .before .pre, c .before .before .loop .inv .long)
 
-held-sum-requires : tie.Need-held-sum-requires Inv-loop μ-loop
-held-sum-requires c κs = search needs
+capped-sum-requires : tie.Need-capped-sum-requires Inv-loop μ-loop
+capped-sum-requires c κs = search needs
 
 mul-table : tie.Need-mul-table Inv-loop μ-loop
 mul-table c = omega (arith, telling-low (c .before .before .before .before .before .args .table .now) (c .before .before .before .before .before .args .entry) (c .before .before .before .before .before .args .count) (c .before .before .before .before .before .args .by) (c .before .before .before .before .before .pre) (c .before .before .before .loop .k) (c .before .before .before .loop .table) (c .before .before .before .loop .inv), c .before .before .loop-test .taken, c .before .before .before .before .before .pre, c .before .before .before .loop .inv .long)
@@ -51,7 +51,7 @@ loop-again c =
     let l = c .before .before .before .loop in
     let hk : l .k ≡ suc (l .k - 1) = omega (arith, c .before .before .loop-test .taken) in
     let pos : 0 < l .k - 1 = omega (arith, c .before .before .loop-test .taken) in
-    telling-more (a .table .now) (a .entry) (a .count) (a .by) (c .before .before .before .before .before .pre) (l .k) (l .k - 1) hk pos (l .table) (l .inv) (entry-width * (a .entry + (l .k - 1))) (c .held-sum .result) refl (c .held-sum .ensures) _ refl
+    telling-more (a .table .now) (a .entry) (a .count) (a .by) (c .before .before .before .before .before .pre) (l .k) (l .k - 1) hk pos (l .table) (l .inv) (entry-width * (a .entry + (l .k - 1))) (c .capped-sum .result) refl (c .capped-sum .ensures) _ refl
 
 mul-first : tie.Need-mul-first Inv-loop μ-loop
 mul-first c = omega (arith, telling-low (c .before .before .before .before .args .table .now) (c .before .before .before .before .args .entry) (c .before .before .before .before .args .count) (c .before .before .before .before .args .by) (c .before .before .before .before .pre) (c .before .before .loop .k) (c .before .before .loop .table) (c .before .before .loop .inv), c .if1 .taken, c .before .before .before .before .pre)
@@ -107,9 +107,9 @@ relink-spec =
     sub-k
     add-i
     mul-i
-    mul-held-sum
-    slice-read-held-sum
-    held-sum-requires
+    mul-capped-sum
+    slice-read-capped-sum
+    capped-sum-requires
     mul-table
     slice-write-table
     loop-less

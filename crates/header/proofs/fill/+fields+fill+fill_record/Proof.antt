@@ -236,20 +236,20 @@ fill-record-put-record-requires t c κs = search needs
 
 fill-record-same-length : (t : ℕ) → fill-record-lts.Need-same-length (fill-record-told t) (fill-record-at t) fill-record.Post
 fill-record-same-length t c =
-    let a = c .before .before .before .before .before .before .before .before .before .before .before .before .before .before .args in
-    let x = c .before .before .before .before .before .before .before .before .before .before .before .before .before .before .pre .1 .1 in
-    filled-long (record-whole (a .room) (a .text .now) (a .at) (a .entry) (a .up) (a .name) (a .byte) (a .table .now) (a .names .now) (x .0) (x .1) (x .2) (x .3) (c .before .before .before .before .before .before .before .before .before .before .before .before .before .before .pre .1 .0) (c .before .before .before .before .before .before .before .before .fields .result) _ _ (c .before .before .before .before .before .before .before .before .fields .ensures) _ (c .before .before .put-record .ensures)) .0
+    let a = c .before .before .before .before .before .before .before .before .before .before .before .before .before .before .before .args in
+    let x = c .before .before .before .before .before .before .before .before .before .before .before .before .before .before .before .pre .1 .1 in
+    filled-long (record-whole (a .room) (a .text .now) (a .at) (a .entry) (a .up) (a .name) (a .byte) (a .table .now) (a .names .now) (x .0) (x .1) (x .2) (x .3) (c .before .before .before .before .before .before .before .before .before .before .before .before .before .before .before .pre .1 .0) (c .before .before .before .before .before .before .before .before .before .fields .result) _ _ (c .before .before .before .before .before .before .before .before .before .fields .ensures) _ (c .before .before .put-record .ensures)) .0
 
 fill-record-same-length-2 : (t : ℕ) → fill-record-lts.Need-same-length-2 (fill-record-told t) (fill-record-at t) fill-record.Post
 fill-record-same-length-2 t c =
-    let a = c .before .before .before .before .before .before .before .before .before .before .before .before .before .before .args in
-    let x = c .before .before .before .before .before .before .before .before .before .before .before .before .before .before .pre .1 .1 in
-    filled-long (record-whole (a .room) (a .text .now) (a .at) (a .entry) (a .up) (a .name) (a .byte) (a .table .now) (a .names .now) (x .0) (x .1) (x .2) (x .3) (c .before .before .before .before .before .before .before .before .before .before .before .before .before .before .pre .1 .0) (c .before .before .before .before .before .before .before .before .fields .result) _ _ (c .before .before .before .before .before .before .before .before .fields .ensures) _ (c .before .before .put-record .ensures)) .1
+    let a = c .before .before .before .before .before .before .before .before .before .before .before .before .before .before .before .args in
+    let x = c .before .before .before .before .before .before .before .before .before .before .before .before .before .before .before .pre .1 .1 in
+    filled-long (record-whole (a .room) (a .text .now) (a .at) (a .entry) (a .up) (a .name) (a .byte) (a .table .now) (a .names .now) (x .0) (x .1) (x .2) (x .3) (c .before .before .before .before .before .before .before .before .before .before .before .before .before .before .before .pre .1 .0) (c .before .before .before .before .before .before .before .before .before .fields .result) _ _ (c .before .before .before .before .before .before .before .before .before .fields .ensures) _ (c .before .before .put-record .ensures)) .1
 
 fill-record-returns : (t : ℕ) → fill-record-lts.Need-returns (fill-record-told t) (fill-record-at t) fill-record.Post
 fill-record-returns t c =
-    let a = c .before .before .before .before .before .before .before .before .before .before .before .before .before .before .args in
-    λ n e d h. record-whole (a .room) (a .text .now) (a .at) (a .entry) (a .up) (a .name) (a .byte) (a .table .now) (a .names .now) n e d h (c .before .before .before .before .before .before .before .before .before .before .before .before .before .before .pre .1 .0) (c .before .before .before .before .before .before .before .before .fields .result) _ _ (c .before .before .before .before .before .before .before .before .fields .ensures) _ (c .before .before .put-record .ensures)
+    let a = c .before .before .before .before .before .before .before .before .before .before .before .before .before .before .before .args in
+    λ n e d h. record-whole (a .room) (a .text .now) (a .at) (a .entry) (a .up) (a .name) (a .byte) (a .table .now) (a .names .now) n e d h (c .before .before .before .before .before .before .before .before .before .before .before .before .before .before .before .pre .1 .0) (c .before .before .before .before .before .before .before .before .before .fields .result) _ _ (c .before .before .before .before .before .before .before .before .before .fields .ensures) _ (c .before .before .put-record .ensures)
 
 pub +fields+fill+fill-record-spec : {M : Type 1} → statement M
 +fields+fill+fill-record-spec =

@@ -20,8 +20,8 @@ place-of-requires c κs = search needs
 
 returns : tie.Need-returns
 returns c =
-    let a = c .before .before .before .before .before .args in
-    λ e ns h. shaped-none (a .room) (a .text .now) (a .close) (a .table .now) (a .r) e ns h (c .before .before .then-at .result) (c .before .before .then-at .ensures) (a .entry) (a .up) (a .name) (c .place-of .result) (c .before .match .keys2) (c .place-of .ensures)
+    let a = c .before .before .before .before .before .before .args in
+    λ e ns h. shaped-none (a .room) (a .text .now) (a .close) (a .table .now) (a .r) e ns h (c .before .before .before .then-at .result) (c .before .before .before .then-at .ensures) (a .entry) (a .up) (a .name) (c .place-of .result) (c .before .match .keys2) (c .place-of .ensures)
 
 slice-aggregate-fill : tie.Need-slice-aggregate-fill
 slice-aggregate-fill c = search needs
@@ -31,16 +31,16 @@ fill-requires c κs = search needs
 
 array-share-prefix-shape : tie.Need-array-share-prefix-shape
 array-share-prefix-shape c =
-    let a = c .before .before .before .before .before .before .before .before .before .before .args in
-    let x = c .before .before .before .before .before .before .before .before .before .before .pre in
-    let st = stored-shape (a .room) (a .text .now) _ _ _ _ (c .before .before .fill .ensures) (x .1) (shape-stands (a .room) (a .text .now) (a .close) (a .table .now) (a .r) (x .0) (x .1) (x .2) (c .before .before .before .before .before .before .before .then-at .result) (c .before .before .before .before .before .before .before .then-at .ensures) _ (c .before .before .before .before .before .g .given .1)) in
+    let a = c .before .before .before .before .before .before .before .before .before .before .before .args in
+    let x = c .before .before .before .before .before .before .before .before .before .before .before .pre in
+    let st = stored-shape (a .room) (a .text .now) _ _ _ _ (c .before .before .fill .ensures) (x .1) (shape-stands (a .room) (a .text .now) (a .close) (a .table .now) (a .r) (x .0) (x .1) (x .2) (c .before .before .before .before .before .before .before .before .then-at .result) (c .before .before .before .before .before .before .before .before .then-at .ensures) _ (c .before .before .before .before .before .g .given .1)) in
     omega (arith, st .counted, x .2 .after .low)
 
 slice-aggregate-put-over : tie.Need-slice-aggregate-put-over
 slice-aggregate-put-over c =
-    let a = c .before .before .before .before .before .before .before .before .before .before .before .args in
-    let x = c .before .before .before .before .before .before .before .before .before .before .before .pre in
-    let st = stored-shape (a .room) (a .text .now) _ _ _ _ (c .before .before .before .fill .ensures) (x .1) (shape-stands (a .room) (a .text .now) (a .close) (a .table .now) (a .r) (x .0) (x .1) (x .2) (c .before .before .before .before .before .before .before .before .then-at .result) (c .before .before .before .before .before .before .before .before .then-at .ensures) _ (c .before .before .before .before .before .before .g .given .1)) in
+    let a = c .before .before .before .before .before .before .before .before .before .before .before .before .args in
+    let x = c .before .before .before .before .before .before .before .before .before .before .before .before .pre in
+    let st = stored-shape (a .room) (a .text .now) _ _ _ _ (c .before .before .before .fill .ensures) (x .1) (shape-stands (a .room) (a .text .now) (a .close) (a .table .now) (a .r) (x .0) (x .1) (x .2) (c .before .before .before .before .before .before .before .before .before .then-at .result) (c .before .before .before .before .before .before .before .before .before .then-at .ensures) _ (c .before .before .before .before .before .before .g .given .1)) in
     st .counted ∙ sym (ap length (shape-front (x .1) _ _ _ _ _ st (x .2 .after .low) refl))
 
 put-over-requires : tie.Need-put-over-requires
@@ -55,22 +55,22 @@ then-at-requires-2 c κs = search needs
 place-of-requires-3 : tie.Need-place-of-requires-3
 place-of-requires-3 c κs = search needs
 
-add-t26 : tie.Need-add-t26
-add-t26 c =
-    let a = c .before .before .before .before .before .before .before .before .before .before .before .before .before .before .before .before .before .before .args in
-    let x = c .before .before .before .before .before .before .before .before .before .before .before .before .before .before .before .before .before .before .pre in
-    let st = stored-shape (a .room) (a .text .now) _ _ _ _ (c .before .before .before .before .before .before .before .before .before .before .fill .ensures) (x .1) (shape-stands (a .room) (a .text .now) (a .close) (a .table .now) (a .r) (x .0) (x .1) (x .2) (c .before .before .before .before .before .before .before .before .before .before .before .before .before .before .before .then-at .result) (c .before .before .before .before .before .before .before .before .before .before .before .before .before .before .before .then-at .ensures) _ (c .before .before .before .before .before .before .before .before .before .before .before .before .before .g .given .1)) in
-    omega (arith, st .counted, x .2 .room, c .before .before .before .before .before .before .before .before .before .before .before .before .before .before .before .before .before .before .good .1 .1 .1 .1 .0 .0)
+add-t27 : tie.Need-add-t27
+add-t27 c =
+    let a = c .before .before .before .before .before .before .before .before .before .before .before .before .before .before .before .before .before .before .before .args in
+    let x = c .before .before .before .before .before .before .before .before .before .before .before .before .before .before .before .before .before .before .before .pre in
+    let st = stored-shape (a .room) (a .text .now) _ _ _ _ (c .before .before .before .before .before .before .before .before .before .before .fill .ensures) (x .1) (shape-stands (a .room) (a .text .now) (a .close) (a .table .now) (a .r) (x .0) (x .1) (x .2) (c .before .before .before .before .before .before .before .before .before .before .before .before .before .before .before .before .then-at .result) (c .before .before .before .before .before .before .before .before .before .before .before .before .before .before .before .before .then-at .ensures) _ (c .before .before .before .before .before .before .before .before .before .before .before .before .before .g .given .1)) in
+    omega (arith, st .counted, x .2 .room, c .before .before .before .before .before .before .before .before .before .before .before .before .before .before .before .before .before .before .before .good .1 .1 .1 .1 .0 .0)
 
 same-length : tie.Need-same-length
 same-length c = search needs
 
 returns-2 : tie.Need-returns-2
 returns-2 c =
-    let a = c .before .before .before .before .before .before .before .before .before .before .before .before .before .before .before .before .before .before .args in
+    let a = c .before .before .before .before .before .before .before .before .before .before .before .before .before .before .before .before .before .before .before .args in
     λ e ns h.
-    let st = stored-shape (a .room) (a .text .now) _ _ _ _ (c .before .before .before .before .before .before .before .before .before .before .fill .ensures) ns (shape-stands (a .room) (a .text .now) (a .close) (a .table .now) (a .r) e ns h (c .before .before .before .before .before .before .before .before .before .before .before .before .before .before .before .then-at .result) (c .before .before .before .before .before .before .before .before .before .before .before .before .before .before .before .then-at .ensures) _ (c .before .before .before .before .before .before .before .before .before .before .before .before .before .g .given .1)) in
-    shaped-some (a .room) (a .text .now) (a .close) (a .table .now) (a .r) e ns h (c .before .before .before .before .before .before .before .before .before .before .before .before .before .before .before .then-at .result) (c .before .before .before .before .before .before .before .before .before .before .before .before .before .before .before .then-at .ensures) _ (c .before .before .before .before .before .before .before .before .before .before .before .before .before .g .given .1) (a .entry) (a .up) (a .name) (c .before .before .before .before .before .before .before .before .before .before .fill .result .rank) (c .before .before .before .place-of2 .result) (c .before .place-of3 .result) (c .before .before .before .before .before .before .put-over .result) _ _ (st .counted)
+    let st = stored-shape (a .room) (a .text .now) _ _ _ _ (c .before .before .before .before .before .before .before .before .before .before .fill .ensures) ns (shape-stands (a .room) (a .text .now) (a .close) (a .table .now) (a .r) e ns h (c .before .before .before .before .before .before .before .before .before .before .before .before .before .before .before .before .then-at .result) (c .before .before .before .before .before .before .before .before .before .before .before .before .before .before .before .before .then-at .ensures) _ (c .before .before .before .before .before .before .before .before .before .before .before .before .before .g .given .1)) in
+    shaped-some (a .room) (a .text .now) (a .close) (a .table .now) (a .r) e ns h (c .before .before .before .before .before .before .before .before .before .before .before .before .before .before .before .before .then-at .result) (c .before .before .before .before .before .before .before .before .before .before .before .before .before .before .before .before .then-at .ensures) _ (c .before .before .before .before .before .before .before .before .before .before .before .before .before .g .given .1) (a .entry) (a .up) (a .name) (c .before .before .before .before .before .before .before .before .before .before .fill .result .rank) (c .before .before .before .place-of2 .result) (c .before .place-of3 .result) (c .before .before .before .before .before .before .put-over .result) _ _ (st .counted)
     (shape-front ns _ _ _ _ _ st (h .after .low) refl) (c .before .before .before .place-of2 .ensures ∙ ap gapPlace (st .stopped)) (c .before .place-of3 .ensures ∙ ap gapPlace (c .before .before .then-at2 .ensures)) (c .before .before .before .before .before .before .put-over .ensures .0) (c .before .before .before .before .before .before .put-over .ensures .1)
 
 pub shaped-spec : {M : Type 1} → statement M
@@ -89,6 +89,6 @@ shaped-spec =
     place-of-requires-2
     then-at-requires-2
     place-of-requires-3
-    add-t26
+    add-t27
     same-length
     returns-2)
