@@ -4,10 +4,11 @@ use mathlib.Core.Path.{_≡_, refl, ap, _∙_}
 use mathlib.Core.Bool.{Bool, true, false}
 use mathlib.Core.Logic.{⊎-elim}
 use mathlib.Core.List.{List}
+use lib.Dec.{eqb}
 use borrow.Author.Tests.{le-leb, lt-leb, ne-eqb}
 use Rattle.counts.specs.Number.{number}
 use Rattle.counts.proofs.Fits.{number-is, number-over}
-use Rattle.dtype.specs.PlainBytes.{isObject, bytesFor}
+use Rattle.dtype.specs.PlainBytes.{bytesFor}
 use Rattle.dtype.specs.Limits.{over}
 use Rattle.dtype.specs.Agrees.{entryAt}
 use Rattle.dtype.specs.Seen.{objectAt}
@@ -35,9 +36,9 @@ over-number n =
 pub unicode-over : (letter size : ℕ) → letter ≡ 85 → isOver (bytes (number (4 * size))) ≡ over (bytesFor letter size)
 unicode-over letter size h = over-number (4 * size) ∙ rw h
 
-not-over : (letter size : ℕ) (b : Bool) → isObject letter ≡ b → (letter ≡ 85 → ⊥) → size < 2 ^ 64 → false ≡ over (bytesFor letter size)
+not-over : (letter size : ℕ) (b : Bool) → eqb letter 79 ≡ b → (letter ≡ 85 → ⊥) → size < 2 ^ 64 → false ≡ over (bytesFor letter size)
 not-over letter size true e h l = simp e
 not-over letter size false e h l = simp (e, ne-eqb letter 85 h, lt-leb (2 ^ 64) size l)
 
 pub other-over : (letter size : ℕ) → (letter ≡ 85 → ⊥) → size < 2 ^ 64 → false ≡ over (bytesFor letter size)
-other-over letter size h l = not-over letter size (isObject letter) refl h l
+other-over letter size h l = not-over letter size (eqb letter 79) refl h l

@@ -11,8 +11,16 @@ use Rattle.counts.specs.Number.{number}
 use Rattle.counts.proofs.Fits.{number-is, number-over}
 use Rattle.dtype.specs.Limits.{over}
 use Rattle.descr_totals.specs.declared.Totals.{Totals}
-use Rattle.descr_totals.specs.Totals.{atMost, largest, heldNumber, isOver, nothing, together}
+use Rattle.descr_totals.specs.Totals.{atMost, largest, heldNumber, isOver, together}
 use Rattle.descr_totals.specs.Verdict.{both}
+use Rattle.shape_verdict.specs.Outline.{isOver}
+
+-- of no field, of a record's own entry, and of a name of so many bytes
+abbrev pub nothing : Totals
+nothing = record { entries = 0; names = 0; object = false; «over_levels» = false; over = false; size = 0 }
+
+abbrev pub oneEntry : Totals
+oneEntry = record { entries = 1; names = 0; object = false; «over_levels» = false; over = false; size = 0 }
 
 pub totals-eq : {e e′ n n′ z z′ : ℕ} {o o′ w w′ v v′ : Bool} → e ≡ e′ → n ≡ n′ → o ≡ o′ → w ≡ w′ → v ≡ v′ → z ≡ z′
     → _≡_ {A = Totals} (record { entries = e; names = n; object = o; «over_levels» = w; over = v; size = z }) (record { entries = e′; names = n′; object = o′; «over_levels» = w′; over = v′; size = z′ })

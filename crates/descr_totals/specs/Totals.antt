@@ -7,8 +7,7 @@ use lib.Dec.{ltb}
 use lib.ListN.{length}
 use Rattle.counts.specs.declared.Number.{Number}
 use Rattle.counts.specs.declared.Number.the-variants.{Is, Over}
-use Rattle.dtype.specs.TypeNumbers.{letterByte}
-use Rattle.dtype.specs.PlainBytes.{isObject}
+use Rattle.type_letters.specs.Classes.{isObject}
 use Rattle.dtype.specs.Dtype.{Dtype, Fields, sizeOf, sizesOf}
 use Rattle.dtype.specs.Entries.{entriesOf, entriesIn, someEntryIn, levels, plainOnly, hasObject}
 use Rattle.dtype.specs.Names.{nameBytes, nameBytesIn}
@@ -49,18 +48,11 @@ totalsIn fs =
     record {
       entries = atMost 513 (entriesIn fs);
       names = atMost 65537 (nameBytesIn fs);
-      object = someEntryIn (plainOnly (λ t. isObject (letterByte (t .letter)))) fs;
+      object = someEntryIn (plainOnly (λ t. isObject (t .letter))) fs;
       «over_levels» = someEntryIn (λ e. ltb 32 (levels e)) fs;
       over = someEntryIn (λ e. over (sizeOf e)) fs || over (sizesOf fs);
       size = atMost largest (sizesOf fs);
     }
-
--- of no field, of a record's own entry, and of a name of so many bytes
-abbrev pub nothing : Totals
-nothing = record { entries = 0; names = 0; object = false; «over_levels» = false; over = false; size = 0 }
-
-abbrev pub oneEntry : Totals
-oneEntry = record { entries = 1; names = 0; object = false; «over_levels» = false; over = false; size = 0 }
 
 abbrev pub nameTotals : ℕ → Totals
 nameTotals n = record { entries = 0; names = atMost 65537 n; object = false; «over_levels» = false; over = false; size = 0 }

@@ -1,11 +1,11 @@
 -- Demand 3 (specs/Demand.antt) holds of every record that the check accepts, without an `O`, in a file that is long enough. The answers are document 01's
 -- formula, of which the crate dtype shows it.
 use Prim.Native.Nat.{ℕ, _+_, _≤_}
+use native.Mathlib.Omega.{arith}
 use mathlib.Core.Path.{_≡_, refl, ap, sym, _∙_}
 use mathlib.Core.Bool.{Bool, true, false, not}
 use mathlib.Core.List.{List}
 use mathlib.Core.Logic.{_⊎_, inl, inr}
-use native.Mathlib.Omega.{arith}
 use borrow.Author.Tests.{le-ltb}
 use Rattle.counts.specs.Outcome.{Outcome, gives, refused, each, unless}
 use Rattle.type_str.specs.declared.TypeStr.{TypeStr}
@@ -14,18 +14,25 @@ use Rattle.dtype.specs.PlainBytes.{plainBytes}
 use Rattle.dtype.specs.Entries.{hasObject}
 use Rattle.dtype.specs.Shape.{In-range, inRange}
 use Rattle.dtype.specs.Record.{Record}
-use Rattle.dtype.specs.Paths.{Path-to, plainAt, runOf, run}
-use Rattle.dtype.specs.Places.{dataBytes, place, Ask, Belongs}
+use Rattle.dtype.specs.Paths.{Path-to, plainAt}
+use Rattle.dtype.specs.Places.{dataBytes, place, Ask}
+use Rattle.dtype.proofs.Runs.{Belongs, runOf, run}
 use Rattle.dtype.proofs.Items.{range-true}
 use Rattle.dtype.proofs.Paths.{path-plain}
 use Rattle.dtype.proofs.Places.{run-inside, owned, owned-once}
 use Rattle.check_record.specs.Checked.{checkedRecord}
 use Rattle.place_area.specs.declared.Run.{Run}
 use Rattle.place.specs.Place.{runFrom, placed, placeOf}
-use Rattle.place.specs.Demand.{Named-by, Demand-3, Demanded}
+use Rattle.place.specs.Demand.{Named-by, Demand-3}
 use Rattle.place_item.proofs.Sums.{range-of}
 use Rattle.place.proofs.Walks.{path-or-none, plain-path}
 use Rattle.place.proofs.Placing.{place-given}
+
+-- the demand: of every caller's record that is accepted, without an `O`, and every file that holds its data
+abbrev pub Demanded : Type 0
+Demanded =
+    (file start : ℕ) (t ns s : List ℕ) (o : Order) (r : Record) → checkedRecord t ns s o ≡ gives r → hasObject (r .dtype) ≡ false
+    → start + dataBytes r ≤ file → Demand-3 file start t ns s o r
 
 module _ (file start : ℕ) (t ns s : List ℕ) (o : Order) (r : Record) (h : checkedRecord t ns s o ≡ gives r) (n : hasObject (r .dtype) ≡ false)
     (l : start + dataBytes r ≤ file) where

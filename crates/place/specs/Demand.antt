@@ -4,16 +4,13 @@
 -- it of every record that the check accepts, without an `O`, in a file that is long enough.
 use Prim.Native.Nat.{ℕ, _+_, _<_, _≤_}
 use mathlib.Core.Path.{_≡_}
-use mathlib.Core.Bool.{false}
 use mathlib.Core.List.{List}
 use Rattle.counts.specs.Outcome.{gives, refused}
 use Rattle.dtype.specs.declared.Order.{Order}
-use Rattle.dtype.specs.Entries.{hasObject}
 use Rattle.dtype.specs.Shape.{In-range}
 use Rattle.dtype.specs.Record.{Record}
 use Rattle.dtype.specs.Paths.{Path-to}
 use Rattle.dtype.specs.Places.{dataBytes, Ask}
-use Rattle.check_record.specs.Checked.{checkedRecord}
 use Rattle.place_area.specs.declared.Run.{Run}
 use Rattle.place.specs.Place.{placeOf}
 
@@ -34,9 +31,3 @@ pub record Demand-3 (file start : ℕ) (t ns s : List ℕ) (o : Order) (r : Reco
   pub each-byte : (b : ℕ) → b < dataBytes r → (a : Ask) × Named-by file start t ns s o (start + b) a
   -- and only once
   pub once : (b : ℕ) (a a′ : Ask) → Named-by file start t ns s o b a → Named-by file start t ns s o b a′ → a ≡ a′
-
--- the demand: of every caller's record that is accepted, without an `O`, and every file that holds its data
-abbrev pub Demanded : Type 0
-Demanded =
-    (file start : ℕ) (t ns s : List ℕ) (o : Order) (r : Record) → checkedRecord t ns s o ≡ gives r → hasObject (r .dtype) ≡ false
-    → start + dataBytes r ≤ file → Demand-3 file start t ns s o r

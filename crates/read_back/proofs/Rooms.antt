@@ -5,7 +5,7 @@ use mathlib.Core.Path.{_≡_, refl, ap}
 use mathlib.Core.List.{List, []}
 use lib.ListN.{length, take, drop}
 use lib.Seq.{take-append-seam}
-use Rattle.counts.specs.Outcome.{Outcome, gives, refused, each}
+use Rattle.counts.specs.Outcome.{Outcome, gives, refused, each, afterwards}
 use Rattle.dtype.specs.Flat.{entry-width}
 use Rattle.dtype.specs.Entries.{entriesOf}
 use Rattle.dtype.specs.Names.{nameBytes}
@@ -65,7 +65,7 @@ stands-by r l l′ info p q = rw (p, q) (holding-stands r l)
 pub read-found : (file : List ℕ) (l : Lent) (h : Header) (l′ : Lent) → Reads file l (HeaderRead.Read h) l′ → Found file l h l′
 read-found file l h l′ x = go (header.headerInto reading file l) refl (x .answered) (x .after)
   where
-    go : (o : Outcome header.Header) → header.headerInto reading file l ≡ o → gives (headerIs h) ≡ each headerInfo o → l′ ≡ header.filled o l → Found file l h l′
+    go : (o : Outcome header.Header) → header.headerInto reading file l ≡ o → gives (headerIs h) ≡ each headerInfo o → l′ ≡ afterwards header.holdingHeader o l → Found file l h l′
     go (gives k) e a b =
         let same : headerIs h ≡ headerInfo k = cc in
         record {
