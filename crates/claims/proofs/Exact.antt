@@ -4,12 +4,12 @@
 use Prim.Native.Nat.{ℕ, _+_, _≤_}
 use mathlib.Core.Path.{_≡_, refl, sym, ap, subst, _∙_}
 use mathlib.Core.Bool.{false, not}
-use mathlib.Core.List.{List, _++_}
+use mathlib.Core.List.{List}
 use lib.Dec.{ltb}
-use lib.ListN.{length, drop}
+use lib.ListN.{length}
 use borrow.Author.Tests.{le-ltb, ltb-false, not-false}
 use Rattle.refusal.specs.Answers.{bytesAnswer}
-use Rattle.counts.specs.Outcome.{Outcome, gives, then, each}
+use Rattle.counts.specs.Outcome.{Outcome, gives, then, each, afterwards}
 use Rattle.counts.specs.Front.{atFront}
 use Rattle.counts.proofs.Apart.{refused-gives}
 use Rattle.counts.proofs.Holds.{unless-back, then-back, each-back}
@@ -33,7 +33,7 @@ use Rattle.record.specs.FromValue.{recordOf}
 use Rattle.record.specs.Rooms.{needs, tooSmall, Lent, roomsOf, holding}
 use Rattle.record.specs.Header as header
 use Rattle.record.specs.File.{textLength, fileOf, headerLength}
-use Rattle.record.specs.Writing.{tooDeep, writing, placed, roomAfter}
+use Rattle.record.specs.Writing.{tooDeep, writing}
 use Rattle.record.proofs.Files.{record-in-by, header-by}
 use Rattle.record.proofs.RoundTrips.{file-whole}
 use Rattle.check_record.specs.Checked.{checkedRecord}
@@ -44,7 +44,7 @@ use Rattle.header.specs.declared.Header.{Header}
 use Rattle.header.specs.declared.HeaderRead.{HeaderRead}
 use Rattle.header.specs.Reads.{HeaderInfo, headerInfo, headerIs, answer, Reads}
 use Rattle.refusal.specs.declared.BytesAnswer.{BytesAnswer}
-use Rattle.write.specs.Writes.{headerWritten, roomOf, headerPlaced, WritesHeader}
+use Rattle.write.specs.Writes.{headerWritten, WritesHeader}
 use Rattle.write.proofs.Outcomes.{write-header-one}
 use Rattle.place_area.specs.declared.Run.{Run}
 use Rattle.place.specs.declared.Placed.{Placed}
@@ -52,7 +52,8 @@ use Rattle.place.specs.Answer as places
 use Rattle.place.specs.Place as place
 use Rattle.place.proofs.Placing.{place-given}
 use Rattle.place.proofs.Outcomes.{place-one}
-use Rattle.string_value.specs.Rooms.{roomed, after, Owes}
+use Rattle.counts.specs.Owes.{roomed, Owes}
+use Rattle.counts.proofs.Owes.{owes-same, roomed-whole}
 use Rattle.element.specs.Bytes.{runBytes}
 use Rattle.element.proofs.Typed.{bytes-after, points-after}
 use Rattle.claims.specs.Exact.{Says, Read-as, Reads-exactly, Writable, Writes-exactly, Named, Places-exactly, Element, Takes-exactly, Exact}
@@ -92,7 +93,7 @@ module _ (file : List ℕ) (l : Lent) where
 
   said-by : (h : header.Header) → header.headerInto reading file l ≡ gives h
       → (p : Prefix) × (r : Record) × Says file p r × (tooSmall (roomsOf l) (needs r) ≡ false)
-  unfolding header.headerBy header.recordIn header.stored
+  unfolding header.recordIn header.stored
   said-by h e =
       let (p, begins, behind) = then-back (prefix file) _ h e in
       let (text, whole, of-text) = then-back (textOf p file) _ h behind in
@@ -114,7 +115,7 @@ module _ (file : List ℕ) (l : Lent) where
   reads-exactly : (x : HeaderRead) (l′ : Lent) → Reads file l x l′ → Reads-exactly file l x l′
   reads-exactly x l′ h =
       let accepts : (p : Prefix) (r : Record) → Says file p r → tooSmall (roomsOf l) (needs r) ≡ false → Read-as p r l x l′ =
-      λ p r s fits. read-as p r x l′ (h .answered ∙ ap (each headerInfo) (given p r s fits)) (h .after ∙ ap (λ (y : Outcome header.Header). header.filled y l) (given p r s fits)) in
+      λ p r s fits. read-as p r x l′ (h .answered ∙ ap (each headerInfo) (given p r s fits)) (h .after ∙ ap (λ (y : Outcome header.Header). afterwards header.holdingHeader y l) (given p r s fits)) in
       record {
         all = accepts;
         only = λ f e.
@@ -125,31 +126,25 @@ module _ (file : List ℕ) (l : Lent) where
 
 -- ---- writing
 module _ (t ns s : List ℕ) (o : Order) (room : List ℕ) where
-  writes : (r : Record) → Writable t ns s o room r → writing r room ≡ gives (headerLength r)
+  writes : (r : Record) → Writable t ns s o room r → writing r room ≡ gives (fileOf r)
   unfolding writing
-  writes r w = rw (writing, valid-limits t ns s o r (w .accepted), w .shallow, le-ltb _ _ (w .short), le-ltb _ _ (w .fits))
-
-  room-holds : (r : Record) → writing r room ≡ gives (headerLength r) → atFront (fileOf r) room ≡ roomAfter r room
-  room-holds r e = ap (λ (k : ℕ). fileOf r ++ drop k room) (file-whole r) ∙ sym (ap (λ (y : Outcome ℕ). placed y r room) e)
+  writes r w = let len = file-whole r in rw (writing, valid-limits t ns s o r (w .accepted), w .shallow, le-ltb _ _ (w .short)) (roomed-whole 28 room (fileOf r) (rw len (w .fits)))
 
   writes-so : (r : Record) → Writable t ns s o room r → WritesHeader t ns s o room (BytesAnswer.Is (record { 0 = headerLength r })) (atFront (fileOf r) room)
-  unfolding headerWritten headerPlaced
+  unfolding headerWritten
   writes-so r w =
-      let e = writes r w in
-      record {
-        answered = sym (ap (λ (y : Outcome Record). then y (λ r. writing r room)) (w .accepted) ∙ e);
-        room-after = room-holds r e ∙ sym (ap (λ (y : Outcome Record). roomOf y room) (w .accepted));
-      }
+      owes-same _ _ room _ _ (sym (ap (λ (y : Outcome Record). then y (λ r. writing r room)) (w .accepted) ∙ writes r w))
+      (record { answered = ap gives (sym (file-whole r)); room-after = refl })
 
-  writable-by : (n : ℕ) → headerWritten t ns s o room ≡ gives n → (r : Record) × Writable t ns s o room r
-  unfolding headerWritten writing
-  writable-by n e =
-      let (r, accepted, of-record) = then-back (checkedRecord t ns s o) _ n e in
-      let (_, _, behind) = then-back (limited r) _ n of-record in
-      let (shallow, short) = unless-back (tooDeep r) 7 _ n behind in
-      let (few, room-asked) = unless-back (ltb most-text (textLength r)) 4 _ n short in
-      let (fits, _) = unless-back (ltb (length room) (headerLength r)) 28 _ n room-asked in
-      (r, record { accepted = accepted; shallow = shallow; short = ltb-false _ _ few; fits = ltb-false _ _ fits })
+  writable-by : (bytes : List ℕ) → headerWritten t ns s o room ≡ gives bytes → (r : Record) × Writable t ns s o room r
+  unfolding headerWritten writing roomed
+  writable-by bytes e =
+      let (r, accepted, of-record) = then-back (checkedRecord t ns s o) _ bytes e in
+      let (_, _, behind) = then-back (limited r) _ bytes of-record in
+      let (shallow, short) = unless-back (tooDeep r) 7 _ bytes behind in
+      let (few, room-asked) = unless-back (ltb most-text (textLength r)) 4 _ bytes short in
+      let (fits, _) = unless-back (ltb (length room) (length (fileOf r))) 28 _ bytes room-asked in
+      (r, record { accepted = accepted; shallow = shallow; short = ltb-false _ _ few; fits = subst (λ (k : ℕ). k ≤ length room) (file-whole r) (ltb-false _ _ fits) })
 
   writes-exactly : (w : BytesAnswer) (room′ : List ℕ) → WritesHeader t ns s o room w room′ → Writes-exactly t ns s o room w room′
   writes-exactly w room′ h =
@@ -157,7 +152,9 @@ module _ (t ns s : List ℕ) (o : Order) (room : List ℕ) where
         all = λ r x.
             let same = write-header-one t ns s o room (w, room′) (BytesAnswer.Is (record { 0 = headerLength r }), atFront (fileOf r) room) h (writes-so r x) in
             (ap (λ (y : BytesAnswer × List ℕ). y .0) same, ap (λ (y : BytesAnswer × List ℕ). y .1) same);
-        only = λ n e. writable-by n (sym (h .answered) ∙ ap bytesAnswer e);
+        only = λ n e.
+            let (bytes, is, _) = each-back length (headerWritten t ns s o room) n (sym (h .answered) ∙ ap bytesAnswer e) in
+            writable-by bytes is;
       }
 
 -- ---- places
@@ -217,7 +214,7 @@ module _ (within : TypeStr → List ℕ → Outcome (List ℕ)) (at : Outcome Ru
       record {
         all = λ content e.
             let given-is = is ∙ put-given content e in
-            (h .answered ∙ ap (each length) given-is, h .room-after ∙ ap (after room) given-is);
+            (h .answered ∙ ap (each length) given-is, h .room-after ∙ ap (λ (y : Outcome (List ℕ)). afterwards atFront y room) given-is);
         only = λ n e.
             let (content, given-is, _) = each-back length whole n (sym (h .answered) ∙ e) in
             (content, element-by content (sym is ∙ given-is));

@@ -8,34 +8,34 @@ use mathlib.Core.List.{List}
 use lib.ListN.{length, take}
 use lib.Seq.{length-take-le}
 use borrow.Author.Tests.{lt-ltb, le-ltb}
-use Rattle.counts.specs.Outcome.{Outcome, gives, refused, then, each}
+use Rattle.counts.specs.Outcome.{Outcome, gives, refused, then, each, afterwards}
 use Rattle.counts.proofs.Holds.{Holds, holds-each, then-alike-held}
-use Rattle.record.specs.Prefix.{Prefix, dataStart, prefix, textOf}
+use Rattle.record.specs.Prefix.{Prefix, dataStart, prefix, textOf, textHeld}
 use Rattle.record.specs.Rooms.{Lent, roomsOf}
 use Rattle.record.specs.Header as header
 use Rattle.record.proofs.Fronts.{prefix-front, front-enough}
 use Rattle.judge.specs.Judged.{reading}
-use Rattle.header.specs.Reads.{headerInfo, textHeld, afterPrefix, heldInto}
+use Rattle.header.specs.Reads.{headerInfo, afterPrefix, heldInto}
 use Rattle.claims.specs.Held.{Held-enough}
 use Rattle.claims.proofs.RoundTrips.{refused-by}
 
 -- a part whose header ends within it
 module _ (part : List ℕ) (l : Lent) where
   text-same : (p : Prefix) → dataStart p ≤ length part → textHeld true p part ≡ textOf p part
-  unfolding textOf
-  text-same p h = rw (textOf, le-ltb (length part) (dataStart p) h)
+  unfolding textHeld
+  text-same p h = rw (textHeld, le-ltb (length part) (dataStart p) h)
 
   held-same : Holds (λ p. dataStart p ≤ length part) (prefix part) → heldInto true part l ≡ header.headerInto reading part l
-  unfolding header.headerBy
   held-same h =
       then-alike-held (λ p. dataStart p ≤ length part) (prefix part) (λ p. afterPrefix true part p l)
       (λ p. then (textOf p part) (λ s. then (header.recordIn reading s) (header.stored (roomsOf l) p))) h
       (λ p e. ap (λ t. then t (λ s. then (header.recordIn reading s) (header.stored (roomsOf l) p))) (text-same p e))
 
   held-past : (p : Prefix) → prefix part ≡ gives p → length part < dataStart p → heldInto true part l ≡ refused 23
+  unfolding textHeld
   held-past p e h =
       ap (λ (o : Outcome Prefix). then o (λ q. afterPrefix true part q l)) e
-      ∙ rw (lt-ltb (length part) (dataStart p) h)
+      ∙ rw (textHeld, lt-ltb (length part) (dataStart p) h)
 
 module _ (k : ℕ) (file : List ℕ) (twelve : 12 ≤ k) (longer : k < length file) where
   held-length : length (take k file) ≡ k
@@ -57,9 +57,9 @@ held-enough k file l l′ x twelve longer h =
       within =
           λ ends.
           let same = front-within k file twelve longer ends l in
-          record { answered = h .answered ∙ ap (each headerInfo) same; after = h .after ∙ ap (λ (o : Outcome header.Header). header.filled o l) same };
+          record { answered = h .answered ∙ ap (each headerInfo) same; after = h .after ∙ ap (λ (o : Outcome header.Header). afterwards header.holdingHeader o l) same };
       past =
           λ p e ends.
           let same = front-past k file twelve longer p e ends l in
-          (refused-by x (h .answered ∙ ap (each headerInfo) same), h .after ∙ ap (λ (o : Outcome header.Header). header.filled o l) same);
+          (refused-by x (h .answered ∙ ap (each headerInfo) same), h .after ∙ ap (λ (o : Outcome header.Header). afterwards header.holdingHeader o l) same);
     }

@@ -25,7 +25,8 @@ use Rattle.header.specs.Reads.{Reads, ReadsHeld, ReadsText}
 use Rattle.write.specs.Writes.{WritesHeader}
 use Rattle.list_record.specs.Answer as listing
 use Rattle.list_file.specs.Report as report
-use Rattle.string_value.specs.Rooms.{readBytes, readPoints, writeBytes, writePoints, Owes}
+use Rattle.counts.specs.Owes.{Owes}
+use Rattle.string_value.specs.Rooms.{readBytes, readPoints, writeBytes, writePoints}
 use Rattle.element.specs.Element.{elementBytes, elementPoints}
 
 -- the three rooms of a reader, beyond the entries, name bytes and dimensions that it stored

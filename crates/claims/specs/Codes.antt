@@ -71,9 +71,9 @@ pub record Zero-answers : Type 0 where
   pub npy-check : (t ns s : List ℕ) (order : ℕ) (said : List ℕ)
       → CodedTells summaryValues (then (orderFor order) (λ o. each summary (checkedRecord t ns s o))) said
   pub npy-write-header : (t ns s : List ℕ) (order : ℕ) (room count : List ℕ)
-      → CodedBeside alone (then (orderFor order) (λ o. headerWritten t ns s o room)) (Writes t ns s order room count) room count
+      → CodedPuts (then (orderFor order) (λ o. headerWritten t ns s o room)) room count
   pub npy-list : (version start : ℕ) (t ns s : List ℕ) (order : ℕ) (room count : List ℕ)
-      → CodedBeside alone (then (versionOf version 0) (λ v. then (orderFor order) (λ o. listed v start t ns s o room))) (Lists version start t ns s order room count) room count
+      → CodedPuts (then (versionOf version 0) (λ v. then (orderFor order) (λ o. listed v start t ns s o room))) room count
   pub npy-count : (s : List ℕ) (order : ℕ) (count : List ℕ) → CodedTells alone (then (orderFor order) (λ o. itemCount o s)) count
   pub npy-strides : (s : List ℕ) (order : ℕ) (room count : List ℕ)
       → CodedBeside alone (then (orderFor order) (λ o. stridesCount o s (length room))) (Strides s order room count) room count
@@ -92,7 +92,7 @@ pub record Zero-answers : Type 0 where
       → CodedPuts (then (typeFor order letter size units) (λ t. writePoints t value room)) room count
   pub npy-type-read : (text said : List ℕ) → CodedTells typeValues (typeString text) said
   pub npy-type-print : (order letter size units : ℕ) (room count : List ℕ)
-      → CodedBeside alone (then (typeFor order letter size units) (λ t. typePrinted t room)) (Prints order letter size units room count) room count
+      → CodedPuts (then (typeFor order letter size units) (λ t. typePrinted t room)) room count
 
 -- "room beyond what was needed is left as it was": if the count holds n afterwards, the room after the first n is unchanged
 abbrev pub SparesBy : (contract : ℕ → List ℕ → List ℕ → Type 0) → (room : List ℕ) → Type 0

@@ -38,7 +38,7 @@ use Rattle.place.specs.declared.Placed.{Placed}
 use Rattle.place.specs.Answer.{answer}
 use Rattle.place.specs.Place.{runFrom, placeOf}
 use Rattle.string_value.specs.Elements.{kindOf, bytesIn, pointsIn}
-use Rattle.string_value.specs.Rooms.{Owes}
+use Rattle.counts.specs.Owes.{Owes}
 use Rattle.refusal.specs.declared.PointsAnswer.{PointsAnswer}
 use Rattle.element.specs.Bytes.{runBytes}
 use Rattle.element.specs.Element.{elementBytes, elementPoints}

@@ -18,7 +18,8 @@ use Rattle.header.specs.Reads as header
 use Rattle.write.specs.Writes.{WritesHeader}
 use Rattle.list_record.specs.Answer as listing
 use Rattle.list_file.specs.Report as report
-use Rattle.string_value.specs.Rooms.{readBytes, readPoints, writeBytes, writePoints, Owes}
+use Rattle.counts.specs.Owes.{Owes}
+use Rattle.string_value.specs.Rooms.{readBytes, readPoints, writeBytes, writePoints}
 use Rattle.element.specs.Element.{elementBytes, elementPoints}
 
 -- of a function with this contract, from its result and the memory afterwards: if `answer` says that the result is a refusal, the memory is as it was before
