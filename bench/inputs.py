@@ -8,10 +8,10 @@
     deep        15 records one in the other, each with a sub-shape of 32 dimensions: the most that brackets, dimensions and entries allow, for the stack
     braces      a key that is ignored, with dicts one in the other, as deep as 32 brackets allow, for the stack
     flat        as many fields as a record may have, less one, each with a name of some 120 bytes, in a text that is set line by line
-    escaped     the same with names of quotes, each behind its backslash
+    escaped     the same with names of quotes, each after its backslash
     nested      records in records, as deep as 32 brackets allow, most of the text in the innermost, one of whose fields has a sub-shape
     shapes      fields with sub-shapes of 32 dimensions of 20 digits, each on a line of its own
-    wide        one field with a sub-shape of thousands of dimensions, which 13 refuses behind the whole descr
+    wide        one field with a sub-shape of thousands of dimensions, which 13 refuses after the whole descr
 
 The last five are texts of 65,536 bytes (flat64 ..) and of 131,072 (flat128 ..): the same with twice as many fields or members. What is missing to the length is blanks.
 """
@@ -27,7 +27,7 @@ def header(descr, shape='(10, 100)'):
 
 
 def file_of(text, length):
-    """A file whose text has that many bytes: blanks and a line's end behind it."""
+    """A file whose text has that many bytes: blanks and a line's end after it."""
     text = text.encode()
     assert len(text) < length, (len(text), length)
     text += b' ' * (length - 1 - len(text)) + b'\n'

@@ -2,7 +2,7 @@
 //!
 //!     npyz FOLDER         lines `npyz WHAT INPUT NUMBER`: the median of nanoseconds for one call; or `npyz WHAT INPUT refuses`
 //!
-//! Reading is `NpyHeader::from_reader` of the file's bytes, and writing the header alone of the record that was read. The literal is parsed by what stands in for the crate
+//! Reading is `NpyHeader::from_reader` of the file's bytes, and writing the header alone of the record that was read. The literal is parsed by what takes the place of the crate
 //! py_literal (tests/npyz/py_literal.rs), which is ours. Time is the thread's own on the processor.
 use npyz::{NpyHeader, WriteOptions, WriterBuilder};
 use std::hint::black_box;

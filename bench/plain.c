@@ -9,13 +9,13 @@
 enum { MOST_TEXT = 131072, MOST_OPEN = 32, MOST_DIMENSIONS = 32, MOST_ENTRIES = 512, MOST_NAMES = 65536, ENTRY = 9 };
 enum { PLAIN, ARRAY, RECORD };
 
-// A string of the text: what stands between its quotes, and how many bytes it stands for.
+// A string of the text: what is between its quotes, and how many bytes that is decoded.
 struct string {
     const uint8_t *from, *to;
     size_t length;
 };
 
-// A plain type or a record, and what its field says of it: its name and its sub-shape, whose dimensions stand in `dims` from `first` on. A node makes an entry of the table for
+// A plain type or a record, and what its field says of it: its name and its sub-shape, whose dimensions are in `dims` from `first` on. A node makes an entry of the table for
 // each dimension and then one of its own. `bytes` and `extent` (how many entries) are without the sub-shape.
 struct node {
     uint64_t number, bytes;
@@ -96,7 +96,7 @@ static inline const uint8_t *blanks(const struct reader *r, const uint8_t *p)
     return p;
 }
 
-static inline bool stands(const struct reader *r, const uint8_t *p, uint8_t byte)
+static inline bool is_at(const struct reader *r, const uint8_t *p, uint8_t byte)
 {
     return p < r->end && *p == byte;
 }
@@ -109,24 +109,24 @@ static inline bool is_quote(const struct reader *r, const uint8_t *p)
 // The bracket that closes a list or a tuple; 0 where neither begins.
 static inline uint8_t closing(const struct reader *r, const uint8_t *p)
 {
-    return stands(r, p, '[') ? ']' : stands(r, p, '(') ? ')' : 0;
+    return is_at(r, p, '[') ? ']' : is_at(r, p, '(') ? ')' : 0;
 }
 
-// Behind an opening bracket or a comma, at p: the next item, or what follows where the bracket closes.
+// After an opening bracket or a comma, at p: the next item, or what follows where the bracket closes.
 static inline const uint8_t *enter(const struct reader *r, const uint8_t *p, uint8_t close, bool *item)
 {
     p = blanks(r, p + 1);
-    *item = !stands(r, p, close);
+    *item = !is_at(r, p, close);
     return *item ? p : p + 1;
 }
 
-// The same behind an item. A tuple may not close behind its only item.
+// The same after an item. A tuple may not close after its only item.
 static inline const uint8_t *follow(struct reader *r, const uint8_t *p, uint8_t close, bool may_close, bool *item)
 {
     p = blanks(r, p);
-    if (stands(r, p, ','))
+    if (is_at(r, p, ','))
         return enter(r, p, close, item);
-    if (!stands(r, p, close) || !may_close)
+    if (!is_at(r, p, close) || !may_close)
         return faulted(r, 6);
     *item = false;
     return p + 1;
@@ -194,7 +194,7 @@ static const uint8_t *value(struct reader *r, const uint8_t *p, unsigned open);
 static const uint8_t *colon(struct reader *r, const uint8_t *p)
 {
     p = blanks(r, p);
-    return stands(r, p, ':') ? blanks(r, p + 1) : faulted(r, 6);
+    return is_at(r, p, ':') ? blanks(r, p + 1) : faulted(r, 6);
 }
 
 static const uint8_t *dict(struct reader *r, const uint8_t *p, unsigned open)
@@ -247,7 +247,7 @@ static const uint8_t *value(struct reader *r, const uint8_t *p, unsigned open)
     }
 }
 
-// The record. What is judged goes to `bad`: 0, or the first refusal that applies; a literal's fault behind it still counts, and so the text is read to its end.
+// The record. What is judged goes to `bad`: 0, or the first refusal that applies; a literal's fault after it still counts, and so the text is read to its end.
 
 // A dimension. `bad` becomes 11 or 12.
 static const uint8_t *dimension(struct reader *r, const uint8_t *p, unsigned open, uint64_t *n, uint8_t *bad)
@@ -259,7 +259,7 @@ static const uint8_t *dimension(struct reader *r, const uint8_t *p, unsigned ope
             *bad = 12;
         return p;
     }
-    if (!(stands(r, p, '-') && stands(r, p + 1, '0')))
+    if (!(is_at(r, p, '-') && is_at(r, p + 1, '0')))
         *bad = 11;
     *n = 0;
     return value(r, p, open);
@@ -379,7 +379,7 @@ struct size {
 
 static const uint8_t *field(struct reader *r, const uint8_t *p, unsigned open, size_t parent, struct size *size, uint8_t *bad);
 
-// A type string or a list of fields, as a node behind those there are.
+// A type string or a list of fields, as a node after those there are.
 static const uint8_t *descr(struct reader *r, const uint8_t *p, unsigned open, size_t parent, struct size *size, uint8_t *bad)
 {
     size_t number = r->nodes_used;
@@ -403,7 +403,7 @@ static const uint8_t *descr(struct reader *r, const uint8_t *p, unsigned open, s
         t->kind = PLAIN;
         r->object |= t->letter == 'O';
         size->bytes = t->letter == 'U' ? held_product(r, 4, t->number) : t->number;
-    } else if (stands(r, p, '[')) {
+    } else if (is_at(r, p, '[')) {
         bool item;
         uint64_t n = 0;
         if (open == MOST_OPEN)
@@ -487,8 +487,8 @@ static const uint8_t *keyed(struct reader *r, const uint8_t *p, struct string ke
     size_t length = (size_t)(key.to - key.from);
     if (length == 13 && memcmp(key.from, "fortran_order", 13) == 0) {
         r->has_order = true;
-        r->bad_order = stands(r, p, 'T') || stands(r, p, 'F') ? 0 : 10;
-        r->order = stands(r, p, 'T');
+        r->bad_order = is_at(r, p, 'T') || is_at(r, p, 'F') ? 0 : 10;
+        r->order = is_at(r, p, 'T');
     } else if (length == 5 && memcmp(key.from, "shape", 5) == 0) {
         r->has_shape = true;
         r->bad_shape = 0;
@@ -509,7 +509,7 @@ static uint8_t read_text(struct reader *r, const uint8_t *p)
 {
     bool item, strings = true;
     p = blanks(r, p);
-    if (!stands(r, p, '{')) {
+    if (!is_at(r, p, '{')) {
         strings = false;
         p = value(r, p, 0);
     } else {

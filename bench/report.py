@@ -3,7 +3,7 @@
 
     bench/report.py LINES FILE         LINES has lines `WHO WHAT INPUT NUMBER`, as bench/run gathers them
 
-Prints each goal with what was measured; exit status 1 where one is missed. What stands in FILE between the two marks of `KEPT` is kept as it is.
+Prints each goal with what was measured; exit status 1 where one is missed. What FILE has between the two marks of `KEPT` is kept as it is.
 """
 import collections
 import datetime
@@ -100,10 +100,10 @@ Written by `bench/run` on {when}, all in one run on one machine: {machine()}. Th
 rustc {tool['rustc']} in its release profile; NumPy is {tool['numpy']} on Python {tool['python']}.
 
 A number is the median of 41 samples of some 2 ms (NumPy: 21), in time of the thread itself on the processor. Ours and the C reader are called in turns in one process, and their ratio is the median of the pairs' ratios; so it is for a text and the one of twice its length.
-They gave the same answer and the same rooms for each input. The inputs are made by `bench/inputs.py`; `64` and `128` are texts of 65,536 and 131,072 bytes. `–` stands where a program does not do that.
+They gave the same answer and the same rooms for each input. The inputs are made by `bench/inputs.py`; `64` and `128` are texts of 65,536 and 131,072 bytes. `–` is where a program does not do that.
 
-The C reader (`bench/plain.c`) reads the text once for UTF-8 and once for everything else; `bench/check-plain` holds it against the recorded answers. npyz hands the literal to a crate that is not among its sources: here its literal is read by our stand-in
-(`tests/npyz/py_literal.rs`), and what npyz takes with the other is not known. `refuses` stands where npyz or NumPy refuses the input, or panics.
+The C reader (`bench/plain.c`) reads the text once for UTF-8 and once for everything else; `bench/check-plain` holds it against the recorded answers. npyz hands the literal to a crate that is not among its sources: here its literal is read by our own
+(`tests/npyz/py_literal.rs`), and what npyz takes with the other is not known. `refuses` is where npyz or NumPy refuses the input, or panics.
 
 ## Goals
 '''

@@ -3,7 +3,7 @@
 //     times FOLDER         the files of bench/inputs.py, named in FOLDER/names.txt
 //
 // Writes lines `WHO WHAT INPUT NUMBER`: the median of nanoseconds for one call (`ours`, `plain`), the median of the pairs' ratios (`ratio`), that of an input of 128 KiB to the one of
-// 64 KiB, which stands before it (`doubled`), bytes of stack (`stack`), or what was found (`bytes`, `entries`, `refused`). Time is the thread's own on the processor. The two readers must give the same answer and the same rooms, or the exit status is 1.
+// 64 KiB, which is before it (`doubled`), bytes of stack (`stack`), or what was found (`bytes`, `entries`, `refused`). Time is the thread's own on the processor. The two readers must give the same answer and the same rooms, or the exit status is 1.
 #define _GNU_SOURCE
 #include "../include/npy.h"
 #include "plain.h"

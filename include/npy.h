@@ -127,8 +127,8 @@ extern "C" {
 uint8_t npy_read(const uint8_t *file, size_t file_len, uint64_t *table, size_t table_len, uint8_t *names, size_t names_len,
                  uint64_t *shape, size_t shape_len, uint64_t said[NPY_READ_SAID]);
 
-/* The same of a file whose first bytes are held, at least 12 of them or the whole file, and which is longer or is not: of a longer file 23, right after 4, where its
- * header ends past them. */
+/* The same of a file whose first bytes are held, and which is longer or is not: of a longer file 23, right after 4, where its header ends past them. Where fewer are held
+ * than the prefix has (10 for version 1, 12 for the others), 1, 2 or 3, as if the file ended there, whether or not it is longer. */
 uint8_t npy_read_held(const uint8_t *file, size_t file_len, bool longer, uint64_t *table, size_t table_len, uint8_t *names, size_t names_len,
                       uint64_t *shape, size_t shape_len, uint64_t said[NPY_READ_SAID]);
 

@@ -2,7 +2,7 @@
 """Makes the vectors of crate utf8: `make_utf8.py` writes crates/run_utf8/stdin and crates/run_utf8/stdout.
 
 The answers are CPython's: UnicodeDecodeError.start of the strict UTF-8 decoder, or ok. Each is checked against the definition itself: the first
-place such that what stands before it decodes and no scalar value's encoding begins there. A case is framed by its length, four bytes little-endian.
+place such that what is before it decodes and no scalar value's encoding begins there. A case is framed by its length, four bytes little-endian.
 """
 import itertools
 import os
@@ -50,7 +50,7 @@ def short_cases():
 
 
 def long_cases():
-    """Pieces in a row, with and without a fault, cut at every byte; and long texts whose only fault or only high byte stands at one end."""
+    """Pieces in a row, with and without a fault, cut at every byte; and long texts whose only fault or only high byte is at one end."""
     chance = random.Random(5)
     for _ in range(2000):
         row = [chance.choice(PIECES) for _ in range(chance.randrange(12))]

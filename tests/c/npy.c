@@ -1,5 +1,5 @@
 // Replays the cases of crates/run_npy through the C interface (docs/FRAMES.md): a frame of 4 bytes of length and a case, one line a case, as the program of that crate writes it. Every
-// part that is read stands in memory of its own size, so that a look past its end can be seen; of what is lent the number behind the room is looked at too, and a line ends in ` beyond` where it changed.
+// part that is read is in memory of its own size, so that a look past its end can be seen; the number after each lent room is looked at too, and a line ends in ` beyond` where it changed.
 #include "../../include/npy.h"
 
 #include <inttypes.h>
@@ -29,7 +29,7 @@ static size_t least(uint64_t n, size_t most)
     return n < most ? (size_t)n : most;
 }
 
-// The parts of a case, each as bytes and as numbers: the first byte says in how many bytes each number stands.
+// The parts of a case, each as bytes and as numbers: the first byte says how many bytes each number has.
 static void take_parts(const uint8_t *p, const uint8_t *end)
 {
     for (int k = 0; k < 7; k++) {

@@ -39,7 +39,7 @@ static void fill_rooms(void)
     memset(names, 5, NPY_MOST_NAMES);
 }
 
-// Whether the rooms behind what was written are as they were.
+// Whether the rooms after what was written are as they were.
 static bool kept(size_t numbers, size_t bytes, size_t rank)
 {
     for (size_t i = numbers; i < NPY_ENTRY * NPY_MOST_ENTRIES; i++)

@@ -139,7 +139,7 @@ def table_of(found, parent=None, name=None, table=None):
 
 
 def record_of(value):
-    """The record that a value stands for: 8 to 22."""
+    """The record that a value gives: 8 to 22."""
     if not isinstance(value, automaton.Items) or not all(isinstance(key, bytes) for key, _ in value):
         refuse(8)
     # "of equal keys the last counts"

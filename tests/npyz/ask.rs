@@ -11,7 +11,7 @@
 //! [u8], [char], [u32], str, the value REST being bytes, 4 bytes a point, or UTF-8.
 //!
 //! A refusal is `refused` and document 01's number where npyz's error says the same; else `error` and npyz's text. A panic is `panic` and its text. What npyz had stored
-//! in the room before it failed is told: `refused 28, 10 stored`. Version and nothing else is read by this program itself: npyz does not tell it.
+//! in the room before it failed is printed: `refused 28, 10 stored`. Version and nothing else is read by this program itself: npyz does not say it.
 use npyz::{DType, Deserialize, Field, NpyHeader, Order, Serialize, TypeRead, TypeStr, TypeWrite, WriteOptions, WriterBuilder};
 use std::alloc::{GlobalAlloc, Layout, System};
 use std::any::Any;
@@ -73,7 +73,7 @@ const NUMBERS: [(&str, u8); 26] = [
     ("invalid type string: Invalid type-string", 15),
 ];
 
-/// The number of a text, or the text itself. The kinds of a type string's error are told by what their texts say.
+/// The number of a text, or the text itself. The kinds of a type string's error are known by what their texts say.
 fn refusal(text: impl ToString) -> String {
     let text = text.to_string();
     let number = NUMBERS.iter().find(|(begin, _)| text.starts_with(begin)).map(|(_, n)| *n).or_else(|| {

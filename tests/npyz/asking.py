@@ -1,4 +1,4 @@
-"""What the comparisons with npyz share: where the program of ask.rs stands, and the classes of difference."""
+"""What the comparisons with npyz share: where the program of ask.rs is, and the classes of difference."""
 import os
 import subprocess
 import sys
@@ -25,12 +25,12 @@ class Classes:
         self.found = {}
 
     def add(self, name, case, *answers):
-        count, least, told = self.found.get(name, (0, case, answers))
+        count, least, of_least = self.found.get(name, (0, case, answers))
         if (len(case), case) < (len(least), least):
-            least, told = case, answers
-        self.found[name] = (count + 1, least, told)
+            least, of_least = case, answers
+        self.found[name] = (count + 1, least, of_least)
 
     def show(self):
-        for name, (count, least, told) in sorted(self.found.items()):
+        for name, (count, least, of_least) in sorted(self.found.items()):
             shown = repr(least) if len(least) < 300 else f'{least[:60]!r} .. ({len(least)} bytes)'
-            print(f'{count:9} {name}\n          smallest {shown}\n          ' + ' | '.join(answer[:160] for answer in told))
+            print(f'{count:9} {name}\n          smallest {shown}\n          ' + ' | '.join(answer[:160] for answer in of_least))

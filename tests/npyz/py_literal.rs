@@ -1,4 +1,4 @@
-//! Stands in for the crate py_literal, to which npyz 0.9.1 hands a header's text and which is not part of npyz's sources: the values that npyz asks for, and a
+//! Takes the place of the crate py_literal, to which npyz 0.9.1 hands a header's text and which is not part of npyz's sources: the values that npyz asks for, and a
 //! parser of document 01's literal, written from its text. It is not py_literal's parser, so nothing is learned here of npyz about the faults 6 and 7.
 use num_bigint::BigInt;
 use std::fmt;
@@ -93,7 +93,7 @@ impl Text<'_> {
         }
     }
 
-    /// "no or more values parted by commas, optional last comma": the items, and whether a comma stands behind the last.
+    /// "no or more values parted by commas, optional last comma": the items, and whether a comma is after the last.
     fn items<T>(&mut self, close: u8, item: fn(&mut Self) -> Result<T, ParseError>) -> Result<(Vec<T>, bool), ParseError> {
         let (mut items, mut may_follow) = (vec![], true);
         self.at += 1;

@@ -89,7 +89,7 @@ def read_answer(case):
 
 
 def writes():
-    """The recorded cases of writing, the edges first, and behind them tables that no reading gives."""
+    """The recorded cases of writing, the edges first, and after them tables that no reading gives."""
     for *edge, _ in records.EDGES:
         yield write_case(*records.given(*edge))
     for length, room in ((65_525, 65_536), (65_525, 65_535), (65_526, 65_552), (65_526, 65_551)):
@@ -128,7 +128,7 @@ def write_case(table, names, shape, fortran, room):
 # ---- what run_npy alone is asked
 
 MOST = reader.MOST
-# Orders, and what stands in the place of one: "an order is 0 or 1".
+# Orders, and what is given in the place of one: "an order is 0 or 1".
 ORDERS = (0, 1, 2, 255, 256, 2 ** 32, 2 ** 32 + 1, MOST)
 
 

@@ -1,14 +1,14 @@
 """Document 01, "The literal", as an automaton with a stack: one byte at a time, a state, and a mark for each open bracket; no recursion, no tokens and no way
-back. It finds a fault at the byte for which there is no step, and so tells its exact place. The text is bytes, and UTF-8 (refusal 5 is judged before).
+back. It finds a fault at the byte for which there is no step, and so has its exact place. The text is bytes, and UTF-8 (refusal 5 is judged before).
 
 A state is
-    item      a value or the closing bracket may stand here: behind an opening bracket, and behind a comma
-    value     a value must stand here: at the beginning of the text, and behind a colon
-    after     behind a value
+    item      a value or the closing bracket may be here: after an opening bracket, and after a comma
+    value     a value must be here: at the beginning of the text, and after a colon
+    after     after a value
     minus zero digits      inside an integer
-    ' or " or '\\ or "\\     inside a string of that quote, and behind its backslash
+    ' or " or '\\ or "\\     inside a string of that quote, and after its backslash
     a beginning of True, False or None
-A mark is `[`, `(` (a tuple without a comma yet), `(,`, `{` (a dict whose next key stands, or is awaited) or `{:` (whose value stands, or is awaited).
+A mark is `[`, `(` (a tuple without a comma yet), `(,`, `{` (a dict whose next key is read, or is awaited) or `{:` (whose value is read, or is awaited).
 """
 BLANKS = frozenset(b' \t\n\r')
 WORDS = {'True': True, 'False': False, 'None': None}
@@ -16,7 +16,7 @@ STARTS = {word[:n] for word in WORDS for n in range(1, len(word))}
 ESCAPES = {ord('\\'): '\\', ord("'"): "'", ord('"'): '"', ord('n'): '\n', ord('r'): '\r', ord('t'): '\t'}
 OPEN = {'[': '[', '(': '(', '{': '{'}
 CLOSE = {'[': ']', '(': ')', '(,': ')', '{': '}', '{:': '}'}
-# behind a value: mark, byte -> the mark in its place (None: the bracket closes) and the next state
+# after a value: mark, byte -> the mark in its place (None: the bracket closes) and the next state
 AFTER = {
     ('[', ','): ('[', 'item'), ('[', ']'): (None, 'after'),
     ('(', ','): ('(,', 'item'),
@@ -28,7 +28,7 @@ START = ('value', ())
 
 
 def step(state, marks, byte, most=32):
-    """The state and marks behind one more byte, or 6, or 7 where it is a bracket that may stand here but would be one too many."""
+    """The state and marks after one more byte, or 6, or 7 where it is a bracket that may be here but would be one too many."""
     char = chr(byte)
     if state in ("'", '"'):
         return 6 if char in '\n\r' else ('after' if char == state else state + '\\' if char == '\\' else state), marks
@@ -51,7 +51,7 @@ def step(state, marks, byte, most=32):
         if char in STARTS or char in '\'"':
             return char, marks
         return 'minus' if char == '-' else 'zero' if char == '0' else 'digits' if char in '123456789' else 6, marks
-    # behind a value: `after`, and the integers, which end here
+    # after a value: `after`, and the integers, which end here
     new = AFTER.get((marks[-1], char)) if marks else None
     if new is None:
         return 6, marks
@@ -68,7 +68,7 @@ class Integer(str):
 
 
 class String(bytes):
-    """A string's decoded bytes; `raw` is what stands between its quotes."""
+    """A string's decoded bytes; `raw` is what is between its quotes."""
 
 
 class Items(list):

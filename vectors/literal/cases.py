@@ -141,7 +141,7 @@ def long_ones():
 
 
 def recorded():
-    """The gate's texts: those named in document 01 and the readings, all short ones over the structure, every byte in every place of some texts and behind a backslash, NumPy's, long and generated ones."""
+    """The gate's texts: those named in document 01 and the readings, all short ones over the structure, every byte in every place of some texts and after a backslash, NumPy's, long and generated ones."""
     rng = random.Random(12)
     texts = [text for text, _ in NAMED]
     texts += up_to(3, STRUCTURE)

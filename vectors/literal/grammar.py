@@ -6,7 +6,7 @@ Slow, and only for judging automaton.py.
 """
 from functools import lru_cache
 
-# one rule a line; a quoted part stands for its bytes, `/` parts the choices. `value` inside brackets is the value of the next depth
+# one rule a line; a quoted part is its bytes, `/` parts the choices. `value` inside brackets is the value of the next depth
 RULES = r"""
 text: gap value gap
 gap: / gap blank
@@ -100,7 +100,7 @@ class Earley:
         return (self.first,)
 
     def follow(self, places):
-        """The bytes that may stand next."""
+        """The bytes that may be next."""
         may = set()
         for name, body, dot, origin in places[-1][0]:
             if dot < len(body) and isinstance(body[dot], frozenset):
@@ -108,7 +108,7 @@ class Earley:
         return may
 
     def step(self, places, byte):
-        """The places with one more, or None where the byte may not stand there."""
+        """The places with one more, or None where the byte may not be there."""
         items = [(name, body, dot + 1, origin) for name, body, dot, origin in places[-1][0]
                  if dot < len(body) and isinstance(body[dot], frozenset) and byte in body[dot]]
         return places + (self.close(items, places),) if items else None

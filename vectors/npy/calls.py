@@ -21,7 +21,7 @@ MOST_BYTES, MOST_NUMBERS, MOST_TABLE, MOST_NAMES, MOST_SHAPE = 131_088, 1_024, 4
 
 
 def numbers(members):
-    """A part of numbers: one byte that says in how many bytes each of them stands, and these."""
+    """A part of numbers: one byte that says how many bytes each of them has, and these."""
     width = max([1] + [(n.bit_length() + 7) // 8 for n in members])
     return bytes([width]) + b''.join(n.to_bytes(width, 'little') for n in members) if members else b''
 

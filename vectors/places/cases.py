@@ -36,7 +36,7 @@ def small(rng, depth):
 
 
 def leaves(found, path=()):
-    """The paths of a dtype with their types, in the order in which their bytes stand."""
+    """The paths of a dtype with their types, in the order of their bytes."""
     if found.kind == 'plain':
         yield list(path), found.what
     for k, below in enumerate(found.inner if found.kind == 'record' else found.inner * found.what if found.kind == 'array' else ()):
@@ -44,13 +44,13 @@ def leaves(found, path=()):
 
 
 def indices(shape, fortran):
-    """The indices of a shape, in the order in which their items stand: the last number runs fastest in C order, the first in Fortran order."""
+    """The indices of a shape, in the order of their items: the last number runs fastest in C order, the first in Fortran order."""
     for index in itertools.product(*map(range, reversed(shape) if fortran else shape)):
         yield list(reversed(index) if fortran else index)
 
 
 def laid_out(found, shape, fortran, start):
-    """Each index and path with the first byte, the length and the type: the elements put down one behind the other, without any stride."""
+    """Each index and path with the first byte, the length and the type: the elements put down one after the other, without any stride."""
     at = start
     for index in indices(shape, fortran):
         for path, what in leaves(found):
@@ -71,7 +71,7 @@ def file_of(rng, owners, start):
 
 
 def owned(count=LAID_OUT, seed=6):
-    """Every index and path of so many small records, with the answers of the layout; and behind them what is in no place."""
+    """Every index and path of so many small records, with the answers of the layout; and after them what is in no place."""
     rng, made = random.Random(seed), 0
     while made < count:
         found, shape, fortran = small(rng, rng.choice((0, 1, 2, 2, 3))), [rng.choice((0, 1, 2, 2, 3, 4)) for _ in range(rng.choice((0, 1, 1, 2, 2, 3)))], rng.random() < 0.5

@@ -19,7 +19,7 @@ def type_string(case):
         return 15
     order, obj, letter, digits, units = found.groups()
     letter = letter or obj
-    # "leading zeros allowed"; "size over 2^64-1": more than 20 digits behind the zeros are over it in any case
+    # "leading zeros allowed"; "size over 2^64-1": more than 20 digits after the zeros are over it in any case
     digits = b'0' + (digits or b'').lstrip(b'0')
     if len(digits) > 21 or int(digits) > MOST:
         return 16

@@ -18,9 +18,10 @@ use Rattle.counts.proofs.Apart.{refused-gives}
 use Rattle.record.specs.Rooms.{Lent, holding}
 use Rattle.record.specs.Header as header
 use Rattle.judge.specs.Judged.{reading}
+use Rattle.judge.proofs.Top.{reading-keeps}
 use Rattle.header.specs.declared.RecordInfo.{RecordInfo}
 use Rattle.header.specs.declared.Header.{Header}
-use Rattle.header.specs.Reads.{infoOf, HeaderInfo, headerInfo, headerIs, textInto, heldInto}
+use Rattle.header.specs.Reads.{infoOf, HeaderInfo, headerInfo, headerIs, heldInto}
 use Rattle.counts.proofs.Owes.{front-rest, owes-rest}
 use Rattle.claims.specs.Beyond.{Same-rest, Rest-unchanged}
 use Rattle.read_back.proofs.Rooms.{table-whole, names-whole}
@@ -55,19 +56,18 @@ strides-rest o s out n (refused k) e = refused-gives e
 pub rest-unchanged : Rest-unchanged
 rest-unchanged =
     record {
-      read = λ file l l′ h x. header-rest h l l′ (header.headerInto reading file l) (x .answered) (x .after);
-      read-held = λ longer file l l′ h x. header-rest h l l′ (heldInto longer file l) (x .answered) (x .after);
-      read-text = λ text l l′ info x. text-rest info l l′ (textInto text l) (x .answered) (x .after);
-      write-header = λ t ns s o room w room′ n h e. owes-rest _ room _ room′ n h e;
-      list = λ v start t ns s o room x room′ n h e. owes-rest _ room _ room′ n h e;
-      report = λ file room x room′ n h e. owes-rest _ room _ room′ n h e;
-      read-bytes = λ t run room x room′ n h e. owes-rest _ room _ room′ n h e;
-      read-points = λ t run room x room′ n h e. owes-rest _ room _ room′ n h e;
-      write-bytes = λ t value room x room′ n h e. owes-rest _ room _ room′ n h e;
-      write-points = λ t value room x room′ n h e. owes-rest _ room _ room′ n h e;
-      element-bytes = λ file start t ns s o x p room y room′ n h e. owes-rest _ room _ room′ n h e;
-      element-points = λ file start t ns s o x p room y room′ n h e. owes-rest _ room _ room′ n h e;
-      print = λ t room x room′ n h e. owes-rest _ room _ room′ n h e;
-      encode = λ value room x room′ n h e. owes-rest _ room _ room′ n h e;
-      strides = λ o s out x out′ n h e. ap (drop (length s)) (h .out-after) ∙ strides-rest o s out n (strides.stridesCount o s (length out)) (sym (h .answered) ∙ e);
+      read-held = λ longer file l l′ h x. header-rest h l l′ (heldInto longer file l) (x .answered reading reading-keeps) (x .after reading reading-keeps);
+      read-text = λ text l l′ info x. text-rest info l l′ (header.textBy reading text l) (x .answered reading reading-keeps) (x .after reading reading-keeps);
+      write-header = λ t ns s o out w out′ n h e. owes-rest _ out _ out′ n (h .writes) e;
+      list = λ v start t ns s o out x out′ n h e. owes-rest _ out _ out′ n h e;
+      report = λ file out x out′ n h e. owes-rest _ out _ out′ n (h reading reading-keeps) e;
+      read-bytes = λ run t out x out′ n h e. owes-rest _ out _ out′ n h e;
+      read-points = λ run t out x out′ n h e. owes-rest _ out _ out′ n h e;
+      write-bytes = λ t value out x out′ n h e. owes-rest _ out _ out′ n h e;
+      write-points = λ t value out x out′ n h e. owes-rest _ out _ out′ n h e;
+      element-bytes = λ file start t ns s o x p out y out′ n h e. owes-rest _ out _ out′ n h e;
+      element-points = λ file start t ns s o x p out y out′ n h e. owes-rest _ out _ out′ n h e;
+      print = λ t out x out′ n h e. owes-rest _ out _ out′ n h e;
+      encode = λ value out x out′ n h e. owes-rest _ out _ out′ n h e;
+      strides = λ s o out x out′ n h e. ap (drop (length s)) (h .out-after) ∙ strides-rest o s out n (strides.stridesCount o s (length out)) (sym (h .answered) ∙ e);
     }

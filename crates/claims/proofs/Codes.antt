@@ -21,6 +21,7 @@ use Rattle.record.specs.Version.{versionOf}
 use Rattle.record.specs.Rooms.{Lent, holding}
 use Rattle.record.specs.Header as record-of-file
 use Rattle.judge.specs.Judged.{reading}
+use Rattle.judge.proofs.Top.{reading-keeps}
 use Rattle.check_record.specs.Answer.{summary}
 use Rattle.check_record.specs.Checked.{checkedRecord}
 use Rattle.place_item.specs.Item.{itemOf}
@@ -29,18 +30,17 @@ use Rattle.header.specs.declared.RecordInfo.{RecordInfo}
 use Rattle.header.specs.Reads as header
 use Rattle.write.specs.Writes.{headerWritten}
 use Rattle.list_record.specs.Answer.{listed}
-use Rattle.npy_codes.specs.Codes.{code, Tells, alone}
+use Rattle.npy_codes.specs.Codes.{Tells, alone}
 use Rattle.npy_codes.specs.Numbers.{orderFor, typeFor}
 use Rattle.npy_codes.specs.Values.{typeValues, textValues, headerValues, summaryValues, runValues}
 use Rattle.npy.specs.Calls.{Puts}
 use Rattle.claims.specs.Beyond.{Same-rest}
-use Rattle.claims.specs.Codes.{Tells-alone, Coded, Zero-answers, Rest-in-C}
+use Rattle.claims.specs.Codes.{Coded, Zero-answers, Rest-in-C}
 use Rattle.claims.proofs.Numbers.{
   Numbered,
   then-numbered,
   each-numbered,
   type-numbered,
-  header-numbered,
   held-header-numbered,
   text-numbered,
   for-numbered,
@@ -65,9 +65,6 @@ use Rattle.claims.proofs.Refusals.{strides-left}
 use Rattle.claims.proofs.Beyond.{holding-rest, strides-rest}
 
 -- ---- the code
-pub tells-alone : {A : Type 0} (values : A → List ℕ) (o : Outcome A) (said : List ℕ) → Tells-alone values o said
-tells-alone values o said r said′ n t e = (t .answered ∙ ap code e, t .after ∙ ap (λ x. afterwards (λ a old. values a) x said) e)
-
 module _ {A M : Type 0} (values : A → List ℕ) {before after : M} {said said′ : List ℕ} {r : ℕ} where
   pub coded : (o : Outcome A) → Numbered o → Tells values o said r said′ → ((n : ℕ) → o ≡ refused n → said′ ≡ said → after ≡ before) → Coded values o before r after said′
   coded (gives a) h t k = record { zero = λ z. (a, refl, t .after); other = λ z. absurd (z (t .answered)) }
@@ -106,20 +103,17 @@ strides-kept s room (refused k) n e = refl
 pub zero-answers : Zero-answers
 zero-answers =
     record {
-      npy-read = λ file l said r new told c.
-          beside headerValues _ l new said told r (each-numbered header.headerInfo _ (header-numbered file l)) (c .told)
-          (λ n e. c .rooms ∙ afterwards-refused record-of-file.holdingHeader header.headerInfo l (record-of-file.headerInto reading file l) n e);
-      npy-read-held = λ longer file l said r new told c.
-          beside headerValues _ l new said told r (each-numbered header.headerInfo _ (held-header-numbered longer file l)) (c .told)
-          (λ n e. c .rooms ∙ afterwards-refused record-of-file.holdingHeader header.headerInfo l (header.heldInto longer file l) n e);
-      npy-read-text = λ text l said r new told c.
-          beside textValues _ l new said told r (each-numbered header.infoOf _ (text-numbered text l)) (c .told)
-          (λ n e. c .rooms ∙ afterwards-refused holding header.infoOf l (header.textInto text l) n e);
+      npy-read-held = λ longer file l said reading keeps r new told c.
+          beside headerValues _ l new said told r (each-numbered header.headerInfo _ (held-header-numbered reading longer file l)) (c .answered reading keeps)
+          (λ n e. c .after reading keeps ∙ afterwards-refused record-of-file.holdingHeader header.headerInfo l (record-of-file.heldBy reading longer file l) n e);
+      npy-read-text = λ text l said reading keeps r new told c.
+          beside textValues _ l new said told r (each-numbered header.infoOf _ (text-numbered reading text l)) (c .answered reading keeps)
+          (λ n e. c .after reading keeps ∙ afterwards-refused holding header.infoOf l (record-of-file.textBy reading text l) n e);
       npy-check = λ t ns s order said r x c.
           told-coded summaryValues _ said r x
-          (then-numbered (orderFor order) (λ o. each summary (checkedRecord t ns s o)) (for-numbered order) (λ o. each-numbered summary _ (record-checked-numbered t ns s o))) c;
+          (then-numbered (orderFor order) (λ o. each summary (checkedRecord t ns s o)) (for-numbered order) (λ o. each-numbered summary _ (record-checked-numbered t ns s o))) (c .answered);
       npy-write-header = λ t ns s order room count r new told c.
-          puts-coded _ room count r new told (then-numbered (orderFor order) (λ o. headerWritten t ns s o room) (for-numbered order) (λ o. header-written-numbered t ns s o room)) c;
+          puts-coded _ room count r new told (then-numbered (orderFor order) (λ o. headerWritten t ns s o room) (for-numbered order) (λ o. header-written-numbered t ns s o room)) (c .writes);
       npy-list = λ version start t ns s order room count r new told c.
           puts-coded _ room count r new told
           (then-numbered (versionOf version 0) (λ v. then (orderFor order) (λ o. listed v start t ns s o room)) (version-for-numbered version)
@@ -139,10 +133,10 @@ zero-answers =
           puts-coded _ room count r new told (then-numbered (orderFor order) _ (for-numbered order) (λ o. element-bytes-numbered file start t ns s o i p room)) c;
       npy-element-points = λ file start t ns s order i p room count r new told c.
           puts-coded _ room count r new told (then-numbered (orderFor order) _ (for-numbered order) (λ o. element-points-numbered file start t ns s o i p room)) c;
-      npy-read-bytes = λ order letter size units run room count r new told c.
+      npy-read-bytes = λ run order letter size units room count r new told c.
           puts-coded _ room count r new told
           (then-numbered (typeFor order letter size units) _ (type-for-numbered order letter size units) (λ t. read-bytes-numbered t run room)) c;
-      npy-read-points = λ order letter size units run room count r new told c.
+      npy-read-points = λ run order letter size units room count r new told c.
           puts-coded _ room count r new told
           (then-numbered (typeFor order letter size units) _ (type-for-numbered order letter size units) (λ t. read-points-numbered t run room)) c;
       npy-write-bytes = λ order letter size units value room count r new told c.
@@ -204,10 +198,11 @@ strides-given s room (refused n) = refl
 pub rest-in-c : Rest-in-C
 rest-in-c =
     record {
-      npy-read = λ file l l′ said r t c. header-rest-told t said l l′ (record-of-file.headerInto reading file l) (c .told .after) (c .rooms);
-      npy-read-held = λ longer file l l′ said r t c. header-rest-told t said l l′ (header.heldInto longer file l) (c .told .after) (c .rooms);
-      npy-read-text = λ text l l′ said r t c. text-rest-told t said l l′ (header.textInto text l) (c .told .after) (c .rooms);
-      npy-write-header = λ t ns s order room count r room′ n c. spared _ room count r room′ n c;
+      npy-read-held = λ longer file l l′ said r t c.
+          header-rest-told t said l l′ (header.heldInto longer file l) (c .answered reading reading-keeps .after) (c .after reading reading-keeps);
+      npy-read-text = λ text l l′ said r t c.
+          text-rest-told t said l l′ (record-of-file.textBy reading text l) (c .answered reading reading-keeps .after) (c .after reading reading-keeps);
+      npy-write-header = λ t ns s order room count r room′ n c. spared _ room count r room′ n (c .writes);
       npy-list = λ version start t ns s order room count r room′ n c. spared _ room count r room′ n c;
       npy-type-print = λ order letter size units room count r room′ n c. spared _ room count r room′ n c;
       puts = λ put room count r room′ n c. spared put room count r room′ n c;

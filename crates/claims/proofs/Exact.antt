@@ -1,17 +1,16 @@
--- What is accepted is exactly what document 01 defines (specs/Exact.antt). The contracts are equations with sequences of checks; a sequence that gives a value has passed
+-- What is accepted is exactly what document 01 defines (specs/Exact.antt). The predicates are equations with sequences of checks; a sequence that gives a value has passed
 -- each check, and one whose checks all pass gives it. For each text one outcome keeps the grammar's promise, so the value given by the rules is the one
 -- that is read.
 use Prim.Native.Nat.{ℕ, _+_, _≤_}
 use mathlib.Core.Path.{_≡_, refl, sym, ap, subst, _∙_}
-use mathlib.Core.Bool.{false, not}
+use mathlib.Core.Bool.{Bool, not}
 use mathlib.Core.List.{List}
 use lib.Dec.{ltb}
 use lib.ListN.{length}
 use borrow.Author.Tests.{le-ltb, ltb-false, not-false}
-use Rattle.refusal.specs.Answers.{bytesAnswer}
 use Rattle.counts.specs.Outcome.{Outcome, gives, then, each, afterwards}
 use Rattle.counts.specs.Front.{atFront}
-use Rattle.counts.proofs.Apart.{refused-gives}
+use Rattle.counts.proofs.Apart.{refused-gives, gives-apart}
 use Rattle.counts.proofs.Holds.{unless-back, then-back, each-back}
 use Rattle.literal_grammar.specs.Value.{Value}
 use Rattle.literal_grammar.specs.Nesting.{most-open}
@@ -22,210 +21,320 @@ use Rattle.utf8.proofs.Outcomes.{accepted-exactly}
 use Rattle.type_str.specs.declared.TypeStr.{TypeStr}
 use Rattle.dtype.specs.declared.Order.{Order}
 use Rattle.dtype.specs.Entries.{hasObject}
-use Rattle.dtype.specs.Shape.{inRange}
 use Rattle.dtype.specs.Limits.{limited}
+use Rattle.dtype.specs.Shape.{inRange}
 use Rattle.dtype.specs.Record.{Record}
 use Rattle.dtype.specs.Paths.{plainAt}
 use Rattle.dtype.specs.Places.{dataBytes, place}
-use Rattle.dtype.proofs.Items.{range-true}
-use Rattle.record.specs.Prefix.{most-text, Prefix, dataStart, prefix, textOf}
+use Rattle.record.specs.Prefix.{most-text, Prefix, dataStart, prefix, missing, textHeld, textOf}
+use Rattle.record.specs.Version.{Version}
 use Rattle.record.specs.FromValue.{recordOf}
 use Rattle.record.specs.Rooms.{needs, tooSmall, Lent, roomsOf, holding}
 use Rattle.record.specs.Header as header
 use Rattle.record.specs.File.{textLength, fileOf, headerLength}
 use Rattle.record.specs.Writing.{tooDeep, writing}
-use Rattle.record.proofs.Files.{record-in-by, header-by}
+use Rattle.record.proofs.Files.{record-in-by}
 use Rattle.record.proofs.RoundTrips.{file-whole}
 use Rattle.check_record.specs.Checked.{checkedRecord}
-use Rattle.place_item.proofs.Sums.{range-of}
 use Rattle.judge.specs.Judged.{reading}
 use Rattle.judge.proofs.Top.{reading-keeps}
-use Rattle.header.specs.declared.Header.{Header}
-use Rattle.header.specs.declared.HeaderRead.{HeaderRead}
-use Rattle.header.specs.Reads.{HeaderInfo, headerInfo, headerIs, answer, Reads}
-use Rattle.refusal.specs.declared.BytesAnswer.{BytesAnswer}
-use Rattle.write.specs.Writes.{headerWritten, WritesHeader}
-use Rattle.write.proofs.Outcomes.{write-header-one}
+use Rattle.header.specs.Reads.{HeaderInfo, headerInfo, infoOf, heldInto}
+use Rattle.write.specs.Writes.{headerWritten}
 use Rattle.place_area.specs.declared.Run.{Run}
-use Rattle.place.specs.declared.Placed.{Placed}
-use Rattle.place.specs.Answer as places
 use Rattle.place.specs.Place as place
 use Rattle.place.proofs.Placing.{place-given}
-use Rattle.place.proofs.Outcomes.{place-one}
-use Rattle.counts.specs.Owes.{roomed, Owes}
-use Rattle.counts.proofs.Owes.{owes-same, roomed-whole}
+use Rattle.counts.specs.Owes.{roomed}
+use Rattle.counts.proofs.Owes.{roomed-whole}
 use Rattle.element.specs.Bytes.{runBytes}
+use Rattle.element.specs.Element.{elementBytes, elementPoints}
 use Rattle.element.proofs.Typed.{bytes-after, points-after}
-use Rattle.claims.specs.Exact.{Says, Read-as, Reads-exactly, Writable, Writes-exactly, Named, Places-exactly, Element, Takes-exactly, Exact}
-use Rattle.claims.proofs.Exactly.{valid-limits}
+use Rattle.npy_codes.specs.Codes.{alone}
+use Rattle.npy_codes.specs.Numbers.{orderFor}
+use Rattle.npy_codes.specs.Values.{textValues, headerValues, runValues}
+use Rattle.npy.specs.Calls.{Puts}
+use Rattle.claims.specs.Doors.{Door, in-rattle, in-c}
+use Rattle.claims.specs.Exact.{
+  Exactly,
+  In-text,
+  In-file,
+  Fits,
+  Reads-exactly,
+  Reads-text-exactly,
+  Writable,
+  Writes-exactly,
+  Named,
+  Places-exactly,
+  Element,
+  bytes-within,
+  points-within,
+  Takes-exactly,
+  In-order,
+  Exact,
+  Exact-in-C,
+}
+use Rattle.claims.proofs.Doors.{Fails, rattle-fails, c-fails, c-returned, exactly-by}
+use Rattle.claims.proofs.Numbers.{
+  Numbered,
+  each-numbered,
+  then-numbered,
+  for-numbered,
+  held-header-numbered,
+  text-numbered,
+  header-written-numbered,
+  place-numbered,
+  element-bytes-numbered,
+  element-points-numbered,
+}
+use Rattle.claims.proofs.Roomy.{roomy-fits, fits-roomy}
+use Rattle.claims.proofs.Limits.{valid-limits}
 
 -- ---- reading
-abbrev header-of : Prefix → Record → header.Header
-header-of p r = record { version = p .version; says = r; data-start = dataStart p }
+value-given : (text : List ℕ) (g : Got ℕ Value) → PromiseAt most-open text g → (v : Value) → header.valueRead g ≡ gives v → GivesIn most-open text v
+value-given text (got u q) k v e = let same : u ≡ v = cc in subst (GivesIn most-open text) same (k .1)
+value-given text (fault q) k v e = refused-gives e
+value-given text (deep q) k v e = refused-gives e
 
-module _ (file : List ℕ) (l : Lent) where
-  given : (p : Prefix) (r : Record) → Says file p r → tooSmall (roomsOf l) (needs r) ≡ false → header.headerInto reading file l ≡ gives (header-of p r)
+pub in-text-read : (text : List ℕ) (r : Record) → In-text text r → header.recordIn reading text ≡ gives r
+in-text-read text r s =
+    let well = accepted-exactly text .1 (s .well-formed) in
+    let is-read : reading text ≡ got (s .value) (length text) =
+    one-outcome-at most-open text (reading text) (got (s .value) (length text)) (reading-keeps text) (refl, s .literal) in
+    record-in-by reading text (s .value) (length text) r well is-read (s .is-record)
+
+pub read-in-text : (text : List ℕ) (r : Record) → header.recordIn reading text ≡ gives r → In-text text r
+unfolding header.recordIn
+read-in-text text r e =
+    let (u, well, of-value) = then-back (utf8 text) _ r e in
+    let (v, read, is-record) = then-back (header.valueRead (reading text)) recordOf r of-value in
+    record { well-formed = accepted-exactly text .0 well; value = v; literal = value-given text (reading text) (reading-keeps text) v read; is-record = is-record }
+
+-- the text of a file is the same where the file may be longer, if it is all there
+held-whole : (longer : Bool) (p : Prefix) (file text : List ℕ) → textOf p file ≡ gives text → textHeld longer p file ≡ gives text
+unfolding textHeld
+held-whole longer p file text e =
+    let (fits, is) = unless-back (ltb (length file) (dataStart p)) 3 _ text e in
+    rw (textHeld, fits) is
+
+whole-held : (longer : Bool) (p : Prefix) (file text : List ℕ) → textHeld longer p file ≡ gives text → textOf p file ≡ gives text
+unfolding textHeld
+whole-held longer p file text e =
+    let (fits, is) = unless-back (ltb (length file) (dataStart p)) (missing longer) _ text e in
+    rw (textHeld, fits) is
+
+-- a header by its parts
+abbrev made : Version → Record → ℕ → header.Header
+made v r n = record { version = v; says = r; data-start = n }
+
+header-made : (h : header.Header) (v : Version) (n : ℕ) → h .version ≡ v → h .data-start ≡ n → made v (h .says) n ≡ h
+header-made h v n e f = rw (sym e, sym f) refl
+
+module _ (longer : Bool) (file : List ℕ) (l : Lent) where
+  in-file-read : (h : header.Header) → In-file file h → Fits l (h .says) → heldInto longer file l ≡ gives h
   unfolding header.stored
-  given p r s fits =
-      let well = accepted-exactly (s .text) .1 (s .well-formed) in
-      let is-read : reading (s .text) ≡ got (s .value) (length (s .text)) =
-      one-outcome-at most-open (s .text) (reading (s .text)) (got (s .value) (length (s .text))) (reading-keeps (s .text)) (refl, s .literal) in
-      header-by reading file (roomsOf l) p (s .text) r (s .begins) (s .whole) (record-in-by reading (s .text) (s .value) (length (s .text)) r well is-read (s .is-record))
-      ∙ rw (header.stored, fits)
+  in-file-read h s fits =
+      let p = s .front in
+      let e = held-whole longer p file (s .text) (s .whole) in
+      let r = in-text-read (s .text) (h .says) (s .says) in
+      let m = header-made h (p .version) (dataStart p) (s .version-is) (s .data-starts) in
+      let small = roomy-fits (h .says) l fits in
+      simp (s .begins, e, r, small, m)
 
-  read-as : (p : Prefix) (r : Record) (x : HeaderRead) (l′ : Lent) → answer x ≡ gives (headerInfo (header-of p r)) → l′ ≡ holding r l → Read-as p r l x l′
-  read-as p r (HeaderRead.Read h) l′ a b =
-      let same : headerIs h ≡ headerInfo (header-of p r) = cc in
-      record {
-        header = h;
-        is = refl;
-        versioned = ap (λ (t : HeaderInfo). t .version) same;
-        says = ap (λ (t : HeaderInfo). t .info) same;
-        starts = ap (λ (t : HeaderInfo). t .data-start) same;
-        held = b;
-      }
-  read-as p r (HeaderRead.Refused f) l′ a b = refused-gives a
+  read-in-file : (h : header.Header) → heldInto longer file l ≡ gives h → In-file file h × Fits l (h .says)
+  unfolding header.stored
+  read-in-file h e =
+      let (p, begins, of-text) = then-back (prefix file) _ h e in
+      let (text, whole, of-record) = then-back (textHeld longer p file) _ h of-text in
+      let (r, is, stored) = then-back (header.recordIn reading text) _ h of-record in
+      let (fits, made-by) = unless-back (tooSmall (roomsOf l) (needs r)) 23 _ h stored in
+      let same : made (p .version) r (dataStart p) ≡ h = gives-apart made-by in
+      let says : r ≡ h .says = ap (λ (x : header.Header). x .says) same in (
+        record {
+          front = p;
+          begins = begins;
+          text = text;
+          whole = whole-held longer p file text whole;
+          says = subst (In-text text) says (read-in-text text r is);
+          version-is = sym (ap (λ (x : header.Header). x .version) same);
+          data-starts = sym (ap (λ (x : header.Header). x .data-start) same);
+        },
+        subst (Fits l) says (fits-roomy r l fits),
+      )
 
-  value-given : (text : List ℕ) (g : Got ℕ Value) → PromiseAt most-open text g → (v : Value) → header.valueRead g ≡ gives v → GivesIn most-open text v
-  value-given text (got u q) k v e = let same : u ≡ v = cc in subst (GivesIn most-open text) same (k .1)
-  value-given text (fault q) k v e = refused-gives e
-  value-given text (deep q) k v e = refused-gives e
+  reads-exactly : {R : Type 0} (door : Door HeaderInfo R) (y : R) (l′ : Lent) → y ≡ door .returned (each headerInfo (heldInto longer file l))
+      → l′ ≡ afterwards header.holdingHeader (heldInto longer file l) l → Fails door (each headerInfo (heldInto longer file l)) → Reads-exactly door file l y l′
+  reads-exactly door y l′ is after fails =
+      exactly-by door (λ h. In-file file h × Fits l (h .says)) headerInfo (λ h. holding (h .says)) l y l′ (each headerInfo (heldInto longer file l)) is fails
+      (λ h d. let e = in-file-read h (d .0) (d .1) in (ap (each headerInfo) e, after ∙ ap (λ (o : Outcome header.Header). afterwards header.holdingHeader o l) e))
+      (λ i e. let (h, is-header, _) = each-back headerInfo (heldInto longer file l) i e in (h, read-in-file h is-header))
 
-  said-by : (h : header.Header) → header.headerInto reading file l ≡ gives h
-      → (p : Prefix) × (r : Record) × Says file p r × (tooSmall (roomsOf l) (needs r) ≡ false)
-  unfolding header.recordIn header.stored
-  said-by h e =
-      let (p, begins, behind) = then-back (prefix file) _ h e in
-      let (text, whole, of-text) = then-back (textOf p file) _ h behind in
-      let (r, is, stored) = then-back (header.recordIn reading text) _ h of-text in
-      let (u, well, of-value) = then-back (utf8 text) _ r is in
-      let (v, read, is-record) = then-back (header.valueRead (reading text)) recordOf r of-value in
-      let says : Says file p r =
-      record {
-        begins = begins;
-        text = text;
-        whole = whole;
-        well-formed = accepted-exactly text .0 well;
-        value = v;
-        literal = value-given text (reading text) (reading-keeps text) v read;
-        is-record = is-record;
-      } in
-      (p, r, says, unless-back (tooSmall (roomsOf l) (needs r)) 23 _ h stored .0)
+module _ (text : List ℕ) (l : Lent) where
+  in-text-fitted : (r : Record) → In-text text r → Fits l r → header.textBy reading text l ≡ gives r
+  in-text-fitted r s fits = let e = in-text-read text r s in let small = roomy-fits r l fits in simp (e, small)
 
-  reads-exactly : (x : HeaderRead) (l′ : Lent) → Reads file l x l′ → Reads-exactly file l x l′
-  reads-exactly x l′ h =
-      let accepts : (p : Prefix) (r : Record) → Says file p r → tooSmall (roomsOf l) (needs r) ≡ false → Read-as p r l x l′ =
-      λ p r s fits. read-as p r x l′ (h .answered ∙ ap (each headerInfo) (given p r s fits)) (h .after ∙ ap (λ (y : Outcome header.Header). afterwards header.holdingHeader y l) (given p r s fits)) in
-      record {
-        all = accepts;
-        only = λ f e.
-            let (g, is, _) = each-back headerInfo (header.headerInto reading file l) (headerIs f) (sym (h .answered) ∙ ap answer e) in
-            let (p, r, s, fits) = said-by g is in
-            (p, r, s, accepts p r s fits);
-      }
+  fitted-in-text : (r : Record) → header.textBy reading text l ≡ gives r → In-text text r × Fits l r
+  fitted-in-text r e =
+      let (q, is, of-room) = then-back (header.recordIn reading text) _ r e in
+      let (fits, same) = unless-back (tooSmall (roomsOf l) (needs q)) 23 _ r of-room in
+      let equal : q ≡ r = gives-apart same in
+      (subst (In-text text) equal (read-in-text text q is), subst (Fits l) equal (fits-roomy q l fits))
+
+  reads-text-exactly : {R : Type 0} (door : Door _ R) (y : R) (l′ : Lent) → y ≡ door .returned (each infoOf (header.textBy reading text l)) → l′ ≡ afterwards holding (header.textBy reading text l) l
+      → Fails door (each infoOf (header.textBy reading text l)) → Reads-text-exactly door text l y l′
+  reads-text-exactly door y l′ is after fails =
+      exactly-by door (λ r. In-text text r × Fits l r) infoOf holding l y l′ (each infoOf (header.textBy reading text l)) is fails
+      (λ r d. let e = in-text-fitted r (d .0) (d .1) in (ap (each infoOf) e, after ∙ ap (λ (o : Outcome Record). afterwards holding o l) e))
+      (λ i e. let (r, is-record, _) = each-back infoOf (header.textBy reading text l) i e in (r, fitted-in-text r is-record))
 
 -- ---- writing
 module _ (t ns s : List ℕ) (o : Order) (room : List ℕ) where
-  writes : (r : Record) → Writable t ns s o room r → writing r room ≡ gives (fileOf r)
-  unfolding writing
-  writes r w = let len = file-whole r in rw (writing, valid-limits t ns s o r (w .accepted), w .shallow, le-ltb _ _ (w .short)) (roomed-whole 28 room (fileOf r) (rw len (w .fits)))
+  writable-writes : (r : Record) → Writable t ns s o room r → headerWritten t ns s o room ≡ gives (fileOf r)
+  unfolding headerWritten writing
+  writable-writes r w =
+      let fits : length (fileOf r) ≤ length room = subst (λ (k : ℕ). k ≤ length room) (sym (file-whole r)) (w .fits) in
+      rw (headerWritten, w .accepted, writing, valid-limits t ns s o r (w .accepted), w .shallow, le-ltb _ _ (w .short)) (roomed-whole 28 room (fileOf r) fits)
 
-  writes-so : (r : Record) → Writable t ns s o room r → WritesHeader t ns s o room (BytesAnswer.Is (record { 0 = headerLength r })) (atFront (fileOf r) room)
-  unfolding headerWritten
-  writes-so r w =
-      owes-same _ _ room _ _ (sym (ap (λ (y : Outcome Record). then y (λ r. writing r room)) (w .accepted) ∙ writes r w))
-      (record { answered = ap gives (sym (file-whole r)); room-after = refl })
-
-  writable-by : (bytes : List ℕ) → headerWritten t ns s o room ≡ gives bytes → (r : Record) × Writable t ns s o room r
+  writes-writable : (bytes : List ℕ) → headerWritten t ns s o room ≡ gives bytes → (r : Record) × Writable t ns s o room r
   unfolding headerWritten writing roomed
-  writable-by bytes e =
+  writes-writable bytes e =
       let (r, accepted, of-record) = then-back (checkedRecord t ns s o) _ bytes e in
-      let (_, _, behind) = then-back (limited r) _ bytes of-record in
-      let (shallow, short) = unless-back (tooDeep r) 7 _ bytes behind in
+      let (_, _, of-text) = then-back (limited r) _ bytes of-record in
+      let (shallow, short) = unless-back (tooDeep r) 7 _ bytes of-text in
       let (few, room-asked) = unless-back (ltb most-text (textLength r)) 4 _ bytes short in
       let (fits, _) = unless-back (ltb (length room) (length (fileOf r))) 28 _ bytes room-asked in
       (r, record { accepted = accepted; shallow = shallow; short = ltb-false _ _ few; fits = subst (λ (k : ℕ). k ≤ length room) (file-whole r) (ltb-false _ _ fits) })
 
-  writes-exactly : (w : BytesAnswer) (room′ : List ℕ) → WritesHeader t ns s o room w room′ → Writes-exactly t ns s o room w room′
-  writes-exactly w room′ h =
-      record {
-        all = λ r x.
-            let same = write-header-one t ns s o room (w, room′) (BytesAnswer.Is (record { 0 = headerLength r }), atFront (fileOf r) room) h (writes-so r x) in
-            (ap (λ (y : BytesAnswer × List ℕ). y .0) same, ap (λ (y : BytesAnswer × List ℕ). y .1) same);
-        only = λ n e.
-            let (bytes, is, _) = each-back length (headerWritten t ns s o room) n (sym (h .answered) ∙ ap bytesAnswer e) in
-            writable-by bytes is;
-      }
+-- a call that puts the header of what is due in the room
+writes-exactly : {R : Type 0} (door : Door ℕ R) (Due : Record → Type 0) (room : List ℕ) (y : R) (room′ : List ℕ) (put : Outcome (List ℕ))
+    → y ≡ door .returned (each length put) → room′ ≡ afterwards atFront put room → Fails door (each length put)
+    → ((r : Record) → Due r → put ≡ gives (fileOf r)) → ((bytes : List ℕ) → put ≡ gives bytes → (r : Record) × Due r) → Writes-exactly door Due room y room′
+writes-exactly door Due room y room′ put is held fails due back =
+    exactly-by door Due headerLength (λ r. atFront (fileOf r)) room y room′ (each length put) is fails
+    (λ r d. let e = due r d in (ap (each length) e ∙ ap gives (file-whole r), held ∙ ap (λ (o : Outcome (List ℕ)). afterwards atFront o room) e))
+    (λ n e. let (bytes, given-is, _) = each-back length put n e in back bytes given-is)
 
 -- ---- places
 module _ (file start : ℕ) (t ns s : List ℕ) (o : Order) (x p : List ℕ) where
-  named-place : (r : Record) (k : TypeStr) → Named file start t ns s o x p r k → place.placeOf file start t ns s o x p ≡ gives (place.runFrom (place start r x p) k)
+  named-place : (a : Record × TypeStr) → Named file start t ns s o x p (a .0) (a .1) → place.placeOf file start t ns s o x p ≡ gives (place.runFrom (place start (a .0) x p) (a .1))
   unfolding place.placed
-  named-place r k n =
-      sym (place-given file start t ns s o x p r (n .accepted))
-      ∙ rw (place.placed, n .no-object, le-ltb _ _ (n .long), range-true _ _ (n .in-range), n .leads)
+  named-place a n =
+      sym (place-given file start t ns s o x p (a .0) (n .accepted))
+      ∙ rw (place.placed, n .no-object, le-ltb _ _ (n .long), n .in-range, n .leads)
 
-  named-by : (u : Run) → place.placeOf file start t ns s o x p ≡ gives u → (r : Record) × (k : TypeStr) × Named file start t ns s o x p r k
+  place-named : (u : Run) → place.placeOf file start t ns s o x p ≡ gives u → (a : Record × TypeStr) × Named file start t ns s o x p (a .0) (a .1)
   unfolding place.placeOf place.placed
-  named-by u e =
+  place-named u e =
       let (r, accepted, of-record) = then-back (checkedRecord t ns s o) _ u e in
-      let (no-object, behind) = unless-back (hasObject (r .dtype)) 24 _ u of-record in
-      let (long, in-file) = unless-back (ltb file (start + dataBytes r)) 25 _ u behind in
+      let (no-object, of-file) = unless-back (hasObject (r .dtype)) 24 _ u of-record in
+      let (long, in-file) = unless-back (ltb file (start + dataBytes r)) 25 _ u of-file in
       let (ranged, by-path) = unless-back (not (inRange (r .shape) x)) 26 _ u in-file in
       let (k, leads, _) = each-back (λ k. place.runFrom (place start r x p) k) (plainAt (r .dtype) p) u by-path in (
-        r,
-        k,
-        record {
-          accepted = accepted;
-          no-object = no-object;
-          long = ltb-false _ _ long;
-          in-range = range-of (r .shape) x (not-false (inRange (r .shape) x) ranged);
-          leads = leads;
-        },
+        (r, k),
+        record { accepted = accepted; no-object = no-object; long = ltb-false _ _ long; in-range = not-false (inRange (r .shape) x) ranged; leads = leads },
       )
-
-  places-exactly : (a : Placed) → places.answer a ≡ place.placeOf file start t ns s o x p → Places-exactly file start t ns s o x p a
-  places-exactly a h =
-      record {
-        all = λ r k n. place-one file start t ns s o x p a (Placed.At (place.runFrom (place start r x p) k)) h (sym (named-place r k n));
-        only = λ u e. named-by u (sym h ∙ ap places.answer e);
-      }
 
 -- ---- elements
 module _ (within : TypeStr → List ℕ → Outcome (List ℕ)) (at : Outcome Run) (file room : List ℕ) where
   abbrev put : Outcome (List ℕ)
   put = then at (λ u. then (within (u .kind) (runBytes file u)) (roomed 23 room))
 
-  put-given : (content : List ℕ) → Element within at file room content → put ≡ gives content
+  element-put : (content : List ℕ) → Element within at file room content → put ≡ gives content
   unfolding roomed
-  put-given content e = rw (e .placed, e .stands, roomed, le-ltb _ _ (e .fits))
+  element-put content e = rw (e .placed, e .is, roomed, le-ltb _ _ (e .fits))
 
-  element-by : (content : List ℕ) → put ≡ gives content → Element within at file room content
+  put-element : (content : List ℕ) → put ≡ gives content → Element within at file room content
   unfolding roomed
-  element-by content e =
+  put-element content e =
       let (u, placed-at, of-run) = then-back at _ content e in
-      let (c, stands, kept) = then-back (within (u .kind) (runBytes file u)) _ content of-run in
+      let (c, is-content, kept) = then-back (within (u .kind) (runBytes file u)) _ content of-run in
       let (fits, is) = unless-back (ltb (length room) (length c)) 23 (gives c) content kept in
-      let same : c ≡ content = cc in
-      record { run = u; placed = placed-at; stands = stands ∙ ap gives same; fits = subst (λ (y : List ℕ). length y ≤ length room) same (ltb-false _ _ fits) }
+      let same : c ≡ content = gives-apart is in
+      record { run = u; placed = placed-at; is = is-content ∙ ap gives same; fits = subst (λ (y : List ℕ). length y ≤ length room) same (ltb-false _ _ fits) }
 
-  takes-exactly : (whole : Outcome (List ℕ)) (a : Outcome ℕ) (room′ : List ℕ) → whole ≡ put → Owes whole room a room′ → Takes-exactly within at file room a room′
-  takes-exactly whole a room′ is h =
-      record {
-        all = λ content e.
-            let given-is = is ∙ put-given content e in
-            (h .answered ∙ ap (each length) given-is, h .room-after ∙ ap (λ (y : Outcome (List ℕ)). afterwards atFront y room) given-is);
-        only = λ n e.
-            let (content, given-is, _) = each-back length whole n (sym (h .answered) ∙ e) in
-            (content, element-by content (sym is ∙ given-is));
-      }
+takes-exactly : {R : Type 0} (door : Door ℕ R) (Due : List ℕ → Type 0) (room : List ℕ) (y : R) (room′ : List ℕ) (whole : Outcome (List ℕ))
+    → y ≡ door .returned (each length whole) → room′ ≡ afterwards atFront whole room → Fails door (each length whole)
+    → ((c : List ℕ) → Due c → whole ≡ gives c) → ((c : List ℕ) → whole ≡ gives c → Due c) → Takes-exactly door Due room y room′
+takes-exactly door Due room y room′ whole is held fails due back =
+    exactly-by door Due length atFront room y room′ (each length whole) is fails
+    (λ c d. let e = due c d in (ap (each length) e, held ∙ ap (λ (o : Outcome (List ℕ)). afterwards atFront o room) e))
+    (λ n e. let (c, given-is, _) = each-back length whole n e in (c, back c given-is))
+
+-- ---- from C, where the order's number comes first
+module _ {A B : Type 0} (order : ℕ) (next : Order → Outcome B) where
+  in-order : {Due : Order → A → Type 0} (value : A → B) → ((o : Order) (a : A) → Due o a → next o ≡ gives (value a)) → (a : A) → In-order order Due a
+      → then (orderFor order) next ≡ gives (value a)
+  in-order value due a d = ap (λ g. then g next) (d .1) ∙ due (d .0) a (d .2)
+
+  order-in : {Due : Order → A → Type 0} → ((o : Order) (b : B) → next o ≡ gives b → (a : A) × Due o a) → (b : B) → then (orderFor order) next ≡ gives b
+      → (a : A) × In-order order Due a
+  order-in back b e =
+      let (o, named, given-is) = then-back (orderFor order) next b e in
+      let (a, d) = back o b given-is in
+      (a, (o, named, d))
 
 pub exact : Exact
 exact =
     record {
-      read = λ file l x l′ h. reads-exactly file l x l′ h;
-      write = λ t ns s o room w room′ h. writes-exactly t ns s o room w room′ h;
-      place = λ file start t ns s o x p a h. places-exactly file start t ns s o x p a h;
-      bytes = λ file start t ns s o x p room r room′ h. takes-exactly _ _ file room _ _ room′ (bytes-after file start t ns s o x p room) h;
-      points = λ file start t ns s o x p room r room′ h. takes-exactly _ _ file room _ _ room′ (points-after file start t ns s o x p room) h;
+      read-held = λ longer file l x l′ h.
+          reads-exactly longer file l in-rattle _ l′ (h .answered reading reading-keeps) (h .after reading reading-keeps) (rattle-fails _);
+      read-text = λ text l x l′ h.
+          reads-text-exactly text l in-rattle _ l′ (h .answered reading reading-keeps) (h .after reading reading-keeps) (rattle-fails _);
+      write-header = λ t ns s o out w out′ h.
+          writes-exactly in-rattle (Writable t ns s o out) out _ out′ (headerWritten t ns s o out) (h .writes .answered) (h .writes .room-after) (rattle-fails _)
+          (writable-writes t ns s o out) (writes-writable t ns s o out);
+      place = λ file start t ns s o x p y h.
+          exactly-by in-rattle _ _ _ tt _ tt (place.placeOf file start t ns s o x p) h (rattle-fails _)
+          (λ a d. (named-place file start t ns s o x p a d, refl)) (place-named file start t ns s o x p);
+      element-bytes = λ file start t ns s o x p out y out′ h.
+          let at = place.placeOf (length file) start t ns s o x p in
+          let is = bytes-after file start t ns s o x p out in
+          takes-exactly in-rattle (Element bytes-within at file out) out _ out′ (elementBytes file start t ns s o x p out) (h .answered) (h .room-after) (rattle-fails _)
+          (λ c d. is ∙ element-put bytes-within at file out c d) (λ c e. put-element bytes-within at file out c (sym is ∙ e));
+      element-points = λ file start t ns s o x p out y out′ h.
+          let at = place.placeOf (length file) start t ns s o x p in
+          let is = points-after file start t ns s o x p out in
+          takes-exactly in-rattle (Element points-within at file out) out _ out′ (elementPoints file start t ns s o x p out) (h .answered) (h .room-after) (rattle-fails _)
+          (λ c d. is ∙ element-put points-within at file out c d) (λ c e. put-element points-within at file out c (sym is ∙ e));
+    }
+
+-- the numbers of what is asked of an order
+after-order : {B : Type 0} (order : ℕ) (next : Order → Outcome B) (values : B → List ℕ) (said : List ℕ) → ((o : Order) → Numbered (next o))
+    → Fails (in-c values said) (then (orderFor order) next)
+after-order order next values said h = c-fails values said _ (then-numbered (orderFor order) next (for-numbered order) h)
+
+module _ (within : TypeStr → List ℕ → Outcome (List ℕ)) (file out : List ℕ) (order : ℕ) (next : Order → Outcome (List ℕ)) (at : Order → Outcome Run)
+    (is : (o : Order) → next o ≡ put within (at o) file out) (numbered : (o : Order) → Numbered (next o)) where
+  takes-in-c : (count : List ℕ) (r : ℕ) (out′ count′ : List ℕ) → Puts (then (orderFor order) next) out count r out′ count′
+      → Takes-exactly (in-c alone count) (In-order order (λ o. Element within (at o) file out)) out (r, count′) out′
+  takes-in-c count r out′ count′ h =
+      takes-exactly (in-c alone count) _ out (r, count′) out′ (then (orderFor order) next) (c-returned (h .told)) (h .room-after)
+      (c-fails alone count _ (each-numbered length _ (then-numbered (orderFor order) next (for-numbered order) numbered)))
+      (λ c d. in-order order next (λ c. c) (λ o c d. is o ∙ element-put within (at o) file out c d) c d)
+      (λ c e. let g = then-back (orderFor order) next c e in (g .0, g .1, put-element within (at (g .0)) file out c (sym (is (g .0)) ∙ g .2)))
+
+pub exact-in-c : Exact-in-C
+exact-in-c =
+    record {
+      npy-read-held = λ longer file l said r l′ said′ h.
+          reads-exactly longer file l (in-c headerValues said) (r, said′) l′ (c-returned (h .answered reading reading-keeps)) (h .after reading reading-keeps)
+          (c-fails headerValues said _ (each-numbered headerInfo _ (held-header-numbered reading longer file l)));
+      npy-read-text = λ text l said r l′ said′ h.
+          reads-text-exactly text l (in-c textValues said) (r, said′) l′ (c-returned (h .answered reading reading-keeps)) (h .after reading reading-keeps)
+          (c-fails textValues said _ (each-numbered infoOf _ (text-numbered reading text l)));
+      npy-write-header = λ t ns s order out count r out′ count′ h.
+          writes-exactly (in-c alone count) (In-order order (λ o. Writable t ns s o out)) out (r, count′) out′ (then (orderFor order) (λ o. headerWritten t ns s o out))
+          (c-returned (h .writes .told)) (h .writes .room-after)
+          (c-fails alone count _ (each-numbered length _ (then-numbered (orderFor order) (λ o. headerWritten t ns s o out) (for-numbered order) (λ o. header-written-numbered t ns s o out))))
+          (in-order order (λ o. headerWritten t ns s o out) fileOf (λ o. writable-writes t ns s o out))
+          (order-in order (λ o. headerWritten t ns s o out) (λ o. writes-writable t ns s o out));
+      npy-place = λ file start t ns s order x p run r run′ h.
+          exactly-by (in-c runValues run) (In-order order (λ o a. Named file start t ns s o x p (a .0) (a .1))) (λ a. place.runFrom (place start (a .0) x p) (a .1)) (λ a m. m) tt
+          (r, run′) tt _ (c-returned h) (after-order order (λ o. place.placeOf file start t ns s o x p) runValues run (λ o. place-numbered file start t ns s o x p))
+          (λ a d. (in-order order (λ o. place.placeOf file start t ns s o x p) (λ a. place.runFrom (place start (a .0) x p) (a .1)) (λ o. named-place file start t ns s o x p) a d, refl))
+          (order-in order (λ o. place.placeOf file start t ns s o x p) (λ o. place-named file start t ns s o x p));
+      npy-element-bytes = λ file start t ns s order x p out count r out′ count′ h.
+          takes-in-c bytes-within file out order (λ o. elementBytes file start t ns s o x p out) (λ o. place.placeOf (length file) start t ns s o x p)
+          (λ o. bytes-after file start t ns s o x p out) (λ o. element-bytes-numbered file start t ns s o x p out) count r out′ count′ h;
+      npy-element-points = λ file start t ns s order x p out count r out′ count′ h.
+          takes-in-c points-within file out order (λ o. elementPoints file start t ns s o x p out) (λ o. place.placeOf (length file) start t ns s o x p)
+          (λ o. points-after file start t ns s o x p out) (λ o. element-points-numbered file start t ns s o x p out) count r out′ count′ h;
     }

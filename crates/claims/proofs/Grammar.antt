@@ -1,7 +1,9 @@
--- What is read does not depend on the reading that the contracts are stated with (specs/Grammar.antt): for each text one outcome keeps the promise.
-use mathlib.Core.Bool.{false}
-use Rattle.header.proofs.Outcomes.{any-reading, any-text-reading}
+-- Some reading keeps the promise, the literal's own; and for each text one outcome keeps it (specs/Grammar.antt).
+use Rattle.literal_grammar.specs.Nesting.{most-open}
+use Rattle.literal_grammar.proofs.Kept.{one-outcome-at}
+use Rattle.judge.specs.Judged.{reading}
+use Rattle.judge.proofs.Top.{reading-keeps}
 use Rattle.claims.specs.Grammar.{By-the-grammar}
 
 pub by-the-grammar : By-the-grammar
-by-the-grammar other keeps = record { read = any-reading other keeps false; read-held = any-reading other keeps; read-text = any-text-reading other keeps }
+by-the-grammar = record { some = (reading, reading-keeps); alike = λ one other k q text. one-outcome-at most-open text (one text) (other text) (k text) (q text) }

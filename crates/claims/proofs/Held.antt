@@ -3,21 +3,31 @@
 use Prim.Native.Nat.{ℕ, _<_, _≤_}
 use native.Mathlib.Omega.{arith}
 use mathlib.Core.Path.{_≡_, sym, ap, _∙_}
-use mathlib.Core.Bool.{true}
+use mathlib.Core.Bool.{true, false}
 use mathlib.Core.List.{List}
 use lib.ListN.{length, take}
 use lib.Seq.{length-take-le}
 use borrow.Author.Tests.{lt-ltb, le-ltb}
 use Rattle.counts.specs.Outcome.{Outcome, gives, refused, then, each, afterwards}
+use Rattle.refusal.specs.declared.Refusal.{Refusal}
+use Rattle.refusal.proofs.Names.{number-apart}
+use Rattle.counts.proofs.Apart.{refused-gives}
 use Rattle.counts.proofs.Holds.{Holds, holds-each, then-alike-held}
-use Rattle.record.specs.Prefix.{Prefix, dataStart, prefix, textOf, textHeld}
+use Rattle.record.specs.Prefix.{Prefix, dataStart, prefix, textHeld, textOf}
 use Rattle.record.specs.Rooms.{Lent, roomsOf}
 use Rattle.record.specs.Header as header
 use Rattle.record.proofs.Fronts.{prefix-front, front-enough}
 use Rattle.judge.specs.Judged.{reading}
-use Rattle.header.specs.Reads.{headerInfo, afterPrefix, heldInto}
+use Rattle.judge.proofs.Top.{reading-keeps}
+use Rattle.header.specs.declared.HeaderRead.{HeaderRead}
+use Rattle.header.specs.Reads.{headerInfo, answer, afterPrefix, heldInto}
+use Rattle.npy_codes.proofs.Named.{retold}
 use Rattle.claims.specs.Held.{Held-enough}
-use Rattle.claims.proofs.RoundTrips.{refused-by}
+use Rattle.claims.proofs.Readings.{read-held-tied, npy-read-held-tied}
+
+refused-by : (x : HeaderRead) → answer x ≡ refused 23 → x ≡ HeaderRead.Refused Refusal.Room
+refused-by (HeaderRead.Read h) a = refused-gives (sym a)
+refused-by (HeaderRead.Refused f) a = ap HeaderRead.Refused (number-apart f Refusal.Room cc)
 
 -- a part whose header ends within it
 module _ (part : List ℕ) (l : Lent) where
@@ -25,7 +35,7 @@ module _ (part : List ℕ) (l : Lent) where
   unfolding textHeld
   text-same p h = rw (textHeld, le-ltb (length part) (dataStart p) h)
 
-  held-same : Holds (λ p. dataStart p ≤ length part) (prefix part) → heldInto true part l ≡ header.headerInto reading part l
+  held-same : Holds (λ p. dataStart p ≤ length part) (prefix part) → heldInto true part l ≡ header.heldBy reading false part l
   held-same h =
       then-alike-held (λ p. dataStart p ≤ length part) (prefix part) (λ p. afterPrefix true part p l)
       (λ p. then (textOf p part) (λ s. then (header.recordIn reading s) (header.stored (roomsOf l) p))) h
@@ -41,7 +51,7 @@ module _ (k : ℕ) (file : List ℕ) (twelve : 12 ≤ k) (longer : k < length fi
   held-length : length (take k file) ≡ k
   held-length = length-take-le k file (omega arith)
 
-  front-within : ((p : Prefix) → prefix file ≡ gives p → dataStart p ≤ k) → (l : Lent) → heldInto true (take k file) l ≡ header.headerInto reading file l
+  front-within : ((p : Prefix) → prefix file ≡ gives p → dataStart p ≤ k) → (l : Lent) → heldInto true (take k file) l ≡ heldInto false file l
   front-within h l =
       let len = held-length in
       held-same (take k file) l
@@ -51,15 +61,37 @@ module _ (k : ℕ) (file : List ℕ) (twelve : 12 ≤ k) (longer : k < length fi
   front-past : (p : Prefix) → prefix file ≡ gives p → k < dataStart p → (l : Lent) → heldInto true (take k file) l ≡ refused 23
   front-past p e h l = let len = held-length in held-past (take k file) l p (prefix-front k file twelve ∙ e) (rw len h)
 
+-- ---- the claim
 pub held-enough : Held-enough
-held-enough k file l l′ x twelve longer h =
+held-enough =
     record {
-      within =
-          λ ends.
-          let same = front-within k file twelve longer ends l in
-          record { answered = h .answered ∙ ap (each headerInfo) same; after = h .after ∙ ap (λ (o : Outcome header.Header). afterwards header.holdingHeader o l) same };
-      past =
-          λ p e ends.
-          let same = front-past k file twelve longer p e ends l in
-          (refused-by x (h .answered ∙ ap (each headerInfo) same), h .after ∙ ap (λ (o : Outcome header.Header). afterwards header.holdingHeader o l) same);
+      read-held = λ k file l l′ x twelve longer h.
+          record {
+            within = λ ends.
+                let same = front-within k file twelve longer ends l in
+                read-held-tied false file l x l′
+                (record {
+                  answered = h .answered reading reading-keeps ∙ ap (each headerInfo) same;
+                  after = h .after reading reading-keeps ∙ ap (λ (o : Outcome header.Header). afterwards header.holdingHeader o l) same;
+                });
+            past = λ p e ends.
+                let same = front-past k file twelve longer p e ends l in (
+                  refused-by x (h .answered reading reading-keeps ∙ ap (each headerInfo) same),
+                  h .after reading reading-keeps ∙ ap (λ (o : Outcome header.Header). afterwards header.holdingHeader o l) same,
+                );
+          };
+      npy-read-held = λ k file l l′ said said′ r twelve longer h.
+          record {
+            within = λ ends.
+                let same = front-within k file twelve longer ends l in
+                npy-read-held-tied false file l said r l′ said′
+                (record {
+                  told = retold (ap (each headerInfo) same) (h .answered reading reading-keeps);
+                  rooms = h .after reading reading-keeps ∙ ap (λ (o : Outcome header.Header). afterwards header.holdingHeader o l) same;
+                });
+            past = λ p e ends.
+                let same = front-past k file twelve longer p e ends l in
+                let t = retold (ap (each headerInfo) same) (h .answered reading reading-keeps) in
+                (t .answered, h .after reading reading-keeps ∙ ap (λ (o : Outcome header.Header). afterwards header.holdingHeader o l) same, t .after);
+          };
     }

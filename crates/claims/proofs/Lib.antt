@@ -1,12 +1,17 @@
+pub mod Typed
+pub mod Readings
+pub mod Grammar
 pub mod Roomy
-pub mod Places
+mod Numbers
+pub mod Doors
+pub mod Limits
+pub mod Exact
+pub mod Found
 pub mod RoundTrips
-pub mod Refusals
-pub mod Exactly
+pub mod Places
 pub mod Held
+pub mod Accepted
+pub mod Refusals
 pub mod Beyond
 pub mod Edges
-mod Numbers
 pub mod Codes
-pub mod Grammar
-pub mod Exact

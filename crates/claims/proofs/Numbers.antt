@@ -60,8 +60,7 @@ use Rattle.counts.specs.Owes.{roomed}
 use Rattle.string_value.specs.Rooms.{readBytes, readPoints, writeBytes, writePoints}
 use Rattle.element.specs.Bytes.{runBytes}
 use Rattle.element.specs.Element.{elementBytes, elementPoints}
-use Rattle.judge.specs.Judged.{reading}
-use Rattle.header.specs.Reads.{afterPrefix, heldInto, textInto}
+use Rattle.record.specs.Header.{afterPrefixBy, heldBy, textBy}
 use Rattle.write.specs.Writes.{headerWritten}
 use Rattle.list_text.specs.Listing.{listing}
 use Rattle.list_record.specs.Answer.{listed}
@@ -291,9 +290,9 @@ value-numbered (got v p) = an-answer v
 value-numbered (fault p) = a-number (refl, refl)
 value-numbered (deep p) = a-number (refl, refl)
 
-in-numbered : (text : List ℕ) → Numbered (header.recordIn reading text)
+in-numbered : (reading : header.Reading) (text : List ℕ) → Numbered (header.recordIn reading text)
 unfolding header.recordIn
-in-numbered text =
+in-numbered reading text =
     then-numbered (utf8 text) _ (ill-numbered (firstIll text))
     (λ u. then-numbered (header.valueRead (reading text)) from-value.recordOf (value-numbered (reading text)) record-numbered)
 
@@ -329,19 +328,15 @@ unfolding textHeld
 held-numbered true p file = part-numbered 23 p file (refl, refl)
 held-numbered false p file = part-numbered 3 p file (refl, refl)
 
-behind-numbered : (text : List ℕ) (l : Lent) (p : Prefix) → Numbered (then (header.recordIn reading text) (header.stored (roomsOf l) p))
-behind-numbered text l p = then-numbered (header.recordIn reading text) (header.stored (roomsOf l) p) (in-numbered text) (stored-numbered (roomsOf l) p)
+pub held-header-numbered : (reading : header.Reading) (longer : Bool) (file : List ℕ) (l : Lent) → Numbered (heldBy reading longer file l)
+held-header-numbered reading longer file l =
+    then-numbered (prefix file) (λ p. afterPrefixBy reading longer file p (roomsOf l)) (prefix-numbered file)
+    (λ p. then-numbered (textHeld longer p file) _ (held-numbered longer p file)
+    (λ text. then-numbered (header.recordIn reading text) (header.stored (roomsOf l) p) (in-numbered reading text) (stored-numbered (roomsOf l) p)))
 
-pub held-header-numbered : (longer : Bool) (file : List ℕ) (l : Lent) → Numbered (heldInto longer file l)
-held-header-numbered longer file l =
-    then-numbered (prefix file) (λ p. afterPrefix longer file p l) (prefix-numbered file)
-    (λ p. then-numbered (textHeld longer p file) _ (held-numbered longer p file) (λ text. behind-numbered text l p))
-
-pub header-numbered : (file : List ℕ) (l : Lent) → Numbered (header.headerInto reading file l)
-header-numbered = held-header-numbered false
-
-pub text-numbered : (text : List ℕ) (l : Lent) → Numbered (textInto text l)
-text-numbered text l = then-numbered (header.recordIn reading text) _ (in-numbered text) (λ r. unless-numbered (tooSmall (roomsOf l) (needs r)) 23 (refl, refl) (an-answer r))
+pub text-numbered : (reading : header.Reading) (text : List ℕ) (l : Lent) → Numbered (textBy reading text l)
+text-numbered reading text l =
+    then-numbered (header.recordIn reading text) _ (in-numbered reading text) (λ r. unless-numbered (tooSmall (roomsOf l) (needs r)) 23 (refl, refl) (an-answer r))
 
 -- ---- a caller's record
 pub for-numbered : (order : ℕ) → Numbered (orderFor order)

@@ -1,39 +1,197 @@
--- Demand 3 (specs/Places.antt) holds for every file that `read` accepts: the record in the rooms is one that a reading gave, so the check accepts it
--- (Accepted.antt), and for such records crate place proves it.
-use Prim.Native.Nat.{ℕ}
-use mathlib.Core.Path.{_≡_, sym}
+-- Demand 3 (specs/Places.antt) holds of every file that is read: the record in the rooms is one that a reading gave, so the check accepts it, and for such records crate
+-- place shows that what is answered is document 01's formula, and crate dtype that by the formula each byte of the data area belongs to exactly one place.
+use Prim.Native.Nat.{ℕ, _+_, _≤_}
+use native.Mathlib.Omega.{arith}
+use mathlib.Core.Path.{_≡_, refl, sym, ap, _∙_}
+use mathlib.Core.Bool.{Bool, true, false, not}
 use mathlib.Core.List.{List}
-use lib.ListN.{length}
+use lib.ListN.{length, getD}
+use mathlib.Core.Logic.{_⊎_, inl, inr}
+use borrow.Author.Tests.{le-ltb, not-false}
+use Rattle.counts.specs.Outcome.{Outcome, gives, refused, then, each, unless, afterwards}
+use Rattle.counts.proofs.Holds.{unless-back, each-back}
+use Rattle.counts.proofs.OneOutcome.{pair-of}
 use Rattle.refusal.specs.declared.Refusal.{Refusal}
-use Rattle.counts.specs.Outcome.{gives}
-use Rattle.record.specs.Rooms.{Lent, roomsOf}
+use Rattle.type_str.specs.declared.TypeStr.{TypeStr}
+use Rattle.dtype.specs.declared.Order.{Order}
+use Rattle.dtype.specs.Entries.{hasObject}
+use Rattle.dtype.specs.PlainBytes.{plainBytes}
+use Rattle.dtype.specs.Shape.{inRange}
+use Rattle.dtype.specs.Record.{Record}
+use Rattle.dtype.specs.Paths.{plainAt, runOf, run}
+use Rattle.dtype.specs.Places.{dataBytes, place, Ask}
+use Rattle.dtype.proofs.Runs.{Belongs, Path-to}
+use Rattle.dtype.proofs.Items.{range-true}
+use Rattle.dtype.proofs.Paths.{path-plain}
+use Rattle.dtype.proofs.Places.{run-inside, owned, owned-once}
 use Rattle.check_record.specs.Checked.{checkedRecord}
+use Rattle.place_area.specs.declared.Run.{Run}
 use Rattle.place.specs.declared.Placed.{Placed}
-use Rattle.place.proofs.Demand.{demand-3}
+use Rattle.place.specs.Place.{runFrom, placed, placeOf}
+use Rattle.place.proofs.Placing.{place-given}
 use Rattle.place.proofs.Outcomes.{place-one}
-use Rattle.judge.specs.Judged.{reading}
-use Rattle.judge.proofs.Top.{reading-keeps}
-use Rattle.header.specs.declared.Header.{Header}
+use Rattle.place.proofs.Walks.{path-or-none, plain-path}
+use Rattle.place_item.proofs.Sums.{range-of}
 use Rattle.read_back.specs.Rooms.{tableIn, namesIn, shapeIn}
-use Rattle.claims.specs.Places.{Data-owned}
-use Rattle.read_back.proofs.Accepted.{read-checked}
-use Rattle.read_back.proofs.Rooms.{Found, read-found, checked-fronts}
+use Rattle.npy_codes.specs.Codes.{code, Tells}
+use Rattle.npy_codes.specs.Numbers.{orderNumber}
+use Rattle.npy_codes.specs.Values.{runValues}
+use Rattle.npy_codes.proofs.Named.{retold}
+use Rattle.claims.specs.Functions.{Place}
+use Rattle.claims.specs.InC.{Npy-place}
+use Rattle.claims.specs.Places.{Named-by, Owned, Data-owned, Data-owned-in-C}
+use Rattle.claims.proofs.Found.{told-value, order-back, read-was, npy-read-was, in-rooms, in-rooms-checked}
+use Rattle.claims.proofs.Numbers.{place-numbered}
 
-pub found-accepted : (file : List ℕ) (l : Lent) (h : Header) (l′ : Lent) (f : Found file l h l′)
-    → checkedRecord (tableIn (h .info) l′) (namesIn (h .info) l′) (shapeIn (h .info) l′) (h .info .order) ≡ gives (f .header-is .says)
-found-accepted file l h l′ f =
-    checked-fronts (f .header-is .says) (h .info) l′ (f .stands) (read-checked reading reading-keeps file (roomsOf l) (f .header-is) (f .given))
+-- ---- a path to a plain type, or 26
+plain-or : (r : Record) (p : List ℕ) → ((k : TypeStr) → plainAt (r .dtype) p ≡ gives k → ⊥) → plainAt (r .dtype) p ≡ refused 26
+plain-or r p f = go (path-or-none (r .dtype) p)
+  where
+    go : Path-to (r .dtype) p ⊎ (plainAt (r .dtype) p ≡ refused 26) → plainAt (r .dtype) p ≡ refused 26
+    go (inl g) = let k = path-plain (r .dtype) p g in absurd (f (k .0) (k .1))
+    go (inr e) = e
 
-pub data-owned : Data-owned
-data-owned file l l′ h x =
-    let f = read-found file l h l′ x in
-    let a = found-accepted file l h l′ f in
+run-is : (r : Record) (p : List ℕ) (k : TypeStr) → plainAt (r .dtype) p ≡ gives k → run (r .dtype) p ≡ plainBytes k
+run-is r p k e = ap (λ (c : Outcome TypeStr). runOf c) e
+
+-- ---- past 24 and 25 the outcome is document 01's formula, or 26
+abbrev formula : (start : ℕ) → Record → (x p : List ℕ) → Outcome Run
+formula start r x p = unless (not (inRange (r .shape) x)) 26 (each (λ k. runFrom (place start r x p) k) (plainAt (r .dtype) p))
+
+by-formula : (file start : ℕ) (t ns s : List ℕ) (o : Order) (r : Record) → checkedRecord t ns s o ≡ gives r → hasObject (r .dtype) ≡ false → start + dataBytes r ≤ file
+    → (x p : List ℕ) → placeOf file start t ns s o x p ≡ formula start r x p
+unfolding placed
+by-formula file start t ns s o r accepted no-object long x p =
+    sym (place-given file start t ns s o x p r accepted) ∙ simp (no-object, le-ltb file (start + dataBytes r) long)
+
+formula-named : (start : ℕ) (r : Record) (x p : List ℕ) (k : TypeStr) → inRange (r .shape) x ≡ true → plainAt (r .dtype) p ≡ gives k
+    → formula start r x p ≡ gives (runFrom (place start r x p) k)
+formula-named start r x p k g e = rw (g, e)
+
+formula-none : (start : ℕ) (r : Record) (x p : List ℕ) → ((k : TypeStr) → inRange (r .shape) x ≡ true → plainAt (r .dtype) p ≡ gives k → ⊥) → formula start r x p ≡ refused 26
+formula-none start r x p f = go (inRange (r .shape) x) refl
+  where
+    go : (b : Bool) → inRange (r .shape) x ≡ b → unless (not b) 26 (each (λ k. runFrom (place start r x p) k) (plainAt (r .dtype) p)) ≡ refused 26
+    go true g = ap (each (λ k. runFrom (place start r x p) k)) (plain-or r p (λ k e. f k g e))
+    go false g = refl
+
+named-formula : (start : ℕ) (r : Record) (x p : List ℕ) (u : Run) → formula start r x p ≡ gives u
+    → (k : TypeStr) × (inRange (r .shape) x ≡ true) × (plainAt (r .dtype) p ≡ gives k) × (runFrom (place start r x p) k ≡ u)
+named-formula start r x p u e =
+    let (ranged, by-path) = unless-back (not (inRange (r .shape) x)) 26 _ u e in
+    let (k, leads, is) = each-back (λ k. runFrom (place start r x p) k) (plainAt (r .dtype) p) u by-path in
+    (k, not-false (inRange (r .shape) x) ranged, leads, is)
+
+-- ---- a function that returns the formula's outcome owns the data area
+-- how the calls of the function and the outcomes go together
+record Answers {Y : Type 0} (Call : (x p : List ℕ) → Y → Type 0) (at : Run → Y) (nowhere : Y) (outcome : (x p : List ℕ) → Outcome Run) : Type 0 where
+  run-is : (x p : List ℕ) (y : Y) (u : Run) → Call x p y → outcome x p ≡ gives u → y ≡ at u
+  none-is : (x p : List ℕ) (y : Y) → Call x p y → outcome x p ≡ refused 26 → y ≡ nowhere
+  is-run : (x p : List ℕ) (u : Run) → outcome x p ≡ gives u → Call x p (at u)
+  same-run : (x p : List ℕ) (u : Run) → Call x p (at u) → (v : Run) × (outcome x p ≡ gives v) × (v .first .0 ≡ u .first .0) × (v .len .0 ≡ u .len .0)
+
+module _ {Y : Type 0} (Call : (x p : List ℕ) → Y → Type 0) (at : Run → Y) (nowhere : Y) (outcome : (x p : List ℕ) → Outcome Run) (start : ℕ) (r : Record)
+    (answers : Answers Call at nowhere outcome) (is : (x p : List ℕ) → outcome x p ≡ formula start r x p) where
+  belongs : (b : ℕ) (a : Ask) → Named-by Call at nowhere b a → Belongs start r b a
+  belongs b a w =
+      let (u, e, first, len) = answers .same-run (a .index) (a .path) (w .run) (w .returned) in
+      let (k, g, leads, same) = named-formula start r (a .index) (a .path) u (sym (is (a .index) (a .path)) ∙ e) in
+      let at-first = ap (λ (q : Run). q .first .0) same in
+      let at-len = ap (λ (q : Run). q .len .0) same in
+      record {
+        in-range = range-of (r .shape) (a .index) g;
+        is-path = plain-path (r .dtype) (a .path) k leads;
+        in-run = omega (arith, w .in-run, run-is r (a .path) k leads, len, at-len);
+        is-byte = omega (arith, w .is-byte, first, at-first);
+      }
+
+  named : (b : ℕ) (a : Ask) → Belongs start r b a → Named-by Call at nowhere b a
+  named b a w =
+      let k = path-plain (r .dtype) (a .path) (w .is-path) in
+      record {
+        run = runFrom (place start r (a .index) (a .path)) (k .0);
+        returned = answers .is-run (a .index) (a .path) _ (is (a .index) (a .path) ∙ formula-named start r (a .index) (a .path) (k .0) (range-true (r .shape) (a .index) (w .in-range)) (k .1));
+        in-run = omega (arith, w .in-run, run-is r (a .path) (k .0) (k .1));
+        is-byte = w .is-byte;
+      }
+
+  area-owned : Owned Call at nowhere start r
+  area-owned =
+      record {
+        by-formula = λ x p k g e y c. answers .run-is x p y _ c (is x p ∙ formula-named start r x p k g e);
+        inside = λ x p k g e.
+            (omega arith, omega (arith, run-inside start r x p (range-of (r .shape) x g) (plain-path (r .dtype) p k e), run-is r p k e));
+        elsewhere = λ x p f y c. answers .none-is x p y c (is x p ∙ formula-none start r x p f);
+        each-byte = λ b g. let a = owned start r b g in (a .0, named (start + b) (a .0) (a .1));
+        once = λ b a a′ w w′. owned-once start r b a a′ (belongs b a w) (belongs b a′ w′);
+      }
+
+-- ---- `place::place`
+place-answers : (file start : ℕ) (t ns s : List ℕ) (o : Order)
+    → Answers (Place file start t ns s o) Placed.At (Placed.Refused Refusal.Nowhere) (placeOf file start t ns s o)
+place-answers file start t ns s o =
     record {
-      says = f .header-is .says;
-      stands = f .stands;
-      accepted = a;
-      data-owned =
-          demand-3 (length file) (h .start .0) (tableIn (h .info) l′) (namesIn (h .info) l′) (shapeIn (h .info) l′) (h .info .order) (f .header-is .says) a;
-      returned = λ y p r u h e. place-one _ _ _ _ _ _ y p r (Placed.At u) h (sym e);
-      returned-26 = λ y p r h e. place-one _ _ _ _ _ _ y p r (Placed.Refused Refusal.Nowhere) h (sym e);
+      run-is = λ x p y u c e. place-one file start t ns s o x p y (Placed.At u) c (sym e);
+      none-is = λ x p y c e. place-one file start t ns s o x p y (Placed.Refused Refusal.Nowhere) c (sym e);
+      is-run = λ x p u e. sym e;
+      same-run = λ x p u c. (u, sym c, refl, refl);
     }
+
+-- ---- `npy_place`, with the number of an order
+number-at : (k : ℕ) (ns ms : List ℕ) → ns ≡ ms → getD ns k 0 ≡ getD ms k 0
+number-at k ns ms e = ap (λ (l : List ℕ). getD l k 0) e
+
+module _ (file start : ℕ) (t ns s : List ℕ) (o : Order) (room : List ℕ) where
+  told-place : (x p : List ℕ) (r : ℕ) (room′ : List ℕ) → Npy-place file start t ns s (orderNumber o) x p room r room′
+      → Tells runValues (placeOf file start t ns s o x p) room r room′
+  told-place x p r room′ c = retold (ap (λ (g : Outcome Order). then g (λ o. placeOf file start t ns s o x p)) (order-back o)) c
+
+  place-told : (x p : List ℕ) (r : ℕ) (room′ : List ℕ) → Tells runValues (placeOf file start t ns s o x p) room r room′
+      → Npy-place file start t ns s (orderNumber o) x p room r room′
+  place-told x p r room′ c = retold (sym (ap (λ (g : Outcome Order). then g (λ o. placeOf file start t ns s o x p)) (order-back o))) c
+
+  npy-place-answers : Answers {Y = ℕ × List ℕ} (λ x p y. Npy-place file start t ns s (orderNumber o) x p room (y .0) (y .1)) (λ u. (0, runValues u)) (26, room) (placeOf file start t ns s o)
+  npy-place-answers =
+      record {
+        run-is = λ x p y u c e.
+            let h = told-place x p (y .0) (y .1) c in
+            pair-of (h .answered ∙ ap code e) (h .after ∙ ap (λ (q : Outcome Run). afterwards (λ a old. runValues a) q room) e);
+        none-is = λ x p y c e.
+            let h = told-place x p (y .0) (y .1) c in
+            pair-of (h .answered ∙ ap code e) (h .after ∙ ap (λ (q : Outcome Run). afterwards (λ a old. runValues a) q room) e);
+        is-run = λ x p u e. place-told x p 0 (runValues u) (record { answered = sym (ap code e); after = sym (ap (λ (q : Outcome Run). afterwards (λ a old. runValues a) q room) e) });
+        same-run = λ x p u c.
+            let (v, e, same) = told-value (placeOf file start t ns s o x p) (place-numbered file start t ns s o x p) (told-place x p 0 (runValues u) c) in
+            (v, e, sym (number-at 0 (runValues u) (runValues v) same), sym (number-at 1 (runValues u) (runValues v) same));
+      }
+
+-- DEMAND 3
+pub data-owned : Data-owned
+data-owned file l l′ x i h e =
+    let w = read-was file l l′ x i h e in
+    let o = i .info .order in
+    record {
+      says = w .header-is .says;
+      holds = in-rooms file l l′ i w;
+      owned = λ no-object long.
+          area-owned _ _ _ (placeOf (length file) (i .data-start) (tableIn (i .info) l′) (namesIn (i .info) l′) (shapeIn (i .info) l′) o) (i .data-start) (w .header-is .says)
+          (place-answers (length file) (i .data-start) (tableIn (i .info) l′) (namesIn (i .info) l′) (shapeIn (i .info) l′) o)
+          (by-formula (length file) (i .data-start) (tableIn (i .info) l′) (namesIn (i .info) l′) (shapeIn (i .info) l′) o (w .header-is .says) (in-rooms-checked file l l′ i w) no-object long);
+    }
+
+pub data-owned-in-c : Data-owned-in-C
+data-owned-in-c file l l′ said said′ h =
+    let (i, v, w) = npy-read-was file l l′ said said′ h in
+    let o = i .info .order in (
+      i,
+      v,
+      λ room.
+          record {
+            says = w .header-is .says;
+            holds = in-rooms file l l′ i w;
+            owned = λ no-object long.
+                area-owned _ _ _ (placeOf (length file) (i .data-start) (tableIn (i .info) l′) (namesIn (i .info) l′) (shapeIn (i .info) l′) o) (i .data-start) (w .header-is .says)
+                (npy-place-answers (length file) (i .data-start) (tableIn (i .info) l′) (namesIn (i .info) l′) (shapeIn (i .info) l′) o room)
+                (by-formula (length file) (i .data-start) (tableIn (i .info) l′) (namesIn (i .info) l′) (shapeIn (i .info) l′) o (w .header-is .says) (in-rooms-checked file l l′ i w) no-object long);
+          },
+    )

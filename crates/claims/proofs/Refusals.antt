@@ -12,6 +12,7 @@ use Rattle.shape.specs.Count as strides
 use Rattle.record.specs.Rooms.{holding}
 use Rattle.record.specs.Header as record-of-file
 use Rattle.judge.specs.Judged.{reading}
+use Rattle.judge.proofs.Top.{reading-keeps}
 use Rattle.header.specs.Reads as header
 use Rattle.claims.specs.Refusals.{Unchanged}
 
@@ -23,19 +24,22 @@ strides-left new old k (refused n) e = refl
 pub unchanged : Unchanged
 unchanged =
     record {
-      read = λ file l x l′ k h e. h .after ∙ afterwards-refused record-of-file.holdingHeader header.headerInfo l (record-of-file.headerInto reading file l) k (sym (h .answered) ∙ e);
-      read-held = λ longer file l x l′ k h e. h .after ∙ afterwards-refused record-of-file.holdingHeader header.headerInfo l (header.heldInto longer file l) k (sym (h .answered) ∙ e);
-      read-text = λ text l x l′ k h e. h .after ∙ afterwards-refused holding header.infoOf l (header.textInto text l) k (sym (h .answered) ∙ e);
-      write-header = λ t ns s o room w room′ k h e. owes-unchanged _ room _ room′ k h e;
-      list = λ v start t ns s o room x room′ k h e. owes-unchanged _ room _ room′ k h e;
-      report = λ file room x room′ k h e. owes-unchanged _ room _ room′ k h e;
-      read-bytes = λ t run room x room′ k h e. owes-unchanged _ room _ room′ k h e;
-      read-points = λ t run room x room′ k h e. owes-unchanged _ room _ room′ k h e;
-      write-bytes = λ t value room x room′ k h e. owes-unchanged _ room _ room′ k h e;
-      write-points = λ t value room x room′ k h e. owes-unchanged _ room _ room′ k h e;
-      element-bytes = λ file start t ns s o x p room y room′ k h e. owes-unchanged _ room _ room′ k h e;
-      element-points = λ file start t ns s o x p room y room′ k h e. owes-unchanged _ room _ room′ k h e;
-      print = λ t room x room′ k h e. owes-unchanged _ room _ room′ k h e;
-      strides = λ o s out x out′ k h e. h .out-after ∙ strides-left (shape.strides o s) out k (strides.stridesCount o s (length out)) (sym (h .answered) ∙ e);
-      encode = λ value room x room′ k h e. owes-unchanged _ room _ room′ k h e;
+      read-held = λ longer file l x l′ k h e.
+          h .after reading reading-keeps
+          ∙ afterwards-refused record-of-file.holdingHeader header.headerInfo l (header.heldInto longer file l) k (sym (h .answered reading reading-keeps) ∙ e);
+      read-text = λ text l x l′ k h e.
+          h .after reading reading-keeps
+          ∙ afterwards-refused holding header.infoOf l (record-of-file.textBy reading text l) k (sym (h .answered reading reading-keeps) ∙ e);
+      write-header = λ t ns s o out w out′ k h e. owes-unchanged _ out _ out′ k (h .writes) e;
+      list = λ v start t ns s o out x out′ k h e. owes-unchanged _ out _ out′ k h e;
+      report = λ file out x out′ k h e. owes-unchanged _ out _ out′ k (h reading reading-keeps) e;
+      read-bytes = λ run t out x out′ k h e. owes-unchanged _ out _ out′ k h e;
+      read-points = λ run t out x out′ k h e. owes-unchanged _ out _ out′ k h e;
+      write-bytes = λ t value out x out′ k h e. owes-unchanged _ out _ out′ k h e;
+      write-points = λ t value out x out′ k h e. owes-unchanged _ out _ out′ k h e;
+      element-bytes = λ file start t ns s o x p out y out′ k h e. owes-unchanged _ out _ out′ k h e;
+      element-points = λ file start t ns s o x p out y out′ k h e. owes-unchanged _ out _ out′ k h e;
+      print = λ t out x out′ k h e. owes-unchanged _ out _ out′ k h e;
+      strides = λ s o out x out′ k h e. h .out-after ∙ strides-left (shape.strides o s) out k (strides.stridesCount o s (length out)) (sym (h .answered) ∙ e);
+      encode = λ value out x out′ k h e. owes-unchanged _ out _ out′ k h e;
     }

@@ -1,23 +1,21 @@
--- Both round trips of demand 2 (specs/RoundTrips.antt), for whatever satisfies the contracts of `write_header` and `read`. What was written is the header of the record
--- that the check accepted, which is sound (Accepted.antt); and crate record shows that the bytes of a sound record are read back. What was read is sound, and the
--- check accepts it: so it is written, apart from 4 and 28, and the same holds for its bytes.
+-- Both round trips of demand 2 (specs/RoundTrips.antt), of the Rattle functions and of the C functions. What was written is the header of the record that the check
+-- accepted, which is sound; and crate record shows that the bytes of a sound record are read back. What was read is sound, and the check accepts it: so it
+-- is written, apart from 4 and 28, and the same holds for its bytes.
 use Prim.Native.Nat.{ℕ}
 use native.Mathlib.Omega.{arith}
 use mathlib.Core.Path.{_≡_, refl, sym, ap, subst, _∙_}
 use mathlib.Core.List.{List, _++_}
 use mathlib.Core.Bool.{Bool, true, false, not}
-use mathlib.Core.Logic.{_⊎_, inl, inr}
 use lib.Dec.{ltb}
 use lib.ListN.{length, take, drop}
 use lib.Seq.{take-append-seam}
-use Rattle.refusal.specs.Answers.{bytesAnswer}
-use Rattle.counts.specs.Outcome.{Outcome, gives, refused, each, unless, afterwards}
+use borrow.Author.Tests.{lt-ltb, le-ltb}
+use Rattle.counts.specs.Outcome.{Outcome, gives, refused, then, each, unless, afterwards}
 use Rattle.counts.specs.Front.{atFront}
 use Rattle.counts.specs.Owes.{roomed}
+use Rattle.counts.proofs.Owes.{roomed-whole, roomed-short}
 use Rattle.counts.proofs.Holds.{Holds, then-any, unless-holds, holds-of, then-back, each-back}
-use Rattle.refusal.specs.declared.Refusal.{Refusal}
-use Rattle.refusal.proofs.Names.{number-apart}
-use Rattle.refusal.proofs.Answers.{bytes-one}
+use Rattle.refusal.specs.Answers.{bytesAnswer}
 use Rattle.literal_grammar.specs.Print.{valueOf}
 use Rattle.dtype.specs.declared.Order.{Order}
 use Rattle.dtype.specs.Limits.{limited}
@@ -25,27 +23,41 @@ use Rattle.dtype.specs.Record.{Record, table, names}
 use Rattle.record.specs.Layout.{headerLayout}
 use Rattle.record.specs.Prefix.{most-text}
 use Rattle.record.specs.Within.{within}
-use Rattle.record.specs.Rooms.{needs, tooSmall, Lent, roomsOf, holding}
+use Rattle.record.specs.Rooms.{needs, tooSmall, Lent, roomsOf}
 use Rattle.record.specs.Header as header
 use Rattle.record.specs.File.{textLength, fileOf, headerLength}
 use Rattle.record.specs.Writing.{writing}
+use Rattle.record.specs.Sound.{Small}
 use Rattle.record.proofs.Sound.{Sound}
 use Rattle.record.proofs.RoundTrips.{headerFor, file-whole, written-read, read-readable, read-written}
 use Rattle.check_record.specs.Checked.{checkedRecord}
 use Rattle.check_record.proofs.Accepts.{accepts-valid}
 use Rattle.judge.specs.Judged.{reading}
 use Rattle.judge.proofs.Top.{reading-keeps}
-use Rattle.header.specs.declared.Header.{Header}
-use Rattle.header.specs.declared.HeaderRead.{HeaderRead}
-use Rattle.header.specs.Reads.{HeaderInfo, headerInfo, headerIs, answer, Reads}
-use Rattle.refusal.specs.declared.BytesAnswer.{BytesAnswer}
-use Rattle.write.specs.Writes.{headerWritten, WritesHeader}
+use Rattle.header.specs.Reads.{HeaderInfo, headerInfo, answer, heldInto}
+use Rattle.write.specs.Writes.{headerWritten}
 use Rattle.read_back.specs.Rooms.{tableIn, namesIn, shapeIn}
-use Rattle.claims.specs.RoundTrips.{Gives, Comes-back, Written-read, Read-written}
 use Rattle.read_back.proofs.Accepted.{valid-sound}
-use Rattle.read_back.proofs.Rooms.{stands-by, read-found}
+use Rattle.read_back.proofs.Rooms.{stands-by}
+use Rattle.npy_codes.specs.Codes.{alone}
+use Rattle.npy_codes.specs.Numbers.{orderFor}
+use Rattle.npy_codes.specs.Values.{headerValues}
+use Rattle.npy_codes.proofs.Named.{retold}
+use Rattle.claims.specs.Doors.{Door, in-rattle, in-c}
+use Rattle.claims.specs.RoundTrips.{
+  Comes-back,
+  Read-back,
+  Npy-read-back,
+  Written-read,
+  Written-read-in-C,
+  Goes-again,
+  Read-written,
+  Read-written-in-C,
+}
+use Rattle.claims.proofs.Doors.{c-returned}
+use Rattle.claims.proofs.Found.{told-value, order-named, order-back, read-was, npy-read-was, in-rooms, by-whole, in-rooms-checked}
+use Rattle.claims.proofs.Numbers.{each-numbered, then-numbered, for-numbered, header-written-numbered}
 use Rattle.claims.proofs.Roomy.{roomy-fits, fits-roomy}
-use Rattle.claims.proofs.Places.{found-accepted}
 
 -- ---- what was written is the header of the record that was accepted
 writing-whole : (r : Record) (room : List ℕ) → Holds (λ b. b ≡ fileOf r) (writing r room)
@@ -56,128 +68,170 @@ writing-whole r room =
     (λ a. unless-holds (λ b. b ≡ fileOf r) (ltb most-text (textLength r)) 4 _
     (λ b. unless-holds (λ b. b ≡ fileOf r) (ltb (length room) (length (fileOf r))) 28 (gives (fileOf r)) (λ c. refl))))
 
-record Wrote (t ns s : List ℕ) (o : Order) (room : List ℕ) (n : ℕ) (room′ : List ℕ) : Type 0 where
-  says : Record
-  accepted : checkedRecord t ns s o ≡ gives says
-  writes : writing says room ≡ gives (fileOf says)
-  long : headerLength says ≡ n
-  bytes : take n room′ ≡ fileOf says
+front-taken : (bytes room : List ℕ) → take (length bytes) (atFront bytes room) ≡ bytes
+front-taken bytes room = take-append-seam bytes (drop (length bytes) room)
 
-wrote : (t ns s : List ℕ) (o : Order) (room : List ℕ) (n : ℕ) (room′ : List ℕ) → WritesHeader t ns s o room (BytesAnswer.Is (record { 0 = n })) room′ → Wrote t ns s o room n room′
-unfolding headerWritten
-wrote t ns s o room n room′ w =
-    let (bytes, is, len) = each-back length (headerWritten t ns s o room) n (sym (w .answered)) in
-    let (r, accepted, of-record) = then-back (checkedRecord t ns s o) _ bytes is in
-    let same : bytes ≡ fileOf r = holds-of (λ b. b ≡ fileOf r) of-record (writing-whole r room) in
-    let held : room′ ≡ atFront bytes room = w .room-after ∙ ap (λ (y : Outcome (List ℕ)). afterwards atFront y room) is in
-    record {
-      says = r;
-      accepted = accepted;
-      writes = of-record ∙ ap gives same;
-      long = sym (file-whole r) ∙ ap length (sym same) ∙ len;
-      bytes = ap (take n) held ∙ ap (λ (k : ℕ). take k (bytes ++ drop (length bytes) room)) (sym len) ∙ take-append-seam bytes (drop (length bytes) room) ∙ same;
-    }
-
--- ---- a result from its outcome
-pub refused-by : (x : HeaderRead) → answer x ≡ refused 23 → x ≡ HeaderRead.Refused Refusal.Room
-refused-by (HeaderRead.Read h) a = absurd (let z : _≡_ {A = ℕ} 0 1 = cc in omega arith)
-refused-by (HeaderRead.Refused f) a = ap HeaderRead.Refused (number-apart f Refusal.Room cc)
-
-module _ (r : Record) (n : ℕ) (l l′ : Lent) (x : HeaderRead) (start : headerLength r ≡ n) where
-  given-by : answer x ≡ gives (headerInfo (headerFor r)) → l′ ≡ holding r l → Gives (table (r .dtype)) (names (r .dtype)) (r .shape) (r .order) n x l′
-  given-by = go x refl
-    where
-      go : (y : HeaderRead) → x ≡ y → answer y ≡ gives (headerInfo (headerFor r)) → l′ ≡ holding r l → Gives (table (r .dtype)) (names (r .dtype)) (r .shape) (r .order) n x l′
-      go (HeaderRead.Read h) e a b =
-          let same : headerIs h ≡ headerInfo (headerFor r) = cc in
-          record {
-            header = h;
-            is = e;
-            starts = ap (λ (t : HeaderInfo). t .data-start) same ∙ start;
-            stands = stands-by r l l′ (h .info) (ap (λ (t : HeaderInfo). t .info) same) b;
-          }
-      go (HeaderRead.Refused f) e a b = absurd (let z : _≡_ {A = ℕ} 0 1 = cc in omega arith)
-
-  by-room : (o : Outcome header.Header) → o ≡ unless (tooSmall (roomsOf l) (needs r)) 23 (gives (headerFor r)) → answer x ≡ each headerInfo o → l′ ≡ afterwards header.holdingHeader o l
-      → Comes-back (table (r .dtype)) (names (r .dtype)) (r .shape) (r .order) n l x l′
-  by-room o e a b = go (tooSmall (roomsOf l) (needs r)) refl e
+-- ---- the bytes of a sound record are read back
+module _ {R : Type 0} (door : Door HeaderInfo R) (r : Record) (l l′ : Lent) (y : R) where
+  comes-back : (o : Outcome header.Header) → o ≡ unless (tooSmall (roomsOf l) (needs r)) 23 (gives (headerFor r)) → y ≡ door .returned (each headerInfo o)
+      → l′ ≡ afterwards header.holdingHeader o l → Comes-back door (table (r .dtype)) (names (r .dtype)) (r .shape) (r .order) (length (fileOf r)) l y l′
+  comes-back o e a b = go (tooSmall (roomsOf l) (needs r)) refl e
     where
       go : (c : Bool) → tooSmall (roomsOf l) (needs r) ≡ c → o ≡ unless c 23 (gives (headerFor r))
-          → Comes-back (table (r .dtype)) (names (r .dtype)) (r .shape) (r .order) n l x l′
+          → Comes-back door (table (r .dtype)) (names (r .dtype)) (r .shape) (r .order) (length (fileOf r)) l y l′
       go true small k =
           record {
-            roomy = λ h. absurd (let y = sym small ∙ roomy-fits r l h in let z : _≡_ {A = ℕ} 0 1 = cc in omega arith);
-            no-room = λ h. (refused-by x (a ∙ ap (each headerInfo) k), b ∙ ap (λ (y : Outcome header.Header). afterwards header.holdingHeader y l) k);
+            roomy = λ h. absurd (let z = sym small ∙ roomy-fits r l h in let w : _≡_ {A = ℕ} 0 1 = cc in omega arith);
+            no-room = λ h. (a ∙ ap (λ (q : Outcome header.Header). door .returned (each headerInfo q)) k, b ∙ ap (λ (q : Outcome header.Header). afterwards header.holdingHeader q l) k);
           }
       go false fits k =
           record {
-            roomy = λ h. given-by (a ∙ ap (each headerInfo) k) (b ∙ ap (λ (y : Outcome header.Header). afterwards header.holdingHeader y l) k);
+            roomy = λ h.
+                record {
+                  header = headerInfo (headerFor r);
+                  is = a ∙ ap (λ (q : Outcome header.Header). door .returned (each headerInfo q)) k;
+                  starts = sym (file-whole r);
+                  holds = stands-by r l l′ (headerInfo (headerFor r) .info) refl (b ∙ ap (λ (q : Outcome header.Header). afterwards header.holdingHeader q l) k);
+                };
             no-room = λ h. absurd (h (fits-roomy r l fits));
           }
 
--- a sound record's bytes come back
-sound-back : (r : Record) → Sound r → (room rest : List ℕ) (n : ℕ) → writing r room ≡ gives (fileOf r) → headerLength r ≡ n → (l l′ : Lent) (x : HeaderRead)
-    → Reads (fileOf r ++ rest) l x l′ → Comes-back (table (r .dtype)) (names (r .dtype)) (r .shape) (r .order) n l x l′
-sound-back r sound room rest n e start l l′ x reads =
-    by-room r n l l′ x start (header.headerInto reading (fileOf r ++ rest) l) (written-read reading reading-keeps r sound room (fileOf r) e rest (roomsOf l)) (reads .answered) (reads .after)
+module _ (r : Record) (sound : Sound r) (room : List ℕ) (e : writing r room ≡ gives (fileOf r)) where
+  sound-read : (rest : List ℕ) (l : Lent) → heldInto false (fileOf r ++ rest) l ≡ unless (tooSmall (roomsOf l) (needs r)) 23 (gives (headerFor r))
+  sound-read rest l = written-read reading reading-keeps r sound room (fileOf r) e rest (roomsOf l)
 
--- .. in the caller's own words
-caller-back : (t ns s room room′ rest : List ℕ) (o : Order) (n : ℕ) (l l′ : Lent) (x : HeaderRead) → (w : Wrote t ns s o room n room′) → Sound (w .says)
-    → t ≡ table (w .says .dtype) → ns ≡ names (w .says .dtype) → s ≡ w .says .shape → o ≡ w .says .order → Reads (take n room′ ++ rest) l x l′ → Comes-back t ns s o n l x l′
-caller-back t ns s room room′ rest o n l l′ x w sound et en es eo reads =
-    let r = w .says in
-    rw (et, en, es, eo) (sound-back r sound room rest n (w .writes) (w .long) l l′ x (subst (λ (file : List ℕ). Reads (file ++ rest) l x l′) (w .bytes) reads))
+  sound-back : Read-back (fileOf r) (table (r .dtype)) (names (r .dtype)) (r .shape) (r .order)
+  sound-back rest l l′ x h =
+      comes-back in-rattle r l l′ (answer x) (heldInto false (fileOf r ++ rest) l) (sound-read rest l) (h .answered reading reading-keeps) (h .after reading reading-keeps)
+
+  npy-sound-back : Npy-read-back (fileOf r) (table (r .dtype)) (names (r .dtype)) (r .shape) (r .order)
+  npy-sound-back rest l l′ said said′ c h =
+      comes-back (in-c headerValues said) r l l′ (c, said′) (heldInto false (fileOf r ++ rest) l) (sound-read rest l) (c-returned (h .answered reading reading-keeps))
+      (h .after reading reading-keeps)
+
+-- ---- in the caller's own words
+pub record Wrote (t ns s : List ℕ) (o : Order) (room : List ℕ) (n : ℕ) (room′ : List ℕ) : Type 0 where
+  pub says : Record
+  pub table-is : t ≡ table (says .dtype)
+  pub names-are : ns ≡ names (says .dtype)
+  pub shape-is : s ≡ says .shape
+  pub order-is : o ≡ says .order
+  pub sound : Sound says
+  pub writes : writing says room ≡ gives (fileOf says)
+  pub long : length (fileOf says) ≡ n
+  pub bytes : take n room′ ≡ fileOf says
+
+wrote : (t ns s : List ℕ) (o : Order) (room bytes : List ℕ) (n : ℕ) (room′ : List ℕ) → Small t → Small s → headerWritten t ns s o room ≡ gives bytes → length bytes ≡ n
+    → room′ ≡ atFront bytes room → Wrote t ns s o room n room′
+unfolding headerWritten
+wrote t ns s o room bytes n room′ small-t small-s e len after =
+    let (r, accepted, of-record) = then-back (checkedRecord t ns s o) (λ r. writing r room) bytes e in
+    let (d, is, valid) = accepts-valid t ns s o r accepted in
+    let dtype-is = ap (λ (q : Record). q .dtype) (sym is) in
+    let same : bytes ≡ fileOf r = holds-of (λ b. b ≡ fileOf r) of-record (writing-whole r room) in
+    record {
+      says = r;
+      table-is = valid .table-is ∙ ap table dtype-is;
+      names-are = valid .names-are ∙ ap names dtype-is;
+      shape-is = ap (λ (q : Record). q .shape) (sym is);
+      order-is = ap (λ (q : Record). q .order) (sym is);
+      sound = subst Sound (sym is) (valid-sound t ns s o d valid small-t small-s);
+      writes = of-record ∙ ap gives same;
+      long = ap length (sym same) ∙ len;
+      bytes = ap (take n) after ∙ ap (λ (k : ℕ). take k (atFront bytes room)) (sym len) ∙ front-taken bytes room ∙ same;
+    }
+
+module _ (t ns s : List ℕ) (o : Order) (room : List ℕ) (n : ℕ) (room′ : List ℕ) (w : Wrote t ns s o room n room′) where
+  taken-length : length (take n room′) ≡ n
+  taken-length = ap length (w .bytes) ∙ w .long
+
+  own-back : Read-back (take n room′) t ns s o
+  own-back = rw (w .table-is, w .names-are, w .shape-is, w .order-is, w .bytes) (sound-back (w .says) (w .sound) room (w .writes))
+
+  npy-own-back : Npy-read-back (take n room′) t ns s o
+  npy-own-back = rw (w .table-is, w .names-are, w .shape-is, w .order-is, w .bytes) (npy-sound-back (w .says) (w .sound) room (w .writes))
 
 -- WHAT WAS WRITTEN IS READ BACK
 pub written-back : Written-read
-written-back t ns s room room′ rest o n l l′ x small-t small-s w reads =
-    let y = wrote t ns s o room n room′ w in
-    let (d, is, valid) = accepts-valid t ns s o (y .says) (y .accepted) in
-    let sound : Sound (y .says) = subst Sound (sym is) (valid-sound t ns s o d valid small-t small-s) in
-    let dtype-is : d ≡ y .says .dtype = ap (λ (r : Record). r .dtype) (sym is) in
-    caller-back t ns s room room′ rest o n l l′ x y sound (valid .table-is ∙ ap table dtype-is) (valid .names-are ∙ ap names dtype-is) (ap (λ (r : Record). r .shape) (sym is))
-    (ap (λ (r : Record). r .order) (sym is)) reads
+written-back t ns s o out out′ n h =
+    let (bytes, e, len) = each-back length (headerWritten t ns s o out) n (sym (h .writes .answered)) in
+    let w =
+    wrote t ns s o out bytes n out′ (h .small-table) (h .small-shape) e len (h .writes .room-after ∙ ap (λ (y : Outcome (List ℕ)). afterwards atFront y out) e) in
+    (taken-length t ns s o out n out′ w, own-back t ns s o out n out′ w)
 
--- ---- what was read
-module _ (t ns s : List ℕ) (o : Order) (room : List ℕ) (w : BytesAnswer) (room′ : List ℕ) (v : WritesHeader t ns s o room w room′) where
-  told-as : (u : BytesAnswer) → each length (headerWritten t ns s o room) ≡ bytesAnswer u → w ≡ u
-  told-as u e = bytes-one (bytesAnswer u) w u (v .answered ∙ e) refl
+pub written-back-in-c : Written-read-in-C
+written-back-in-c t ns s order out out′ count n h =
+    let put = then (orderFor order) (λ o. headerWritten t ns s o out) in
+    let numbered = then-numbered (orderFor order) (λ o. headerWritten t ns s o out) (for-numbered order) (λ o. header-written-numbered t ns s o out) in
+    let (m, e, v) = told-value (each length put) (each-numbered length put numbered) (h .writes .told) in
+    let (bytes, is, len) = each-back length put m e in
+    let (o, named, written-is) = then-back (orderFor order) (λ o. headerWritten t ns s o out) bytes is in
+    let same : m ≡ n = cc in
+    let w =
+    wrote t ns s o out bytes n out′ (h .small-table) (h .small-shape) written-is (len ∙ same) (h .writes .room-after ∙ ap (λ (y : Outcome (List ℕ)). afterwards atFront y out) is) in
+    (o, order-named order o named, taken-length t ns s o out n out′ w, npy-own-back t ns s o out n out′ w)
 
-  one-of : (a b : Bool) (bytes : List ℕ) → headerWritten t ns s o room ≡ unless a 4 (unless b 28 (gives bytes))
-      → (w ≡ BytesAnswer.Refused Refusal.LongText) ⊎ ((w ≡ BytesAnswer.Refused Refusal.OutputRoom) ⊎ ((n : ℕ) × (w ≡ BytesAnswer.Is (record { 0 = n }))))
-  one-of true b bytes e = inl (told-as (BytesAnswer.Refused Refusal.LongText) (ap (each length) e))
-  one-of false true bytes e = inr (inl (told-as (BytesAnswer.Refused Refusal.OutputRoom) (ap (each length) e)))
-  one-of false false bytes e = inr (inr (length bytes, told-as (BytesAnswer.Is (record { 0 = length bytes })) (ap (each length) e)))
-
-  written-as : (r : Record) → checkedRecord t ns s o ≡ gives r → headerWritten t ns s o room ≡ writing r room
-  unfolding headerWritten
-  written-as r e = rw (headerWritten, e)
-
-  -- a record that is accepted and sound, written and read
-  back-again : (r : Record) → checkedRecord t ns s o ≡ gives r → Sound r → t ≡ table (r .dtype) → ns ≡ names (r .dtype) → s ≡ r .shape → o ≡ r .order
-      → (n : ℕ) → w ≡ BytesAnswer.Is (record { 0 = n }) → (rest : List ℕ) (l l′ : Lent) (x : HeaderRead) → Reads (take n room′ ++ rest) l x l′ → Comes-back t ns s o n l x l′
-  back-again r e sound et en es eo n is rest l l′ x reads =
-      let y = wrote t ns s o room n room′ (subst (λ (u : BytesAnswer). WritesHeader t ns s o room u room′) is v) in
-      let same : r ≡ y .says = cc (e, y .accepted) in
-      caller-back t ns s room room′ rest o n l l′ x y (subst Sound same sound) (et ∙ ap (λ (q : Record). table (q .dtype)) same) (en ∙ ap (λ (q : Record). names (q .dtype)) same)
-      (es ∙ ap (λ (q : Record). q .shape) same) (eo ∙ ap (λ (q : Record). q .order) same) reads
+-- ---- what was read goes again
+goes-again : {R : Type 0} (door : Door ℕ R) (r : Record) (out : List ℕ) (w : R) (out′ : List ℕ) (Again : List ℕ → Type 0)
+    → writing r out ≡ unless (ltb most-text (textLength r)) 4 (roomed 28 out (fileOf r)) → w ≡ door .returned (each length (writing r out))
+    → out′ ≡ afterwards atFront (writing r out) out → (writing r out ≡ gives (fileOf r) → Again (fileOf r)) → Goes-again door r out w out′ Again
+unfolding roomed
+goes-again door r out w out′ Again only is after again =
+    let returned : (o : Outcome (List ℕ)) → writing r out ≡ o → w ≡ door .returned (each length o) = λ o e. is ∙ ap (λ (y : Outcome (List ℕ)). door .returned (each length y)) e in
+    let held : (o : Outcome (List ℕ)) → writing r out ≡ o → out′ ≡ afterwards atFront o out = λ o e. after ∙ ap (λ (y : Outcome (List ℕ)). afterwards atFront y out) e in
+    let len = file-whole r in
+    record {
+      long = λ h.
+          let e : writing r out ≡ refused 4 = only ∙ rw (lt-ltb _ _ h) refl in
+          (returned (refused 4) e, held (refused 4) e);
+      no-room = λ h k.
+          let e : writing r out ≡ refused 28 = only ∙ rw (le-ltb _ _ h, roomed-short 28 out (fileOf r) (rw len k)) refl in
+          (returned (refused 28) e, held (refused 28) e);
+      written = λ h k.
+          let e : writing r out ≡ gives (fileOf r) = only ∙ rw (le-ltb _ _ h, roomed-whole 28 out (fileOf r) (rw len k)) refl in (
+            returned (gives (fileOf r)) e ∙ ap (λ (n : ℕ). door .returned (gives n)) len,
+            subst Again (sym (ap (take (headerLength r)) (held (gives (fileOf r)) e) ∙ ap (λ (n : ℕ). take n (atFront (fileOf r) out)) (sym len) ∙ front-taken (fileOf r) out)) (again e),
+          );
+    }
 
 -- WHAT WAS READ CAN BE WRITTEN, 4 AND 28 ASIDE, AND COMES BACK
 pub read-back : Read-written
-unfolding roomed
-read-back file room room′ l l′ h w x v =
-    let f = read-found file l h l′ x in
-    let r = f .header-is .says in
-    let t = tableIn (h .info) l′ in
-    let ns = namesIn (h .info) l′ in
-    let s = shapeIn (h .info) l′ in
-    let o = h .info .order in
-    let accepted = found-accepted file l h l′ f in
-    let sound = read-readable reading reading-keeps file (roomsOf l) (f .header-is) (f .given) .writable .sound in
-    let only = read-written reading reading-keeps file (roomsOf l) (f .header-is) (f .given) room .refused-only in
-    record {
-      only =
-          one-of t ns s o room w room′ v (ltb most-text (textLength r)) (ltb (length room) (length (fileOf r))) (fileOf r)
-          (written-as t ns s o room w room′ v r accepted ∙ only);
-      again = back-again t ns s o room w room′ v r accepted sound (f .stands .table-is) (f .stands .names-are) (f .stands .shape-is) (f .stands .order-is);
-    }
+unfolding headerWritten
+read-back file l l′ x i h e =
+    let w = read-was file l l′ x i h e in
+    let r = w .header-is .says in
+    let given-is = by-whole file l l′ i w in
+    let sound = read-readable reading reading-keeps file (roomsOf l) (w .header-is) given-is .writable .sound in
+    let accepted = in-rooms-checked file l l′ i w in (
+      r,
+      in-rooms file l l′ i w,
+      λ out out′ v k.
+          let is = ap (λ (c : Outcome Record). then c (λ r. writing r out)) accepted in
+          goes-again in-rattle r out (bytesAnswer v) out′ _ (read-written reading reading-keeps file (roomsOf l) (w .header-is) given-is out .refused-only)
+          (k .writes .answered ∙ ap (each length) is) (k .writes .room-after ∙ ap (λ (o : Outcome (List ℕ)). afterwards atFront o out) is)
+          (λ e. sound-back r sound out e),
+    )
+
+pub read-back-in-c : Read-written-in-C
+unfolding headerWritten
+read-back-in-c file l l′ said said′ h =
+    let (i, v, w) = npy-read-was file l l′ said said′ h in
+    let r = w .header-is .says in
+    let given-is = by-whole file l l′ i w in
+    let sound = read-readable reading reading-keeps file (roomsOf l) (w .header-is) given-is .writable .sound in
+    let accepted = in-rooms-checked file l l′ i w in
+    let ordered = order-back (i .info .order) in (
+      i,
+      v,
+      (
+        r,
+        in-rooms file l l′ i w,
+        λ out out′ count count′ c k.
+            let is =
+            ap (λ (g : Outcome Order). then g (λ o. headerWritten (tableIn (i .info) l′) (namesIn (i .info) l′) (shapeIn (i .info) l′) o out)) ordered
+            ∙ ap (λ (c : Outcome Record). then c (λ r. writing r out)) accepted in
+            goes-again (in-c alone count) r out (c, count′) out′ _ (read-written reading reading-keeps file (roomsOf l) (w .header-is) given-is out .refused-only)
+            (c-returned (retold (ap (each length) is) (k .writes .told))) (k .writes .room-after ∙ ap (λ (o : Outcome (List ℕ)). afterwards atFront o out) is)
+            (λ e. npy-sound-back r sound out e),
+      ),
+    )

@@ -1,12 +1,14 @@
 -- Demand 2, in both directions. Document 01, "What counts as an answer": "Demand 2 excludes a reader that refuses everything, one that returns a single fixed record, and a
--- writer that writes nothing: acceptance, record and bytes are all given here." Whatever satisfies the contract of `read`, `write_header`, `place` or a function that reads
--- an element accepts exactly the inputs that document 01 accepts (`all`, `only`), and returns exactly their record, bytes, place or element. What a text gives is said by
--- the grammar, so no reader has to be trusted. With which number any other input is refused is said by the contracts.
+-- writer that writes nothing: acceptance, record and bytes are all given here." Each function that reads a header, writes one, finds a place or reads an element accepts
+-- exactly the inputs that document 01 accepts, and returns exactly their record, bytes, place or element. What a text gives is said by the grammar. With which number
+-- any other input is refused is said by the function's predicate (Functions.antt, InC.antt).
 use Prim.Native.Nat.{ℕ, _+_, _≤_}
 use mathlib.Core.Path.{_≡_}
-use mathlib.Core.Bool.{false}
+use mathlib.Core.Bool.{Bool, true, false}
 use mathlib.Core.List.{List}
 use lib.ListN.{length}
+use Rattle.refusal.specs.declared.BytesAnswer.{BytesAnswer}
+use Rattle.refusal.specs.declared.PointsAnswer.{PointsAnswer}
 use Rattle.refusal.specs.Answers.{bytesAnswer, pointsAnswer}
 use Rattle.counts.specs.Outcome.{Outcome, gives}
 use Rattle.counts.specs.Front.{atFront}
@@ -17,56 +19,69 @@ use Rattle.utf8.specs.Utf8.{WellFormed}
 use Rattle.type_str.specs.declared.TypeStr.{TypeStr}
 use Rattle.dtype.specs.declared.Order.{Order}
 use Rattle.dtype.specs.Entries.{hasObject}
-use Rattle.dtype.specs.Shape.{In-range}
-use Rattle.dtype.specs.Record.{Record}
+use Rattle.dtype.specs.Shape.{inRange}
+use Rattle.dtype.specs.Record.{Record, table, names}
 use Rattle.dtype.specs.Paths.{plainAt}
 use Rattle.dtype.specs.Places.{dataBytes, place}
 use Rattle.record.specs.Prefix.{most-text, Prefix, dataStart, prefix, textOf}
 use Rattle.record.specs.FromValue.{recordOf}
-use Rattle.record.specs.Rooms.{needs, tooSmall, Lent, roomsOf, holding}
+use Rattle.record.specs.Rooms.{Lent, holding}
+use Rattle.record.specs.Header.{Header}
 use Rattle.record.specs.File.{textLength, fileOf, headerLength}
 use Rattle.record.specs.Writing.{tooDeep}
 use Rattle.check_record.specs.Checked.{checkedRecord}
-use Rattle.header_prefix.specs.Answer.{versionIs}
-use Rattle.header.specs.declared.Header.{Header}
+use Rattle.header.specs.declared.TextRead.{TextRead}
 use Rattle.header.specs.declared.HeaderRead.{HeaderRead}
-use Rattle.header.specs.Reads.{infoOf, Reads}
-use Rattle.refusal.specs.declared.BytesAnswer.{BytesAnswer}
-use Rattle.write.specs.Writes.{WritesHeader}
+use Rattle.header.specs.declared.RecordInfo.{RecordInfo}
+use Rattle.header.specs.Reads.{HeaderInfo, infoOf, headerInfo, answer, textAnswer}
 use Rattle.place_area.specs.declared.Run.{Run}
 use Rattle.place.specs.declared.Placed.{Placed}
-use Rattle.place.specs.Answer.{answer}
+use Rattle.place.specs.Answer as place-answer
 use Rattle.place.specs.Place.{runFrom, placeOf}
 use Rattle.string_value.specs.Elements.{kindOf, bytesIn, pointsIn}
-use Rattle.counts.specs.Owes.{Owes}
-use Rattle.refusal.specs.declared.PointsAnswer.{PointsAnswer}
 use Rattle.element.specs.Bytes.{runBytes}
-use Rattle.element.specs.Element.{elementBytes, elementPoints}
+use Rattle.npy_codes.specs.Codes.{alone}
+use Rattle.npy_codes.specs.Numbers.{orderFor}
+use Rattle.npy_codes.specs.Values.{textValues, headerValues, runValues}
+use Rattle.claims.specs.Doors.{Door, in-rattle, in-c}
+use Rattle.claims.specs.Roomy.{Roomy}
+use Rattle.claims.specs.Functions.{Read-held, Read-text, Write-header, Place, Element-bytes, Element-points}
+use Rattle.claims.specs.InC.{Npy-read-held, Npy-read-text, Npy-write-header, Npy-place, Npy-element-bytes, Npy-element-points}
+
+-- a call that returned y and left `after`: it succeeded exactly where some a is due, and then it returned a's value and stored a
+pub record Exactly {A B M R : Type 0} (door : Door B R) (Due : A → Type 0) (value : A → B) (store : A → M → M) (before : M) (y : R) (after : M) : Type 0 where
+  pub all : (a : A) → Due a → (y ≡ door .returned (gives (value a))) × (after ≡ store a before)
+  pub only : door .success y ≡ true → (a : A) × Due a
 
 -- ---- reading
--- the file begins with a header that says r: prefix, complete text, which is UTF-8 and one value with at most 32 brackets open at once, and r is that value's record
-pub record Says (file : List ℕ) (p : Prefix) (r : Record) : Type 0 where
-  pub begins : prefix file ≡ gives p
-  pub text : List ℕ
-  pub whole : textOf p file ≡ gives text
+-- a header's text gives r: it is UTF-8 and one value with at most 32 brackets open at once, and r is that value's record
+pub record In-text (text : List ℕ) (r : Record) : Type 0 where
   pub well-formed : WellFormed text
   pub value : Value
   pub literal : GivesIn most-open text value
   pub is-record : recordOf value ≡ gives r
 
--- the header was read: the answer has its version, lengths and data start, and the rooms hold r
-pub record Read-as (p : Prefix) (r : Record) (l : Lent) (x : HeaderRead) (l′ : Lent) : Type 0 where
-  pub header : Header
-  pub is : x ≡ HeaderRead.Read header
-  pub versioned : versionIs (header .version) ≡ p .version
-  pub says : header .info ≡ infoOf r
-  pub starts : header .start .0 ≡ dataStart p
-  pub held : l′ ≡ holding r l
+-- a file begins with the header h: a prefix, and its complete text, which gives h's record
+pub record In-file (file : List ℕ) (h : Header) : Type 0 where
+  pub front : Prefix
+  pub begins : prefix file ≡ gives front
+  pub text : List ℕ
+  pub whole : textOf front file ≡ gives text
+  pub says : In-text text (h .says)
+  pub version-is : h .version ≡ front .version
+  pub data-starts : h .data-start ≡ dataStart front
 
--- `read` accepts exactly the files that begin with a header for which the rooms are large enough
-pub record Reads-exactly (file : List ℕ) (l : Lent) (x : HeaderRead) (l′ : Lent) : Type 0 where
-  pub all : (p : Prefix) (r : Record) → Says file p r → tooSmall (roomsOf l) (needs r) ≡ false → Read-as p r l x l′
-  pub only : (h : Header) → x ≡ HeaderRead.Read h → (p : Prefix) × (r : Record) × Says file p r × Read-as p r l x l′
+-- the rooms are large enough for a record
+abbrev pub Fits : Lent → Record → Type 0
+Fits l r = Roomy (table (r .dtype)) (names (r .dtype)) (r .shape) l
+
+-- a file is read exactly if it begins with a header for whose record there is room; the values are the header's, and the rooms hold its record
+abbrev pub Reads-exactly : {R : Type 0} → Door HeaderInfo R → (file : List ℕ) (l : Lent) (y : R) (l′ : Lent) → Type 0
+Reads-exactly door file l = Exactly door (λ h. In-file file h × Fits l (h .says)) headerInfo (λ h. holding (h .says)) l
+
+-- a text likewise
+abbrev pub Reads-text-exactly : {R : Type 0} → Door RecordInfo R → (text : List ℕ) (l : Lent) (y : R) (l′ : Lent) → Type 0
+Reads-text-exactly door text l = Exactly door (λ r. In-text text r × Fits l r) infoOf holding l
 
 -- ---- writing
 -- the caller's record is r, and its header can be written: at most 32 brackets open at once, a text of at most 131,072 bytes, and room for all of it
@@ -76,10 +91,9 @@ pub record Writable (t ns s : List ℕ) (o : Order) (room : List ℕ) (r : Recor
   pub short : textLength r ≤ most-text
   pub fits : headerLength r ≤ length room
 
--- `write_header` accepts exactly those, and writes exactly the header's bytes
-pub record Writes-exactly (t ns s : List ℕ) (o : Order) (room : List ℕ) (w : BytesAnswer) (room′ : List ℕ) : Type 0 where
-  pub all : (r : Record) → Writable t ns s o room r → (w ≡ BytesAnswer.Is (record { 0 = headerLength r })) × (room′ ≡ atFront (fileOf r) room)
-  pub only : (n : ℕ) → w ≡ BytesAnswer.Is (record { 0 = n }) → (r : Record) × Writable t ns s o room r
+-- a header is written exactly of those, and its bytes are exactly the header's
+abbrev pub Writes-exactly : {R : Type 0} → Door ℕ R → (Due : Record → Type 0) (room : List ℕ) (y : R) (room′ : List ℕ) → Type 0
+Writes-exactly door Due = Exactly door Due headerLength (λ r. atFront (fileOf r))
 
 -- ---- places
 -- the caller's record is r, without an `O`; the file is long enough for its data; the index x is in range, and the path p leads to the plain type k
@@ -87,40 +101,66 @@ pub record Named (file start : ℕ) (t ns s : List ℕ) (o : Order) (x p : List 
   pub accepted : checkedRecord t ns s o ≡ gives r
   pub no-object : hasObject (r .dtype) ≡ false
   pub long : start + dataBytes r ≤ file
-  pub in-range : In-range (r .shape) x
+  pub in-range : inRange (r .shape) x ≡ true
   pub leads : plainAt (r .dtype) p ≡ gives k
 
--- `place` accepts exactly those, and returns exactly their place
-pub record Places-exactly (file start : ℕ) (t ns s : List ℕ) (o : Order) (x p : List ℕ) (a : Placed) : Type 0 where
-  pub all : (r : Record) (k : TypeStr) → Named file start t ns s o x p r k → a ≡ Placed.At (runFrom (place start r x p) k)
-  pub only : (u : Run) → a ≡ Placed.At u → (r : Record) × (k : TypeStr) × Named file start t ns s o x p r k
+-- a place is found exactly for those, and it is exactly theirs; nothing is stored
+abbrev pub Places-exactly : {R : Type 0} → Door Run R → (Due : Record × TypeStr → Type 0) (start : ℕ) (x p : List ℕ) (y : R) → Type 0
+Places-exactly door Due start x p y = Exactly {M = Unit {0}} door Due (λ a. runFrom (place start (a .0) x p) (a .1)) (λ a m. m) tt y tt
 
 -- ---- elements
 -- the element at a place: its bytes, read by `within`, are the content, which fits the room
 pub record Element (within : TypeStr → List ℕ → Outcome (List ℕ)) (place : Outcome Run) (file room content : List ℕ) : Type 0 where
   pub run : Run
   pub placed : place ≡ gives run
-  pub stands : within (run .kind) (runBytes file run) ≡ gives content
+  pub is : within (run .kind) (runBytes file run) ≡ gives content
   pub fits : length content ≤ length room
 
--- a function that reads an element accepts exactly those, and writes exactly the content
-pub record Takes-exactly (within : TypeStr → List ℕ → Outcome (List ℕ)) (place : Outcome Run) (file room : List ℕ) (a : Outcome ℕ) (room′ : List ℕ) : Type 0 where
-  pub all : (content : List ℕ) → Element within place file room content → (a ≡ gives (length content)) × (room′ ≡ atFront content room)
-  pub only : (n : ℕ) → a ≡ gives n → (content : List ℕ) × Element within place file room content
+-- how the bytes of a place are read as an element S or V, and as an element U
+abbrev pub bytes-within : TypeStr → List ℕ → Outcome (List ℕ)
+bytes-within k = bytesIn (kindOf (k .letter))
 
--- the claim, of every result that satisfies the contract
+abbrev pub points-within : TypeStr → List ℕ → Outcome (List ℕ)
+points-within k = pointsIn (kindOf (k .letter)) (k .order)
+
+-- an element is read exactly there, and what is written is exactly the content
+abbrev pub Takes-exactly : {R : Type 0} → Door ℕ R → (Due : List ℕ → Type 0) (room : List ℕ) (y : R) (room′ : List ℕ) → Type 0
+Takes-exactly door Due = Exactly door Due length atFront
+
+-- ---- from C an order is given by a number, which has to name one
+abbrev pub In-order : {A : Type 0} → (order : ℕ) → (Order → A → Type 0) → A → Type 0
+In-order order Due a = (o : Order) × (orderFor order ≡ gives o) × Due o a
+
+-- the claim, of every call
 pub record Exact : Type 0 where
-  -- `header::read`
-  pub read : (file : List ℕ) (l : Lent) (x : HeaderRead) (l′ : Lent) → Reads file l x l′ → Reads-exactly file l x l′
-  -- `write::write_header`
-  pub write : (t ns s : List ℕ) (o : Order) (room : List ℕ) (w : BytesAnswer) (room′ : List ℕ) → WritesHeader t ns s o room w room′ → Writes-exactly t ns s o room w room′
-  -- `place::place`
-  pub place : (file start : ℕ) (t ns s : List ℕ) (o : Order) (x p : List ℕ) (a : Placed) → answer a ≡ placeOf file start t ns s o x p
-      → Places-exactly file start t ns s o x p a
-  -- `element::read_bytes`, for S and V, and `read_points`, for U
-  pub bytes : (file : List ℕ) (start : ℕ) (t ns s : List ℕ) (o : Order) (x p room : List ℕ) (r : BytesAnswer) (room′ : List ℕ)
-      → Owes (elementBytes file start t ns s o x p room) room (bytesAnswer r) room′
-      → Takes-exactly (λ k. bytesIn (kindOf (k .letter))) (placeOf (length file) start t ns s o x p) file room (bytesAnswer r) room′
-  pub points : (file : List ℕ) (start : ℕ) (t ns s : List ℕ) (o : Order) (x p room : List ℕ) (r : PointsAnswer) (room′ : List ℕ)
-      → Owes (elementPoints file start t ns s o x p room) room (pointsAnswer r) room′
-      → Takes-exactly (λ k. pointsIn (kindOf (k .letter)) (k .order)) (placeOf (length file) start t ns s o x p) file room (pointsAnswer r) room′
+  -- `header::read_held`, and `header::read`, which is the same of a file that is not longer
+  pub read-held : (longer : Bool) (file : List ℕ) (l : Lent) (x : HeaderRead) (l′ : Lent) → Read-held longer file l x l′ → Reads-exactly in-rattle file l (answer x) l′
+  pub read-text : (text : List ℕ) (l : Lent) (x : TextRead) (l′ : Lent) → Read-text text l x l′ → Reads-text-exactly in-rattle text l (textAnswer x) l′
+  pub write-header : (t ns s : List ℕ) (o : Order) (out : List ℕ) (w : BytesAnswer) (out′ : List ℕ) → Write-header t ns s o out w out′
+      → Writes-exactly in-rattle (Writable t ns s o out) out (bytesAnswer w) out′
+  pub place : (file start : ℕ) (t ns s : List ℕ) (o : Order) (x p : List ℕ) (y : Placed) → Place file start t ns s o x p y
+      → Places-exactly in-rattle (λ a. Named file start t ns s o x p (a .0) (a .1)) start x p (place-answer.answer y)
+  pub element-bytes : (file : List ℕ) (start : ℕ) (t ns s : List ℕ) (o : Order) (x p out : List ℕ) (y : BytesAnswer) (out′ : List ℕ)
+      → Element-bytes file start t ns s o x p out y out′
+      → Takes-exactly in-rattle (Element bytes-within (placeOf (length file) start t ns s o x p) file out) out (bytesAnswer y) out′
+  pub element-points : (file : List ℕ) (start : ℕ) (t ns s : List ℕ) (o : Order) (x p out : List ℕ) (y : PointsAnswer) (out′ : List ℕ)
+      → Element-points file start t ns s o x p out y out′
+      → Takes-exactly in-rattle (Element points-within (placeOf (length file) start t ns s o x p) file out) out (pointsAnswer y) out′
+
+-- the same of the functions of the C interface
+pub record Exact-in-C : Type 0 where
+  -- `npy_read_held`, and `npy_read`, which is the same of a file that is not longer
+  pub npy-read-held : (longer : Bool) (file : List ℕ) (l : Lent) (said : List ℕ) (r : ℕ) (l′ : Lent) (said′ : List ℕ) → Npy-read-held longer file l said r l′ said′
+      → Reads-exactly (in-c headerValues said) file l (r, said′) l′
+  pub npy-read-text : (text : List ℕ) (l : Lent) (said : List ℕ) (r : ℕ) (l′ : Lent) (said′ : List ℕ) → Npy-read-text text l said r l′ said′
+      → Reads-text-exactly (in-c textValues said) text l (r, said′) l′
+  pub npy-write-header : (t ns s : List ℕ) (order : ℕ) (out count : List ℕ) (r : ℕ) (out′ count′ : List ℕ) → Npy-write-header t ns s order out count r out′ count′
+      → Writes-exactly (in-c alone count) (In-order order (λ o. Writable t ns s o out)) out (r, count′) out′
+  pub npy-place : (file start : ℕ) (t ns s : List ℕ) (order : ℕ) (x p run : List ℕ) (r : ℕ) (run′ : List ℕ) → Npy-place file start t ns s order x p run r run′
+      → Places-exactly (in-c runValues run) (In-order order (λ o a. Named file start t ns s o x p (a .0) (a .1))) start x p (r, run′)
+  pub npy-element-bytes : (file : List ℕ) (start : ℕ) (t ns s : List ℕ) (order : ℕ) (x p out count : List ℕ) (r : ℕ) (out′ count′ : List ℕ)
+      → Npy-element-bytes file start t ns s order x p out count r out′ count′
+      → Takes-exactly (in-c alone count) (In-order order (λ o. Element bytes-within (placeOf (length file) start t ns s o x p) file out)) out (r, count′) out′
+  pub npy-element-points : (file : List ℕ) (start : ℕ) (t ns s : List ℕ) (order : ℕ) (x p out count : List ℕ) (r : ℕ) (out′ count′ : List ℕ)
+      → Npy-element-points file start t ns s order x p out count r out′ count′
+      → Takes-exactly (in-c alone count) (In-order order (λ o. Element points-within (placeOf (length file) start t ns s o x p) file out)) out (r, count′) out′

@@ -1,3 +1,6 @@
+pub mod Functions
+pub mod InC
+pub mod Doors
 pub mod Roomy
 pub mod Exact
 pub mod RoundTrips

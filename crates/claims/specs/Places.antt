@@ -1,44 +1,77 @@
--- Demand 3, of `read` and `place`. Document 01, "What counts as an answer": "Demand 3 speaks of the record of demand 2, so an empty table can't satisfy it, and a walk correct
--- only for item 0 or the first field leaves bytes without an owner." For every file that `read` accepts, `place` accepts the record that is then in the rooms. If it has no
--- `O` and the file is at least as long as data start + count times item size, each byte of the data area belongs to exactly one index, path and byte of the run that is
--- returned for them (`Demand-3`, place/specs/Demand.antt).
-use Prim.Native.Nat.{ℕ, _+_, _≤_}
+-- Demand 3, of `header::read` and `place::place`, and of `npy_read` and `npy_place`. Document 01, "What counts as an answer": "Demand 3 speaks of the record of demand 2, so an
+-- empty table can't satisfy it, and a walk correct only for item 0 or the first field leaves bytes without an owner." After a file was read the rooms hold its record. If
+-- that has no `O` and the file is at least as long as data start + count times item size, each index in range with each path to a plain type is answered with the run of
+-- that type's bytes at "data start + item size times the sum of index times stride + the offset inside the item" (`place`, dtype/specs/Places.antt), inside the data
+-- area; all else with 26; and each byte of the data area belongs to exactly one index, path and byte of the run that is returned for them.
+use Prim.Native.Nat.{ℕ, _+_, _<_, _≤_}
 use mathlib.Core.Path.{_≡_}
-use mathlib.Core.Bool.{false}
+use mathlib.Core.Bool.{true, false}
 use mathlib.Core.List.{List}
 use lib.ListN.{length}
 use Rattle.refusal.specs.declared.Refusal.{Refusal}
-use Rattle.counts.specs.Outcome.{Outcome, gives, refused}
+use Rattle.counts.specs.Outcome.{gives}
+use Rattle.type_str.specs.declared.TypeStr.{TypeStr}
 use Rattle.dtype.specs.Entries.{hasObject}
+use Rattle.dtype.specs.Shape.{inRange}
 use Rattle.dtype.specs.Record.{Record, table, names}
-use Rattle.dtype.specs.Places.{dataBytes}
+use Rattle.dtype.specs.PlainBytes.{plainBytes}
+use Rattle.dtype.specs.Paths.{plainAt}
+use Rattle.dtype.specs.Places.{dataBytes, place, Ask}
 use Rattle.record.specs.Rooms.{Lent}
-use Rattle.check_record.specs.Checked.{checkedRecord}
 use Rattle.place_area.specs.declared.Run.{Run}
 use Rattle.place.specs.declared.Placed.{Placed}
-use Rattle.place.specs.Answer.{answer}
-use Rattle.place.specs.Place.{placeOf}
-use Rattle.place.specs.Demand.{Demand-3}
-use Rattle.header.specs.declared.Header.{Header}
+use Rattle.place.specs.Place.{runFrom}
 use Rattle.header.specs.declared.HeaderRead.{HeaderRead}
-use Rattle.header.specs.Reads.{Reads}
+use Rattle.header.specs.Reads.{HeaderInfo, answer}
 use Rattle.read_back.specs.Rooms.{tableIn, namesIn, shapeIn, Fronts}
+use Rattle.npy_codes.specs.Numbers.{orderNumber}
+use Rattle.npy_codes.specs.Values.{headerValues, runValues}
+use Rattle.claims.specs.Functions.{Read, Place}
+use Rattle.claims.specs.InC.{Npy-read, Npy-place}
 
--- the place that document 01 gives an index x and a path p, with the record that was read into the rooms
-abbrev pub askedOf : (file : List ℕ) → Header → Lent → (x p : List ℕ) → Outcome Run
-askedOf file h l′ x p = placeOf (length file) (h .start .0) (tableIn (h .info) l′) (namesIn (h .info) l′) (shapeIn (h .info) l′) (h .info .order) x p
+-- a place's function as demand 3 sees it: `Call x p y` where a call with the index x and the path p has the result y; the result for a run, and the one for 26
+module _ {Y : Type 0} (Call : (x p : List ℕ) → Y → Type 0) (at : Run → Y) (nowhere : Y) where
+  -- the byte b of the file is named by an index, a path, and a byte of the run that is returned for them
+  pub record Named-by (b : ℕ) (a : Ask) : Type 0 where
+    pub run : Run
+    pub returned : Call (a .index) (a .path) (at run)
+    pub in-run : a .byte < run .len .0
+    pub is-byte : run .first .0 + a .byte ≡ b
 
--- after a header was read: its record is in the rooms, the check accepts it, and each byte of its data area has its owner
-pub record Owned (file : List ℕ) (h : Header) (l′ : Lent) : Type 0 where
+  -- the data area of the record r, from `start` on
+  pub record Owned (start : ℕ) (r : Record) : Type 0 where
+    -- an index in range and a path to a plain type name the run of the type's bytes at document 01's place ..
+    pub by-formula : (x p : List ℕ) (k : TypeStr) → inRange (r .shape) x ≡ true → plainAt (r .dtype) p ≡ gives k
+        → (y : Y) → Call x p y → y ≡ at (runFrom (place start r x p) k)
+    -- .. which is inside the data area
+    pub inside : (x p : List ℕ) (k : TypeStr) → inRange (r .shape) x ≡ true → plainAt (r .dtype) p ≡ gives k
+        → (start ≤ place start r x p) × (place start r x p + plainBytes k ≤ start + dataBytes r)
+    -- all else is 26
+    pub elsewhere : (x p : List ℕ) → ((k : TypeStr) → inRange (r .shape) x ≡ true → plainAt (r .dtype) p ≡ gives k → ⊥) → (y : Y) → Call x p y → y ≡ nowhere
+    -- each byte of the data area is named, and only once
+    pub each-byte : (b : ℕ) → b < dataBytes r → (a : Ask) × Named-by (start + b) a
+    pub once : (b : ℕ) (a a′ : Ask) → Named-by b a → Named-by b a′ → a ≡ a′
+
+-- after a header was read whose values are i: the rooms hold a record, and its data area, if it has no `O` and the file is long enough, is owned
+pub record Data-owned-by (file : List ℕ) (i : HeaderInfo) (l′ : Lent) (Area : (start : ℕ) → Record → Type 0) : Type 0 where
   pub says : Record
-  pub stands : Fronts (table (says .dtype)) (names (says .dtype)) (says .shape) (says .order) (h .info) l′
-  pub accepted : checkedRecord (tableIn (h .info) l′) (namesIn (h .info) l′) (shapeIn (h .info) l′) (h .info .order) ≡ gives says
-  pub data-owned : hasObject (says .dtype) ≡ false → h .start .0 + dataBytes says ≤ length file
-      → Demand-3 (length file) (h .start .0) (tableIn (h .info) l′) (namesIn (h .info) l′) (shapeIn (h .info) l′) (h .info .order) says
-  -- what `place::place` returns, by its contract: that run, or 26
-  pub returned : (x p : List ℕ) (r : Placed) (u : Run) → answer r ≡ askedOf file h l′ x p → askedOf file h l′ x p ≡ gives u → r ≡ Placed.At u
-  pub returned-26 : (x p : List ℕ) (r : Placed) → answer r ≡ askedOf file h l′ x p → askedOf file h l′ x p ≡ refused 26 → r ≡ Placed.Refused Refusal.Nowhere
+  pub holds : Fronts (table (says .dtype)) (names (says .dtype)) (says .shape) (says .order) (i .info) l′
+  pub owned : hasObject (says .dtype) ≡ false → i .data-start + dataBytes says ≤ length file → Area (i .data-start) says
 
--- the claim, for every file that `read` accepts
+-- the claim, for every file that is read
 abbrev pub Data-owned : Type 0
-Data-owned = (file : List ℕ) (l l′ : Lent) (h : Header) → Reads file l (HeaderRead.Read h) l′ → Owned file h l′
+Data-owned =
+    (file : List ℕ) (l l′ : Lent) (x : HeaderRead) (i : HeaderInfo) → Read file l x l′ → answer x ≡ gives i
+    → Data-owned-by file i l′
+    (Owned (Place (length file) (i .data-start) (tableIn (i .info) l′) (namesIn (i .info) l′) (shapeIn (i .info) l′) (i .info .order))
+    Placed.At (Placed.Refused Refusal.Nowhere))
+
+-- the same in C: 0 and the run's values, or 26 and the values' room `run` as it was
+abbrev pub Data-owned-in-C : Type 0
+Data-owned-in-C =
+    (file : List ℕ) (l l′ : Lent) (said said′ : List ℕ) → Npy-read file l said 0 l′ said′
+    → (i : HeaderInfo) × (said′ ≡ headerValues i)
+    × ((run : List ℕ) → Data-owned-by file i l′
+    (Owned {Y = ℕ × List ℕ}
+    (λ x p y. Npy-place (length file) (i .data-start) (tableIn (i .info) l′) (namesIn (i .info) l′) (shapeIn (i .info) l′) (orderNumber (i .info .order)) x p run (y .0) (y .1))
+    (λ u. (0, runValues u)) (26, run)))

@@ -1,51 +1,87 @@
--- Demand 2: what is written is read back, and what was read can be written. Stated of every result that satisfies the contracts of `write_header` and `read`.
--- `Written-read`: the bytes that `write_header` wrote, with anything after them, are read as the caller's table, names, shape and order, and the data starts after them; or
--- the result is 23, if a room is too small. `Read-written`: the record that a reading left in the rooms is refused by `write_header` only with 4 or 28, and what it wrote is
--- read back. The numbers of a table and a shape are below 2^64, as every u64 is (`Small`). That headers are accepted and written at all follows from the definitions, and is
--- computed for document 01's 80 bytes: `table-holds` and `eighty-bytes` in record/proofs/Examples.antt.
-use Prim.Native.Nat.{ℕ}
+-- Demand 2: what is written is read back, and what was read is written and read back. Stated of `write::write_header` and `header::read`, and of `npy_write_header` and
+-- `npy_read`. `Written-read`: the bytes that were written, with anything after them, are read as the caller's table, names, shape and order, and the data
+-- starts after them; or the result is 23, if a room is too small. `Read-written`: the record that a reading left in the rooms is refused by the writer with 4 exactly if its
+-- text is over 131,072 bytes, then with 28 exactly if the output room is too small; else it is written and read back. That headers are accepted and
+-- written at all follows from the definitions, and is computed for document 01's 80 bytes: `table-holds` and `eighty-bytes` in record/proofs/Examples.antt.
+use Prim.Native.Nat.{ℕ, _<_, _≤_}
 use mathlib.Core.Path.{_≡_}
-use mathlib.Core.List.{List, _++_}
-use mathlib.Core.Logic.{_⊎_}
-use lib.ListN.{take}
-use Rattle.refusal.specs.declared.Refusal.{Refusal}
-use Rattle.dtype.specs.declared.Order.{Order}
-use Rattle.record.specs.Rooms.{Lent}
-use Rattle.record.specs.Sound.{Small}
-use Rattle.header.specs.declared.Header.{Header}
-use Rattle.header.specs.declared.HeaderRead.{HeaderRead}
-use Rattle.header.specs.Reads.{Reads}
+use mathlib.Core.List.{List, [], _∷_, _++_}
+use lib.ListN.{length, take}
+use Rattle.counts.specs.Outcome.{gives, refused}
 use Rattle.refusal.specs.declared.BytesAnswer.{BytesAnswer}
-use Rattle.write.specs.Writes.{WritesHeader}
+use Rattle.refusal.specs.Answers.{bytesAnswer}
+use Rattle.dtype.specs.declared.Order.{Order}
+use Rattle.dtype.specs.Record.{Record, table, names}
+use Rattle.record.specs.Prefix.{most-text}
+use Rattle.record.specs.Rooms.{Lent}
+use Rattle.record.specs.File.{textLength, headerLength}
+use Rattle.header.specs.declared.HeaderRead.{HeaderRead}
+use Rattle.header.specs.Reads.{HeaderInfo, answer}
 use Rattle.read_back.specs.Rooms.{tableIn, namesIn, shapeIn, Fronts}
+use Rattle.npy_codes.specs.Codes.{alone}
+use Rattle.npy_codes.specs.Numbers.{orderNumber}
+use Rattle.npy_codes.specs.Values.{headerValues}
+use Rattle.claims.specs.Doors.{Door, in-rattle, in-c}
 use Rattle.claims.specs.Roomy.{Roomy}
+use Rattle.claims.specs.Functions.{Read, Write-header}
+use Rattle.claims.specs.InC.{Npy-read, Npy-write-header}
 
+-- ---- what was written is read back
 -- a header was read: its data starts at `start`, and the rooms hold this table, these names and this shape
-pub record Gives (t ns s : List ℕ) (o : Order) (start : ℕ) (x : HeaderRead) (l′ : Lent) : Type 0 where
-  pub header : Header
-  pub is : x ≡ HeaderRead.Read header
-  pub starts : header .start .0 ≡ start
-  pub stands : Fronts t ns s o (header .info) l′
+pub record Gives {R : Type 0} (door : Door HeaderInfo R) (t ns s : List ℕ) (o : Order) (start : ℕ) (y : R) (l′ : Lent) : Type 0 where
+  pub header : HeaderInfo
+  pub is : y ≡ door .returned (gives header)
+  pub starts : header .data-start ≡ start
+  pub holds : Fronts t ns s o (header .info) l′
 
 -- .. if the rooms are large enough; else 23, and the rooms are unchanged
-pub record Comes-back (t ns s : List ℕ) (o : Order) (start : ℕ) (l : Lent) (x : HeaderRead) (l′ : Lent) : Type 0 where
-  pub roomy : Roomy t ns s l → Gives t ns s o start x l′
-  pub no-room : (Roomy t ns s l → ⊥) → (x ≡ HeaderRead.Refused Refusal.Room) × (l′ ≡ l)
+pub record Comes-back {R : Type 0} (door : Door HeaderInfo R) (t ns s : List ℕ) (o : Order) (start : ℕ) (l : Lent) (y : R) (l′ : Lent) : Type 0 where
+  pub roomy : Roomy t ns s l → Gives door t ns s o start y l′
+  pub no-room : (Roomy t ns s l → ⊥) → (y ≡ door .returned (refused 23)) × (l′ ≡ l)
 
--- the first claim: what was written is read back, whatever follows it
+-- whatever follows these bytes and whatever rooms are lent, reading them gives this record, by `header::read` and by `npy_read`
+abbrev pub Read-back : (bytes : List ℕ) (t ns s : List ℕ) (o : Order) → Type 0
+Read-back bytes t ns s o =
+    (rest : List ℕ) (l l′ : Lent) (x : HeaderRead) → Read (bytes ++ rest) l x l′ → Comes-back in-rattle t ns s o (length bytes) l (answer x) l′
+
+abbrev pub Npy-read-back : (bytes : List ℕ) (t ns s : List ℕ) (o : Order) → Type 0
+Npy-read-back bytes t ns s o =
+    (rest : List ℕ) (l l′ : Lent) (said said′ : List ℕ) (r : ℕ) → Npy-read (bytes ++ rest) l said r l′ said′
+    → Comes-back (in-c headerValues said) t ns s o (length bytes) l (r, said′) l′
+
+-- the first claim
 abbrev pub Written-read : Type 0
 Written-read =
-    (t ns s room room′ rest : List ℕ) (o : Order) (n : ℕ) (l l′ : Lent) (x : HeaderRead) → Small t → Small s
-    → WritesHeader t ns s o room (BytesAnswer.Is (record { 0 = n })) room′ → Reads (take n room′ ++ rest) l x l′ → Comes-back t ns s o n l x l′
+    (t ns s : List ℕ) (o : Order) (out out′ : List ℕ) (n : ℕ) → Write-header t ns s o out (BytesAnswer.Is (record { 0 = n })) out′
+    → (length (take n out′) ≡ n) × Read-back (take n out′) t ns s o
 
--- the result w of writing a record that was read: 4, 28, or a header that is read back
-pub record Goes-again (t ns s : List ℕ) (o : Order) (w : BytesAnswer) (room′ : List ℕ) : Type 0 where
-  pub only : (w ≡ BytesAnswer.Refused Refusal.LongText) ⊎ ((w ≡ BytesAnswer.Refused Refusal.OutputRoom) ⊎ ((n : ℕ) × (w ≡ BytesAnswer.Is (record { 0 = n }))))
-  pub again : (n : ℕ) → w ≡ BytesAnswer.Is (record { 0 = n }) → (rest : List ℕ) (l l′ : Lent) (x : HeaderRead) → Reads (take n room′ ++ rest) l x l′ → Comes-back t ns s o n l x l′
+-- the same in C: the order's number names an order
+abbrev pub Written-read-in-C : Type 0
+Written-read-in-C =
+    (t ns s : List ℕ) (order : ℕ) (out out′ count : List ℕ) (n : ℕ) → Npy-write-header t ns s order out count 0 out′ (n ∷ [])
+    → (o : Order) × (order ≡ orderNumber o) × (length (take n out′) ≡ n) × Npy-read-back (take n out′) t ns s o
 
--- the second claim: what was read can be written, apart from 4 and 28
+-- ---- what was read is written and read back
+-- the result w of writing a record r: 4, 28, or the bytes of a header for which `Again` holds
+pub record Goes-again {R : Type 0} (door : Door ℕ R) (r : Record) (out : List ℕ) (w : R) (out′ : List ℕ) (Again : (bytes : List ℕ) → Type 0) : Type 0 where
+  pub long : most-text < textLength r → (w ≡ door .returned (refused 4)) × (out′ ≡ out)
+  pub no-room : textLength r ≤ most-text → length out < headerLength r → (w ≡ door .returned (refused 28)) × (out′ ≡ out)
+  pub written : textLength r ≤ most-text → headerLength r ≤ length out → (w ≡ door .returned (gives (headerLength r))) × Again (take (headerLength r) out′)
+
+-- the second claim: the rooms hold a record, and it goes again
 abbrev pub Read-written : Type 0
 Read-written =
-    (file room room′ : List ℕ) (l l′ : Lent) (h : Header) (w : BytesAnswer) → Reads file l (HeaderRead.Read h) l′
-    → WritesHeader (tableIn (h .info) l′) (namesIn (h .info) l′) (shapeIn (h .info) l′) (h .info .order) room w room′
-    → Goes-again (tableIn (h .info) l′) (namesIn (h .info) l′) (shapeIn (h .info) l′) (h .info .order) w room′
+    (file : List ℕ) (l l′ : Lent) (x : HeaderRead) (i : HeaderInfo) → Read file l x l′ → answer x ≡ gives i
+    → (r : Record) × Fronts (table (r .dtype)) (names (r .dtype)) (r .shape) (r .order) (i .info) l′
+    × ((out out′ : List ℕ) (w : BytesAnswer) → Write-header (tableIn (i .info) l′) (namesIn (i .info) l′) (shapeIn (i .info) l′) (i .info .order) out w out′
+    → Goes-again in-rattle r out (bytesAnswer w) out′ (λ bytes. Read-back bytes (table (r .dtype)) (names (r .dtype)) (r .shape) (r .order)))
+
+-- the same in C
+abbrev pub Read-written-in-C : Type 0
+Read-written-in-C =
+    (file : List ℕ) (l l′ : Lent) (said said′ : List ℕ) → Npy-read file l said 0 l′ said′
+    → (i : HeaderInfo) × (said′ ≡ headerValues i)
+    × ((r : Record) × Fronts (table (r .dtype)) (names (r .dtype)) (r .shape) (r .order) (i .info) l′
+    × ((out out′ count count′ : List ℕ) (w : ℕ)
+    → Npy-write-header (tableIn (i .info) l′) (namesIn (i .info) l′) (shapeIn (i .info) l′) (orderNumber (i .info .order)) out count w out′ count′
+    → Goes-again (in-c alone count) r out (w, count′) out′ (λ bytes. Npy-read-back bytes (table (r .dtype)) (names (r .dtype)) (r .shape) (r .order))))

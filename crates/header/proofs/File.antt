@@ -20,7 +20,7 @@ use Rattle.judge.specs.Judged.{reading}
 use Rattle.header.specs.declared.RecordInfo.{RecordInfo}
 use Rattle.header.specs.declared.TextRead.{TextRead}
 use Rattle.header.specs.declared.HeaderRead.{HeaderRead}
-use Rattle.header.specs.Reads.{infoOf, textAnswer, textInto, ReadsText, HeaderInfo, headerInfo, answer, afterPrefix, heldInto, ReadsAfterPrefix, ReadsHeld}
+use Rattle.header.specs.Reads.{infoOf, textAnswer, ReadsText, HeaderInfo, headerInfo, answer, afterPrefix, heldInto, ReadsAfterPrefix, ReadsHeld}
 
 -- ---- after the prefix
 pub start-small : (v : Version) → textStart v ≤ 12
@@ -35,7 +35,7 @@ headed p r = record { version = p .version; says = r; data-start = dataStart p }
 abbrev info-of : Prefix → RecordInfo → HeaderInfo
 info-of p s = record { version = p .version; info = s; data-start = dataStart p }
 
-stored-is : (rooms : Rooms) (p : Prefix) (r : Record) → header.stored rooms p r ≡ each (headed p) (header.roomed rooms r)
+stored-is : (rooms : Rooms) (p : Prefix) (r : Record) → header.stored rooms p r ≡ each (headed p) (header.fitted rooms r)
 unfolding header.stored
 stored-is rooms p r = go (tooSmall rooms (needs r))
   where
@@ -47,11 +47,11 @@ module _ (longer : Bool) (file : List ℕ) (p : Prefix) (l : Lent) where
   abbrev words : List ℕ
   words = take (p .text-length) (drop (textStart (p .version)) file)
 
-  record-then : (o : Outcome Record) → then o (header.stored (roomsOf l) p) ≡ each (headed p) (then o (header.roomed (roomsOf l)))
+  record-then : (o : Outcome Record) → then o (header.stored (roomsOf l) p) ≡ each (headed p) (then o (header.fitted (roomsOf l)))
   record-then (gives r) = stored-is (roomsOf l) p r
   record-then (refused n) = refl
 
-  after-is : dataStart p ≤ length file → afterPrefix longer file p l ≡ each (headed p) (textInto words l)
+  after-is : dataStart p ≤ length file → afterPrefix longer file p l ≡ each (headed p) (header.textBy reading words l)
   unfolding textHeld
   after-is le = rw (textHeld, le-ltb (length file) (dataStart p) le) (record-then (header.recordIn reading words))
 
@@ -69,7 +69,7 @@ module _ (longer : Bool) (file : List ℕ) (p : Prefix) (l : Lent) where
 
   after-by : dataStart p ≤ length file → (x : TextRead) (l′ : Lent) (y : HeaderRead) → ReadsText words l x l′ → answer y ≡ each (info-of p) (textAnswer x) → ReadsAfterPrefix longer file p l y l′
   after-by le x l′ y h e =
-      let o = textInto words l in
+      let o = header.textBy reading words l in
       record {
         answered = e ∙ ap (each (info-of p)) (h .answered) ∙ sym (info-each o) ∙ ap (each headerInfo) (sym (after-is le));
         after = h .after ∙ sym (filled-each o) ∙ ap (λ (z : Outcome header.Header). afterwards header.holdingHeader z l) (sym (after-is le));

@@ -1,5 +1,5 @@
 -- What reading a text and a file owes: the answer, and what the lent rooms then hold. Document 01, "The refusal numbers": "Each returns its number only; every
--- lent buffer stays unchanged. On success, room beyond what was needed is unchanged." What a text and a file give is `recordIn` and `headerInto` of crate record,
+-- lent buffer stays unchanged. On success, room beyond what was needed is unchanged." What a text and a file give is `textBy` and `heldBy` of crate record,
 -- with the literal's own reading; every other that keeps the grammar's promise gives the same (`any-reading` in proofs/Outcomes.antt).
 use Prim.Native.Nat.{ℕ}
 use mathlib.Core.Path.{_≡_}
@@ -41,16 +41,13 @@ pub record ReadsTextBy (rd : header.Reading) (text : List ℕ) (l : Lent) (x : T
   pub after : l′ ≡ afterwards holding (header.textBy rd text l) l
 
 -- by the literal's own
-abbrev pub textInto : (text : List ℕ) → Lent → Outcome Record
-textInto = header.textBy reading
-
 abbrev pub ReadsText : (text : List ℕ) (l : Lent) → TextRead → (l′ : Lent) → Type 0
 ReadsText text l x l′ = ReadsTextBy reading text l x l′
 
 -- an accepted record, stored in the rooms
 pub record Stores (r : Record) (l : Lent) (x : TextRead) (l′ : Lent) : Type 0 where
-  pub answered : textAnswer x ≡ each infoOf (header.roomed (roomsOf l) r)
-  pub after : l′ ≡ afterwards holding (header.roomed (roomsOf l) r) l
+  pub answered : textAnswer x ≡ each infoOf (header.fitted (roomsOf l) r)
+  pub after : l′ ≡ afterwards holding (header.fitted (roomsOf l) r) l
 
 -- ---- a file
 -- what is known of a header beside the rooms

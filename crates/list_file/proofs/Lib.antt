@@ -1,2 +1,3 @@
 pub mod Whole
+pub mod Enough
 pub mod Outcomes

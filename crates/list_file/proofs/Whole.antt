@@ -7,7 +7,7 @@ use mathlib.Core.Bool.{Bool, true, false}
 use lib.Dec.{ltb}
 use lib.ListN.{length, take, drop, length-replicate}
 use Rattle.counts.specs.Outcome.{Outcome, gives, refused, then, each, unless, afterwards}
-use Rattle.counts.specs.Owes.{roomed}
+use Rattle.counts.specs.Owes.{roomed, Owes}
 use Rattle.counts.proofs.Owes.{owes-same}
 use Rattle.refusal.specs.declared.Refusal.{Refusal}
 use Rattle.refusal.specs.declared.BytesAnswer.{BytesAnswer}
@@ -44,7 +44,7 @@ text-whole longer p file s e = go (ltb (length file) (dataStart p)) e
     go true e = absurd (let z : _≡_ {A = ℕ} 0 1 = cc in omega arith)
     go false e = e
 
-pub held-whole : (longer : Bool) (file : List ℕ) (l : Lent) (h : header.Header) → heldInto longer file l ≡ gives h → header.headerInto reading file l ≡ gives h
+pub held-whole : (longer : Bool) (file : List ℕ) (l : Lent) (h : header.Header) → heldInto longer file l ≡ gives h → header.heldBy reading false file l ≡ gives h
 held-whole longer file l h e = go (prefix file) e
   where
     texts : (p : Prefix) (o o′ : Outcome (List ℕ)) → ((s : List ℕ) → o ≡ gives s → o′ ≡ gives s)
@@ -82,8 +82,9 @@ module _ (k : ℕ) (scratch mid : List ℕ) (n : ℕ) (room : List ℕ) (fits : 
   pub line-written : (out : List ℕ) (q : ℕ) → n ≤ length room → Emits (refusedLine k) room 0 out q → WritesText (refusedLine k []) room (BytesAnswer.Is (record { 0 = n })) out
   line-written out q le h = written-whole (refusedLine k) scratch mid n room fits short measured out q le h
 
-pub line-known : (k n : ℕ) (room : List ℕ) (x : BytesAnswer) (room′ : List ℕ) → k ≡ n → WritesText (refusedLine k []) room x room′ → WritesText (refusedLine n []) room x room′
-line-known k n room x room′ e w = subst (λ (m : ℕ). WritesText (refusedLine m []) room x room′) e w
+pub line-known : (k n : ℕ) (room : List ℕ) (answer : Outcome ℕ) (room′ : List ℕ) → k ≡ n → Owes (roomed 28 room (refusedLine k [])) room answer room′
+    → Owes (roomed 28 room (refusedLine n [])) room answer room′
+line-known k n room answer room′ e w = subst (λ (m : ℕ). Owes (roomed 28 room (refusedLine m [])) room answer room′) e w
 
 -- ---- the whole
 -- rooms of these lengths are as good as fresh ones

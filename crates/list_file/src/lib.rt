@@ -20,6 +20,7 @@ ghost use Rattle.list_text.specs.Listing.{listing};
 ghost use Rattle.header.specs.Reads.{lent};
 ghost use Rattle.read_back.specs.Rooms.{Holds};
 ghost use Rattle.list_file.specs.Report.{held-bytes, refusedLine, WritesText, Reports};
+ghost use Rattle.list_file.specs.Enough.{WritesReport};
 
 // How many of a file's first bytes the program holds.
 pub const HELD: usize = 65536;
@@ -27,7 +28,21 @@ pub const HELD: usize = 65536;
 // How many bytes of names the program holds.
 const NAMES: usize = 16384;
 
-// Puts the text for a file at the front of `out` and returns its length; or 28. No byte of the file after the first 65,537 is looked at.
+// How many bytes are room enough for the text of any file.
+pub const ROOM: usize = 131072;
+
+// Puts the text for a file at the front of `out` and returns its length. Of a file of more than `HELD` bytes the first `HELD + 1` give the same.
+pub fn report_whole(file: &[u8], out: &mut [u8; ROOM]) -> Bytes
+    ensures { λ r. ⌜ WritesReport (now (file .entry)) (now (out .entry)) r (now (out .exit)) ⌝ }
+{
+    let BytesAnswer::Is(written) = report(file, out) else {
+        // not reached: no text is longer than the room
+        return Bytes(0);
+    };
+    written
+}
+
+// The same with any room, or 28.
 pub fn report(file: &[u8], out: &mut [u8]) -> BytesAnswer
     ensures { λ r. ⌜ Reports (now (file .entry)) (now (out .entry)) r (now (out .exit)) ⌝ }
 {

@@ -2,29 +2,14 @@
 use counts::Bytes;
 use libc::STDIN_FILENO;
 use libc::STDOUT_FILENO;
-use refusal::BytesAnswer;
 
-// Room for the text.
-const ROOM: usize = 131072;
-
+// One byte more than is held shows whether the file is longer: so many first bytes give the text of the whole file (`front-reports` in list_file/proofs/Enough.antt).
+// The room is enough for every text (`report-fits`), so 28 is never printed.
 fn main() {
     let mut file = [0u8; list_file::HELD + 1];
     let n = io::read_full(STDIN_FILENO, &mut file);
-    let mut out = [0u8; ROOM];
-    match list_file::report(&file[..n], &mut out) {
-        BytesAnswer::Is(written) => {
-            show(&out, written);
-        }
-        BytesAnswer::Refused(_) => {
-            io::write_all(STDOUT_FILENO, b"refused 28\n");
-        }
-    }
-}
-
-// Writes so many first bytes.
-fn show(out: &[u8], written: Bytes) {
-    let n = written.0 as usize;
-    if n <= out.len() {
-        io::write_all(STDOUT_FILENO, &out[..n]);
-    }
+    let mut out = [0u8; list_file::ROOM];
+    let length: Bytes = list_file::report_whole(&file[..n], &mut out);
+    let end = length.0 as usize;
+    io::write_all(STDOUT_FILENO, &out[..end]);
 }

@@ -15,7 +15,8 @@ use Rattle.counts.specs.declared.Number.{Number}
 use Rattle.counts.specs.declared.ItemCount.{ItemCount}
 use Rattle.counts.proofs.Alike.{and-left, and-right, true-false}
 use Rattle.counts.proofs.Fits.{number-is, number-over, number-is-back, number-over-back}
-use Rattle.dtype.specs.Shape.{In-range, inRange, sumOfProducts}
+use Rattle.dtype.specs.Shape.{inRange, sumOfProducts}
+use Rattle.dtype.proofs.Runs.{In-range}
 
 -- ---- counts out of their answers
 items-of : (v : Number) (m : Items) → ItemCount.Is m ≡ items v → v ≡ Number.Is (m .0)

@@ -1,12 +1,14 @@
--- The check accepts exactly the records that some file is read as (specs/Accepted.antt). What was read is accepted, by Accepted.antt. What is accepted is sound, so the
--- bytes of its own header are read as it, into rooms as long as it is.
+-- The check accepts exactly the records that some file is read as (specs/Accepted.antt). What was read is accepted. What is accepted is sound, so the bytes of its own
+-- header are read as it, into rooms as long as it is.
 use Prim.Native.Nat.{ℕ}
 use native.Mathlib.Omega.{arith}
 use mathlib.Core.Path.{_≡_, refl, sym, ap, subst, _∙_}
+use mathlib.Core.Bool.{true, false}
 use mathlib.Core.List.{List, [], _++_}
 use borrow.Author.Tests.{le-ltb}
-use Rattle.counts.specs.Outcome.{Outcome, gives, each, unless, afterwards}
+use Rattle.counts.specs.Outcome.{Outcome, gives, then, each, unless, afterwards}
 use Rattle.counts.proofs.Owes.{roomed-whole}
+use Rattle.counts.proofs.Holds.{each-back}
 use Rattle.counts.proofs.AllBytes.{bytes-append}
 use Rattle.dtype.specs.declared.Order.{Order}
 use Rattle.dtype.specs.Limits.{limited}
@@ -19,6 +21,8 @@ use Rattle.record.specs.Writing.{writing}
 use Rattle.record.specs.Sound.{Small}
 use Rattle.record.proofs.Sound.{Sound}
 use Rattle.record.proofs.RoundTrips.{headerFor, file-all-bytes, written-read}
+use Rattle.check_record.specs.declared.Summary.{Summary}
+use Rattle.check_record.specs.Answer.{summary}
 use Rattle.check_record.specs.Checked.{checkedRecord}
 use Rattle.check_record.specs.Valid.{made}
 use Rattle.check_record.proofs.Accepts.{accepts-valid}
@@ -27,12 +31,20 @@ use Rattle.header_prefix.specs.Answer.{versionIs}
 use Rattle.judge.specs.Judged.{reading}
 use Rattle.judge.proofs.Top.{reading-keeps}
 use Rattle.header.specs.declared.Header.{Header}
+use Rattle.header.specs.declared.HeaderRead.{HeaderRead}
 use Rattle.header.specs.Reads.{lent, infoOf, HeaderInfo, headerInfo}
-use Rattle.claims.specs.Accepted.{Some-file, Printable, Accepts-exactly}
+use Rattle.npy_codes.specs.Values.{summaryValues}
+use Rattle.npy_codes.proofs.Named.{retold}
+use Rattle.claims.specs.Doors.{Door, in-rattle, in-c}
+use Rattle.claims.specs.Accepted.{Some-file, Printable, Accepts, Accepts-exactly}
 use Rattle.read_back.proofs.Accepted.{valid-sound}
-use Rattle.read_back.proofs.Rooms.{read-found, stands-by}
+use Rattle.read_back.proofs.Rooms.{stands-by}
 use Rattle.claims.proofs.Roomy.{roomy-fits}
-use Rattle.claims.proofs.Places.{found-accepted}
+use Rattle.claims.proofs.Doors.{Fails, rattle-fails, c-fails, c-returned, succeeded}
+use Rattle.claims.proofs.Found.{order-back, read-was, in-rooms-checked}
+use Rattle.claims.proofs.Limits.{valid-limits}
+use Rattle.claims.proofs.Numbers.{each-numbered, record-checked-numbered}
+use Rattle.claims.proofs.Readings.{read-tied}
 
 -- ---- what was read is accepted
 accepted-moved : {t t′ ns ns′ s s′ : List ℕ} {o o′ : Order} {r : Record} → t′ ≡ t → ns′ ≡ ns → s′ ≡ s → o′ ≡ o → checkedRecord t′ ns′ s′ o′ ≡ gives r
@@ -41,19 +53,12 @@ accepted-moved et en es eo e = cc
 
 all-read : (t ns s : List ℕ) (o : Order) → Some-file t ns s o → (r : Record) × (checkedRecord t ns s o ≡ gives r)
 all-read t ns s o f =
-    let x = read-found (f .file) (f .before) (f .header) (f .after) (f .reads) in
-    let e = found-accepted (f .file) (f .before) (f .header) (f .after) x in
-    let p = f .stands in
-    (x .header-is .says, accepted-moved (p .table-is) (p .names-are) (p .shape-is) (p .order-is) e)
+    let w = read-was (f .file) (f .before) (f .after) (f .result) (f .header) (f .reads) (f .is) in
+    let e = in-rooms-checked (f .file) (f .before) (f .after) (f .header) w in
+    let p = f .holds in
+    (w .header-is .says, accepted-moved (p .table-is) (p .names-are) (p .shape-is) (p .order-is) e)
 
 -- ---- what is accepted is read from its own header's bytes
-pub valid-limits : (t ns s : List ℕ) (o : Order) (r : Record) → checkedRecord t ns s o ≡ gives r → limited r ≡ gives r
-unfolding limited
-valid-limits t ns s o r e =
-    let (d, is, v) = accepts-valid t ns s o r e in
-    let limits : limited (made d s o) ≡ gives (made d s o) = simp (v .dimensions, v .entries, v .sizes, v .shape-fits) in
-    subst (λ (x : Record). limited x ≡ gives x) (sym is) limits
-
 writing-own : (r : Record) → limited r ≡ gives r → Printable r → writing r (fileOf r) ≡ gives (fileOf r)
 unfolding writing
 writing-own r l p = rw (writing, l, p .shallow, le-ltb _ _ (p .short)) (roomed-whole 28 (fileOf r) (fileOf r) (omega arith))
@@ -80,31 +85,60 @@ own-file : (r : Record) → Sound r → limited r ≡ gives r → Printable r �
 own-file r sound limits p =
     let l = lent (table (r .dtype)) (names (r .dtype)) (r .shape) in
     let fits = roomy-fits r l (record { table-fits = omega arith; names-fit = omega arith; shape-fits = omega arith }) in
-    let given : header.headerInto reading (fileOf r ++ []) l ≡ gives (headerFor r) =
+    let given : header.heldBy reading false (fileOf r ++ []) l ≡ gives (headerFor r) =
     written-read reading reading-keeps r sound (fileOf r) (fileOf r) (writing-own r limits p) [] (roomsOf l) ∙ ap (λ b. unless b 23 (gives (headerFor r))) fits in
     record {
       file = fileOf r ++ [];
       bytes = bytes-append (fileOf r) [] (file-all-bytes r sound) tt;
       before = l;
       after = holding r l;
-      header = answered r;
+      result = HeaderRead.Read (answered r);
       reads =
-          record {
+          read-tied (fileOf r ++ []) l (HeaderRead.Read (answered r)) (holding r l)
+          (record {
             answered = ap gives (told-eq r (declared-is (headerFor r .version))) ∙ sym (ap (each headerInfo) given);
             after = sym (ap (λ (o : Outcome header.Header). afterwards header.holdingHeader o l) given);
-          };
-      stands = stands-by r l (holding r l) (infoOf r) refl refl;
+          });
+      header = headerInfo (headerFor r);
+      is = ap gives (told-eq r (declared-is (headerFor r .version)));
+      holds = stands-by r l (holding r l) (infoOf r) refl refl;
     }
 
 file-moved : (t t′ ns ns′ s : List ℕ) (o : Order) → t ≡ t′ → ns ≡ ns′ → Some-file t′ ns′ s o → Some-file t ns s o
 file-moved t t′ ns ns′ s o et en f = rw (et, en) f
 
-only-read : (t ns s : List ℕ) (o : Order) → Small t → Small s → (r : Record) → checkedRecord t ns s o ≡ gives r → Printable r → Some-file t ns s o
-only-read t ns s o small-t small-s r e p =
+only-read : (t ns s : List ℕ) (o : Order) → Small t → Small s → (r : Record) → checkedRecord t ns s o ≡ gives r
+    → (r : Record) × (t ≡ table (r .dtype)) × (ns ≡ names (r .dtype)) × (s ≡ r .shape) × (o ≡ r .order) × (Printable r → Some-file t ns s o)
+only-read t ns s o small-t small-s r e =
     let (d, is, v) = accepts-valid t ns s o r e in
     let sound : Sound (made d s o) = valid-sound t ns s o d v small-t small-s in
     let limits : limited (made d s o) ≡ gives (made d s o) = subst (λ (x : Record). limited x ≡ gives x) is (valid-limits t ns s o r e) in
-    file-moved t (table d) ns (names d) s o (v .table-is) (v .names-are) (own-file (made d s o) sound limits (subst Printable is p))
+    (made d s o, v .table-is, v .names-are, refl, refl, λ p. file-moved t (table d) ns (names d) s o (v .table-is) (v .names-are) (own-file (made d s o) sound limits p))
+
+-- ---- for either door
+given-success : {B R : Type 0} (door : Door B R) (o : Outcome B) (y : R) → y ≡ door .returned o → (b : B) → o ≡ gives b → ((b : B) → door .success (door .returned (gives b)) ≡ true)
+    → door .success y ≡ true
+given-success door o y is b e always = ap (door .success) (is ∙ ap (door .returned) e) ∙ always b
+
+accepts-by : {R : Type 0} (door : Door Summary R) (t ns s : List ℕ) (o : Order) (y : R) → Small t → Small s → y ≡ door .returned (each summary (checkedRecord t ns s o))
+    → Fails door (each summary (checkedRecord t ns s o)) → ((b : Summary) → door .success (door .returned (gives b)) ≡ true) → Accepts door t ns s o y
+accepts-by door t ns s o y small-t small-s is fails always =
+    record {
+      all-read = λ f.
+          let (r, e) = all-read t ns s o f in
+          given-success door (each summary (checkedRecord t ns s o)) y is (summary r) (ap (each summary) e) always;
+      only-read = λ h.
+          let (z, e) = succeeded door (each summary (checkedRecord t ns s o)) y is fails h in
+          let (r, accepted, _) = each-back summary (checkedRecord t ns s o) z e in
+          only-read t ns s o small-t small-s r accepted;
+    }
 
 pub accepts-exactly : Accepts-exactly
-accepts-exactly t ns s o small-t small-s = record { all-read = all-read t ns s o; only-read = only-read t ns s o small-t small-s }
+accepts-exactly =
+    record {
+      check = λ t ns s o x h. accepts-by in-rattle t ns s o _ (h .small-table) (h .small-shape) (h .answered) (rattle-fails _) (λ b. refl);
+      npy-check = λ t ns s o said r said′ h.
+          accepts-by (in-c summaryValues said) t ns s o (r, said′) (h .small-table) (h .small-shape)
+          (c-returned (retold (ap (λ (g : Outcome Order). then g (λ o. each summary (checkedRecord t ns s o))) (order-back o)) (h .answered)))
+          (c-fails summaryValues said _ (each-numbered summary _ (record-checked-numbered t ns s o))) (λ b. refl);
+    }

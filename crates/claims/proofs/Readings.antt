@@ -1,0 +1,81 @@
+-- The contracts of the readers are stated with the literal's own reading, their predicates (specs/Functions.antt, specs/InC.antt) with every reading that keeps the promise.
+-- For each text one outcome keeps it, so a contract gives its predicate.
+use Prim.Native.Nat.{ℕ}
+use mathlib.Core.Path.{_≡_, sym, ap, _∙_}
+use mathlib.Core.Bool.{Bool, false}
+use mathlib.Core.List.{List}
+use lib.Dec.{ltb}
+use lib.ListN.{length, take}
+use Rattle.counts.specs.Outcome.{Outcome, each, afterwards}
+use Rattle.refusal.specs.declared.BytesAnswer.{BytesAnswer}
+use Rattle.dtype.specs.Record.{Record}
+use Rattle.record.specs.Rooms.{Lent, roomsOf, holding}
+use Rattle.record.specs.Header as header
+use Rattle.record.proofs.OneHeader.{header-same, text-same as records-same}
+use Rattle.judge.specs.Judged.{reading}
+use Rattle.judge.proofs.Top.{reading-keeps}
+use Rattle.header.specs.declared.TextRead.{TextRead}
+use Rattle.header.specs.declared.HeaderRead.{HeaderRead}
+use Rattle.header.specs.Reads as reads
+use Rattle.list_file.specs.Report.{held-bytes, fresh, textFor, reportOf, Reports, WritesText}
+use Rattle.npy_codes.proofs.Named.{retold}
+use Rattle.npy.specs.Calls as npy
+use Rattle.claims.specs.Functions.{Read, Read-held, Read-text, Report}
+use Rattle.claims.specs.InC.{Npy-read, Npy-read-held, Npy-read-text}
+
+-- ---- the definitions with another reading
+module _ (other : header.Reading) (keeps : header.Keeps other) where
+  pub text-same : (text : List ℕ) (l : Lent) → header.textBy reading text l ≡ header.textBy other text l
+  text-same text l = records-same reading other reading-keeps keeps text l
+
+  pub held-same : (longer : Bool) (file : List ℕ) (l : Lent) → reads.heldInto longer file l ≡ header.heldBy other longer file l
+  held-same longer file l = header-same reading other reading-keeps keeps longer file (roomsOf l)
+
+-- ---- from a contract to its predicate
+pub read-held-tied : (longer : Bool) (file : List ℕ) (l : Lent) (x : HeaderRead) (l′ : Lent) → reads.ReadsHeld longer file l x l′ → Read-held longer file l x l′
+read-held-tied longer file l x l′ h =
+    record {
+      answered = λ other keeps. h .answered ∙ ap (each reads.headerInfo) (held-same other keeps longer file l);
+      after = λ other keeps. h .after ∙ ap (λ (o : Outcome header.Header). afterwards header.holdingHeader o l) (held-same other keeps longer file l);
+    }
+
+pub read-tied : (file : List ℕ) (l : Lent) (x : HeaderRead) (l′ : Lent) → reads.Reads file l x l′ → Read file l x l′
+read-tied file l x l′ h = read-held-tied false file l x l′ h
+
+pub read-text-tied : (text : List ℕ) (l : Lent) (x : TextRead) (l′ : Lent) → reads.ReadsText text l x l′ → Read-text text l x l′
+read-text-tied text l x l′ h =
+    record {
+      answered = λ other keeps. h .answered ∙ ap (each reads.infoOf) (text-same other keeps text l);
+      after = λ other keeps. h .after ∙ ap (λ (o : Outcome Record). afterwards holding o l) (text-same other keeps text l);
+    }
+
+report-same : (other : header.Reading) → header.Keeps other → (file : List ℕ)
+    → reportOf file ≡ textFor (header.heldBy other (ltb held-bytes (length file)) (take held-bytes file) fresh)
+unfolding reportOf
+report-same other keeps file = ap textFor (held-same other keeps (ltb held-bytes (length file)) (take held-bytes file) fresh)
+
+text-moved : {text new out : List ℕ} {x : BytesAnswer} {out′ : List ℕ} → text ≡ new → WritesText text out x out′ → WritesText new out x out′
+text-moved e h = rw (sym e) h
+
+pub report-tied : (file out : List ℕ) (x : BytesAnswer) (out′ : List ℕ) → Reports file out x out′ → Report file out x out′
+report-tied file out x out′ h = λ other keeps. text-moved (report-same other keeps file) h
+
+-- ---- the same in C
+pub npy-read-held-tied : (longer : Bool) (file : List ℕ) (l : Lent) (said : List ℕ) (r : ℕ) (l′ : Lent) (said′ : List ℕ)
+    → npy.ReadsHeld longer file l said r l′ said′ → Npy-read-held longer file l said r l′ said′
+npy-read-held-tied longer file l said r l′ said′ h =
+    record {
+      answered = λ other keeps. retold (ap (each reads.headerInfo) (held-same other keeps longer file l)) (h .told);
+      after = λ other keeps. h .rooms ∙ ap (λ (o : Outcome header.Header). afterwards header.holdingHeader o l) (held-same other keeps longer file l);
+    }
+
+pub npy-read-tied : (file : List ℕ) (l : Lent) (said : List ℕ) (r : ℕ) (l′ : Lent) (said′ : List ℕ) → npy.Reads file l said r l′ said′ → Npy-read file l said r l′ said′
+npy-read-tied file l said r l′ said′ h = npy-read-held-tied false file l said r l′ said′ h
+
+pub npy-read-text-tied : (text : List ℕ) (l : Lent) (said : List ℕ) (r : ℕ) (l′ : Lent) (said′ : List ℕ)
+    → npy.ReadsText text l said r l′ said′ → Npy-read-text text l said r l′ said′
+npy-read-text-tied text l said r l′ said′ h =
+    record {
+      answered = λ other keeps. retold (ap (each reads.infoOf) (text-same other keeps text l)) (h .told);
+      after = λ other keeps. h .rooms ∙ ap (λ (o : Outcome Record). afterwards holding o l) (text-same other keeps text l);
+    }
