@@ -1,16 +1,15 @@
 -- Document 01, "The refusal numbers": "Places: the given record's 27, 13, 20, 21, 22". Of these the four before 22, of a dtype and the shape beside it,
 -- by the tests of `limited` (dtype/specs/Limits.antt).
 use Prim.Native.Nat.{ℕ}
-use mathlib.Core.Bool.{_||_}
 use mathlib.Core.List.{List}
-use Rattle.counts.specs.Outcome.{Outcome, gives, then, unless}
+use Rattle.counts.specs.Outcome.{Outcome, gives, then}
 use Rattle.dtype.specs.Dtype.{Dtype}
-use Rattle.dtype.specs.Limits.{overDimensions, overLevels, overEntries, overSize}
+use Rattle.dtype.specs.Limits.{unlessOver}
 use Rattle.check_table.specs.Reading.{readDtype}
 
 -- a dtype beside a shape, or the first of 13, 20, 21 that applies
 abbrev pub within : Dtype → (shape : List ℕ) → Outcome Dtype
-within d s = unless (overDimensions s || overLevels d) 13 (unless (overEntries d) 20 (unless (overSize d) 21 (gives d)))
+within d s = unlessOver d s (gives d)
 
 -- the dtype of a table and its names beside a shape, or the first of 27, 13, 20, 21 that applies
 unfoldable pub limitedDtype : (table names shape : List ℕ) → Outcome Dtype

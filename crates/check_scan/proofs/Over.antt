@@ -3,9 +3,10 @@ use Prim.Native.Nat.{ℕ, _*_, _^_, _<_}
 use mathlib.Core.Path.{_≡_, refl, ap, _∙_}
 use mathlib.Core.Bool.{Bool, true, false}
 use mathlib.Core.List.{List}
+use lib.Dec.{eqb}
 use borrow.Author.Tests.{lt-leb, ne-eqb}
 use Rattle.counts.specs.Number.{number}
-use Rattle.dtype.specs.PlainBytes.{isObject, bytesFor}
+use Rattle.dtype.specs.PlainBytes.{bytesFor}
 use Rattle.dtype.specs.Limits.{over}
 use Rattle.dtype.specs.Agrees.{entryAt}
 use Rattle.dtype.specs.Seen.{objectAt}
@@ -24,9 +25,9 @@ no-object-here t e x s h = ne-eqb (entryAt t e .letter) 79 (λ p. h (ap (λ (a :
 pub unicode-over : (letter size : ℕ) → letter ≡ 85 → bytesOver (bytes (number (4 * size))) ≡ over (bytesFor letter size)
 unicode-over letter size h = bytes-test (4 * size) ∙ rw h
 
-not-over : (letter size : ℕ) (b : Bool) → isObject letter ≡ b → (letter ≡ 85 → ⊥) → size < 2 ^ 64 → false ≡ over (bytesFor letter size)
+not-over : (letter size : ℕ) (b : Bool) → eqb letter 79 ≡ b → (letter ≡ 85 → ⊥) → size < 2 ^ 64 → false ≡ over (bytesFor letter size)
 not-over letter size true e h l = simp e
 not-over letter size false e h l = simp (e, ne-eqb letter 85 h, lt-leb (2 ^ 64) size l)
 
 pub other-over : (letter size : ℕ) → (letter ≡ 85 → ⊥) → size < 2 ^ 64 → false ≡ over (bytesFor letter size)
-other-over letter size h l = not-over letter size (isObject letter) refl h l
+other-over letter size h l = not-over letter size (eqb letter 79) refl h l

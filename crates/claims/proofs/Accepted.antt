@@ -3,11 +3,11 @@
 use Prim.Native.Nat.{ℕ}
 use native.Mathlib.Omega.{arith}
 use mathlib.Core.Path.{_≡_, refl, sym, ap, subst, _∙_}
-use mathlib.Core.Bool.{true}
+use mathlib.Core.Bool.{true, false}
 use mathlib.Core.List.{List, [], _++_}
-use lib.ListN.{length}
 use borrow.Author.Tests.{le-ltb}
-use Rattle.counts.specs.Outcome.{Outcome, gives, then, each, unless}
+use Rattle.counts.specs.Outcome.{Outcome, gives, then, each, unless, afterwards}
+use Rattle.counts.proofs.Owes.{roomed-whole}
 use Rattle.counts.proofs.Holds.{each-back}
 use Rattle.counts.proofs.AllBytes.{bytes-append}
 use Rattle.dtype.specs.declared.Order.{Order}
@@ -18,8 +18,9 @@ use Rattle.record.specs.Rooms.{roomsOf, holding}
 use Rattle.record.specs.Header as header
 use Rattle.record.specs.File.{fileOf, headerLength}
 use Rattle.record.specs.Writing.{writing}
-use Rattle.record.specs.Sound.{Small, Sound}
-use Rattle.record.proofs.RoundTrips.{headerFor, file-whole, file-all-bytes, written-read}
+use Rattle.record.specs.Sound.{Small}
+use Rattle.record.proofs.Sound.{Sound}
+use Rattle.record.proofs.RoundTrips.{headerFor, file-all-bytes, written-read}
 use Rattle.check_record.specs.declared.Summary.{Summary}
 use Rattle.check_record.specs.Answer.{summary}
 use Rattle.check_record.specs.Checked.{checkedRecord}
@@ -58,11 +59,9 @@ all-read t ns s o f =
     (w .header-is .says, accepted-moved (p .table-is) (p .names-are) (p .shape-is) (p .order-is) e)
 
 -- ---- what is accepted is read from its own header's bytes
-writing-own : (r : Record) → limited r ≡ gives r → Printable r → writing r (fileOf r) ≡ gives (headerLength r)
+writing-own : (r : Record) → limited r ≡ gives r → Printable r → writing r (fileOf r) ≡ gives (fileOf r)
 unfolding writing
-writing-own r l p =
-    let whole = file-whole r in
-    rw (writing, l, p .shallow, le-ltb _ _ (p .short), le-ltb (length (fileOf r)) (headerLength r) (omega arith))
+writing-own r l p = rw (writing, l, p .shallow, le-ltb _ _ (p .short)) (roomed-whole 28 (fileOf r) (fileOf r) (omega arith))
 
 declared : version.Version → Version
 declared version.one-zero = Version.OneZero
@@ -86,8 +85,8 @@ own-file : (r : Record) → Sound r → limited r ≡ gives r → Printable r �
 own-file r sound limits p =
     let l = lent (table (r .dtype)) (names (r .dtype)) (r .shape) in
     let fits = roomy-fits r l (record { table-fits = omega arith; names-fit = omega arith; shape-fits = omega arith }) in
-    let given : header.headerInto reading (fileOf r ++ []) l ≡ gives (headerFor r) =
-    written-read reading reading-keeps r sound (fileOf r) (headerLength r) (writing-own r limits p) [] (roomsOf l) ∙ ap (λ b. unless b 23 (gives (headerFor r))) fits in
+    let given : header.heldBy reading false (fileOf r ++ []) l ≡ gives (headerFor r) =
+    written-read reading reading-keeps r sound (fileOf r) (fileOf r) (writing-own r limits p) [] (roomsOf l) ∙ ap (λ b. unless b 23 (gives (headerFor r))) fits in
     record {
       file = fileOf r ++ [];
       bytes = bytes-append (fileOf r) [] (file-all-bytes r sound) tt;
@@ -98,7 +97,7 @@ own-file r sound limits p =
           read-tied (fileOf r ++ []) l (HeaderRead.Read (answered r)) (holding r l)
           (record {
             answered = ap gives (told-eq r (declared-is (headerFor r .version))) ∙ sym (ap (each headerInfo) given);
-            after = sym (ap (λ (o : Outcome header.Header). header.filled o l) given);
+            after = sym (ap (λ (o : Outcome header.Header). afterwards header.holdingHeader o l) given);
           });
       header = headerInfo (headerFor r);
       is = ap gives (told-eq r (declared-is (headerFor r .version)));

@@ -5,10 +5,12 @@ use mathlib.Core.Path.{_≡_, refl, sym, ap, _∙_}
 use mathlib.Core.List.{List, [], _∷_}
 use lib.ListN.{length, drop, getD}
 use borrow.Author.Tests.{leb-true}
-use Rattle.counts.specs.Outcome.{Outcome, gives, refused, then, each}
+use Rattle.counts.specs.Outcome.{Outcome, gives, refused, then, each, afterwards}
+use Rattle.counts.specs.Front.{atFront}
+use Rattle.counts.proofs.Owes.{afterwards-refused, owes-rest}
 use Rattle.counts.proofs.OneOutcome.{pair-of}
 use Rattle.type_str.specs.TypeString.{typeString}
-use Rattle.type_str.specs.Text.{typePrinted, typePlaced}
+use Rattle.type_str.specs.Text.{typePrinted}
 use Rattle.dtype.specs.declared.Order.{Order}
 use Rattle.dtype.specs.Entries.{entriesOf}
 use Rattle.dtype.specs.Names.{nameBytes}
@@ -26,10 +28,9 @@ use Rattle.place_item.specs.Item.{itemOf}
 use Rattle.place.specs.Place.{placeOf}
 use Rattle.header.specs.declared.RecordInfo.{RecordInfo}
 use Rattle.header.specs.Reads as header
-use Rattle.write.specs.Writes.{headerWritten, headerPlaced}
-use Rattle.list_record.specs.Answer.{listed, roomBy}
-use Rattle.string_value.specs.Rooms.{after}
-use Rattle.npy_codes.specs.Codes.{code, left, Tells, alone}
+use Rattle.write.specs.Writes.{headerWritten}
+use Rattle.list_record.specs.Answer.{listed}
+use Rattle.npy_codes.specs.Codes.{Tells, alone}
 use Rattle.npy_codes.specs.Numbers.{orderFor, typeFor}
 use Rattle.npy_codes.specs.Values.{typeValues, textValues, headerValues, summaryValues, runValues}
 use Rattle.npy.specs.Calls.{Puts}
@@ -60,8 +61,8 @@ use Rattle.claims.proofs.Numbers.{
   element-bytes-numbered,
   element-points-numbered,
 }
-use Rattle.claims.proofs.Refusals.{by-outcome, typed-left, header-left, listed-left, strides-left}
-use Rattle.claims.proofs.Beyond.{holding-rest, owed, typed-rest, listed-rest, header-placed-rest, strides-rest}
+use Rattle.claims.proofs.Refusals.{strides-left}
+use Rattle.claims.proofs.Beyond.{holding-rest, strides-rest}
 
 -- ---- the code
 module _ {A M : Type 0} (values : A → List ℕ) {before after : M} {said said′ : List ℕ} {r : ℕ} where
@@ -88,49 +89,41 @@ beside : {A M : Type 0} (values : A → List ℕ) (o : Outcome A) (l l′ : M) (
     → ((n : ℕ) → o ≡ refused n → l′ ≡ l) → Coded {M = M × List ℕ} values o (l, said) r (l′, said′) said′
 beside values o l l′ said said′ r h t k = coded values o h t (λ n e s. pair-of (k n e) s)
 
--- what is given comes first
-module _ {A B : Type 0} (next : A → Outcome B) (put : A → List ℕ) (room : List ℕ) where
-  given-left : (given : Outcome A) → ((a : A) (n : ℕ) → next a ≡ refused n → put a ≡ room) → (n : ℕ) → then given next ≡ refused n → left put given room ≡ room
-  given-left (gives a) h n e = h a n e
-  given-left (refused k) h n e = refl
-
 puts-coded : (put : Outcome (List ℕ)) (room count : List ℕ) (r : ℕ) (room′ count′ : List ℕ) → Numbered put → Puts put room count r room′ count′
     → Coded {M = List ℕ × List ℕ} alone (each length put) (room, count) r (room′, count′) count′
 puts-coded put room count r room′ count′ h c =
     beside alone (each length put) room room′ count count′ r (each-numbered length put h) (c .told)
-    (λ n e. c .room-after ∙ by-outcome length (after room) room (λ k. refl) put n e)
+    (λ n e. c .room-after ∙ afterwards-refused atFront length room put n e)
+
+strides-kept : (s room : List ℕ) (given : Outcome Order) (n : ℕ) → then given (λ o. shape.stridesCount o s (length room)) ≡ refused n
+    → afterwards (λ o. afterwards (λ n. atFront (strides o s)) (shape.stridesCount o s (length room))) given room ≡ room
+strides-kept s room (gives o) n e = strides-left (strides o s) room n (shape.stridesCount o s (length room)) e
+strides-kept s room (refused k) n e = refl
 
 pub zero-answers : Zero-answers
 zero-answers =
     record {
       npy-read-held = λ longer file l said reading keeps r new told c.
           beside headerValues _ l new said told r (each-numbered header.headerInfo _ (held-header-numbered reading longer file l)) (c .answered reading keeps)
-          (λ n e. c .after reading keeps ∙ by-outcome header.headerInfo (λ o. record-of-file.filled o l) l (λ k. refl) (header.heldBy reading longer file l) n e);
+          (λ n e. c .after reading keeps ∙ afterwards-refused record-of-file.holdingHeader header.headerInfo l (record-of-file.heldBy reading longer file l) n e);
       npy-read-text = λ text l said reading keeps r new told c.
           beside textValues _ l new said told r (each-numbered header.infoOf _ (text-numbered reading text l)) (c .answered reading keeps)
-          (λ n e. c .after reading keeps ∙ by-outcome header.infoOf (λ o. header.filled o l) l (λ k. refl) (header.textBy reading text l) n e);
+          (λ n e. c .after reading keeps ∙ afterwards-refused holding header.infoOf l (record-of-file.textBy reading text l) n e);
       npy-check = λ t ns s order said r x c.
           told-coded summaryValues _ said r x
           (then-numbered (orderFor order) (λ o. each summary (checkedRecord t ns s o)) (for-numbered order) (λ o. each-numbered summary _ (record-checked-numbered t ns s o))) (c .answered);
       npy-write-header = λ t ns s order room count r new told c.
-          beside alone _ room new count told r
-          (then-numbered (orderFor order) (λ o. headerWritten t ns s o room) (for-numbered order) (λ o. header-written-numbered t ns s o room)) (c .writes .told)
-          (λ n e. c .writes .room-after ∙ given-left _ (λ o. headerPlaced t ns s o room) room (orderFor order) (λ o k f. header-left t ns s o room k f) n e);
+          puts-coded _ room count r new told (then-numbered (orderFor order) (λ o. headerWritten t ns s o room) (for-numbered order) (λ o. header-written-numbered t ns s o room)) (c .writes);
       npy-list = λ version start t ns s order room count r new told c.
-          beside alone _ room new count told r
+          puts-coded _ room count r new told
           (then-numbered (versionOf version 0) (λ v. then (orderFor order) (λ o. listed v start t ns s o room)) (version-for-numbered version)
-          (λ v. then-numbered (orderFor order) (λ o. listed v start t ns s o room) (for-numbered order) (λ o. listed-numbered v start t ns s o room))) (c .told)
-          (λ n e. c .room-after
-          ∙ given-left _ (λ v. left (λ o. roomBy (checkedRecord t ns s o) v start room) (orderFor order) room) room (versionOf version 0)
-          (λ v k f. given-left _ (λ o. roomBy (checkedRecord t ns s o) v start room) room (orderFor order) (λ o j g. listed-left v start room j (checkedRecord t ns s o) g) k f) n e);
+          (λ v. then-numbered (orderFor order) (λ o. listed v start t ns s o room) (for-numbered order) (λ o. listed-numbered v start t ns s o room))) c;
       npy-count = λ s order count r x c.
           told-coded alone _ count r x (then-numbered (orderFor order) (λ o. shape.itemCount o s) (for-numbered order) (λ o. count-numbered o s)) c;
       npy-strides = λ s order room count r new told c.
           beside alone _ room new count told r
           (then-numbered (orderFor order) (λ o. shape.stridesCount o s (length room)) (for-numbered order) (λ o. strides-numbered o s (length room))) (c .told)
-          (λ n e. c .room-after
-          ∙ given-left _ (λ o. shape.stridesAfter (shape.stridesCount o s (length room)) (strides o s) room) room (orderFor order)
-          (λ o k f. strides-left (strides o s) room k (shape.stridesCount o s (length room)) f) n e);
+          (λ n e. c .room-after ∙ strides-kept s room (orderFor order) n e);
       npy-item-number = λ s order index item r x c.
           told-coded alone _ item r x (then-numbered (orderFor order) (λ o. itemOf o s index) (for-numbered order) (λ o. item-numbered o s index)) c;
       npy-place = λ file start t ns s order i p run r x c.
@@ -154,9 +147,8 @@ zero-answers =
           (then-numbered (typeFor order letter size units) _ (type-for-numbered order letter size units) (λ t. write-points-numbered t value room)) c;
       npy-type-read = λ text said r x c. told-coded typeValues (typeString text) said r x (type-numbered text) c;
       npy-type-print = λ order letter size units room count r new told c.
-          beside alone _ room new count told r
-          (then-numbered (typeFor order letter size units) (λ t. typePrinted t room) (type-for-numbered order letter size units) (λ t. type-printed-numbered t room)) (c .told)
-          (λ n e. c .room-after ∙ given-left _ (λ t. typePlaced t room) room (typeFor order letter size units) (λ t k f. typed-left t room k f) n e);
+          puts-coded _ room count r new told
+          (then-numbered (typeFor order letter size units) (λ t. typePrinted t room) (type-for-numbered order letter size units) (λ t. type-printed-numbered t room)) c;
     }
 
 -- ---- what was not needed
@@ -173,34 +165,33 @@ same-left : (said : RecordInfo) (l l′ : Lent) → l′ ≡ l → Same-rest sai
 same-left said l l′ q = record { table-rest = rw q refl; names-rest = rw q refl; shape-rest = rw q refl }
 
 header-rest-told : (t : header.HeaderInfo) (said : List ℕ) (l l′ : Lent) (o : Outcome record-of-file.Header)
-    → headerValues t ≡ left headerValues (each header.headerInfo o) said → l′ ≡ record-of-file.filled o l → Same-rest (t .info) l l′
+    → headerValues t ≡ afterwards (λ a old. headerValues a) (each header.headerInfo o) said → l′ ≡ afterwards record-of-file.holdingHeader o l → Same-rest (t .info) l l′
 header-rest-told t said l l′ (gives h) e q =
     rest-for (h .says) (t .info) l l′ (ap (λ x. getD x 3 0) e) (ap (λ x. getD x 4 0) e) (ap (λ x. getD x 2 0) e) q
 header-rest-told t said l l′ (refused n) e q = same-left (t .info) l l′ q
 
 text-rest-told : (t : RecordInfo) (said : List ℕ) (l l′ : Lent) (o : Outcome Record)
-    → textValues t ≡ left textValues (each header.infoOf o) said → l′ ≡ header.filled o l → Same-rest t l l′
+    → textValues t ≡ afterwards (λ a old. textValues a) (each header.infoOf o) said → l′ ≡ afterwards holding o l → Same-rest t l l′
 text-rest-told t said l l′ (gives r) e q = rest-for r t l l′ (ap (λ x. getD x 2 0) e) (ap (λ x. getD x 3 0) e) (ap (λ x. getD x 1 0) e) q
 text-rest-told t said l l′ (refused n) e q = same-left t l l′ q
 
 -- the count is how many were written, or nothing was
 spares : (o : Outcome ℕ) (room room′ count : List ℕ) (n : ℕ) → ((m : ℕ) → o ≡ gives m → drop m room′ ≡ drop m room) → ((k : ℕ) → o ≡ refused k → room′ ≡ room)
-    → n ∷ [] ≡ left alone o count → drop n room′ ≡ drop n room
+    → n ∷ [] ≡ afterwards (λ a old. alone a) o count → drop n room′ ≡ drop n room
 spares (gives m) room room′ count n h k e = h n (ap gives (sym (ap (λ x. getD x 0 0) e)))
 spares (refused j) room room′ count n h k e = ap (drop n) (k j refl)
 
-module _ {A : Type 0} (next : A → Outcome ℕ) (put : A → List ℕ) (room : List ℕ) where
-  given-rest : (given : Outcome A) → ((a : A) (n : ℕ) → next a ≡ gives n → drop n (put a) ≡ drop n room) → (n : ℕ) → then given next ≡ gives n
-      → drop n (left put given room) ≡ drop n room
-  given-rest (gives a) h n e = h a n e
-  given-rest (refused k) h n e = refl
+spared : (put : Outcome (List ℕ)) (room count : List ℕ) (r : ℕ) (room′ : List ℕ) (n : ℕ) → Puts put room count r room′ (n ∷ []) → drop n room′ ≡ drop n room
+spared put room count r room′ n c =
+    spares (each length put) room room′ count n (λ m e. owes-rest put room (each length put) room′ m (record { answered = refl; room-after = c .room-after }) e)
+    (λ k e. c .room-after ∙ afterwards-refused atFront length room put k e) (c .told .after)
 
-strides-behind : (o : Order) (s out : List ℕ) (c : Outcome ℕ) → drop (length s) (shape.stridesAfter c (strides o s) out) ≡ drop (length s) out
+strides-behind : (o : Order) (s out : List ℕ) (c : Outcome ℕ) → drop (length s) (afterwards (λ n. atFront (strides o s)) c out) ≡ drop (length s) out
 strides-behind o s out (gives n) = strides-rest o s out n (gives n) refl
 strides-behind o s out (refused n) = refl
 
 strides-given : (s room : List ℕ) (given : Outcome Order)
-    → drop (length s) (left (λ o. shape.stridesAfter (shape.stridesCount o s (length room)) (strides o s) room) given room) ≡ drop (length s) room
+    → drop (length s) (afterwards (λ o. afterwards (λ n. atFront (strides o s)) (shape.stridesCount o s (length room))) given room) ≡ drop (length s) room
 strides-given s room (gives o) = strides-behind o s room (shape.stridesCount o s (length room))
 strides-given s room (refused n) = refl
 
@@ -210,26 +201,10 @@ rest-in-c =
       npy-read-held = λ longer file l l′ said r t c.
           header-rest-told t said l l′ (header.heldInto longer file l) (c .answered reading reading-keeps .after) (c .after reading reading-keeps);
       npy-read-text = λ text l l′ said r t c.
-          text-rest-told t said l l′ (header.textInto text l) (c .answered reading reading-keeps .after) (c .after reading reading-keeps);
-      npy-write-header = λ t ns s order room count r room′ n c.
-          spares _ room room′ count n
-          (λ m e. ap (drop m) (c .writes .room-after) ∙ given-rest _ (λ o. headerPlaced t ns s o room) room (orderFor order) (λ o k f. header-placed-rest t ns s o room k f) m e)
-          (λ k e. c .writes .room-after ∙ given-left _ (λ o. headerPlaced t ns s o room) room (orderFor order) (λ o j f. header-left t ns s o room j f) k e) (c .writes .told .after);
-      npy-list = λ version start t ns s order room count r room′ n c.
-          spares _ room room′ count n
-          (λ m e. ap (drop m) (c .room-after)
-          ∙ given-rest _ (λ v. left (λ o. roomBy (checkedRecord t ns s o) v start room) (orderFor order) room) room (versionOf version 0)
-          (λ v k f. given-rest _ (λ o. roomBy (checkedRecord t ns s o) v start room) room (orderFor order) (λ o j g. listed-rest v start room j (checkedRecord t ns s o) g) k f) m e)
-          (λ m e. c .room-after
-          ∙ given-left _ (λ v. left (λ o. roomBy (checkedRecord t ns s o) v start room) (orderFor order) room) room (versionOf version 0)
-          (λ v k f. given-left _ (λ o. roomBy (checkedRecord t ns s o) v start room) room (orderFor order) (λ o j g. listed-left v start room j (checkedRecord t ns s o) g) k f) m e)
-          (c .told .after);
-      npy-type-print = λ order letter size units room count r room′ n c.
-          spares _ room room′ count n
-          (λ m e. ap (drop m) (c .room-after) ∙ given-rest _ (λ t. typePlaced t room) room (typeFor order letter size units) (λ t k f. typed-rest t room k f) m e)
-          (λ k e. c .room-after ∙ given-left _ (λ t. typePlaced t room) room (typeFor order letter size units) (λ t j f. typed-left t room j f) k e) (c .told .after);
-      puts = λ put room count r room′ n c.
-          spares (each length put) room room′ count n (λ m e. owed put room (each length put) room′ m (record { answered = refl; room-after = c .room-after }) e)
-          (λ k e. c .room-after ∙ by-outcome length (after room) room (λ j. refl) put k e) (c .told .after);
+          text-rest-told t said l l′ (record-of-file.textBy reading text l) (c .answered reading reading-keeps .after) (c .after reading reading-keeps);
+      npy-write-header = λ t ns s order room count r room′ n c. spared _ room count r room′ n (c .writes);
+      npy-list = λ version start t ns s order room count r room′ n c. spared _ room count r room′ n c;
+      npy-type-print = λ order letter size units room count r room′ n c. spared _ room count r room′ n c;
+      puts = λ put room count r room′ n c. spared put room count r room′ n c;
       npy-strides = λ s order room count r room′ count′ c. ap (drop (length s)) (c .room-after) ∙ strides-given s room (orderFor order);
     }

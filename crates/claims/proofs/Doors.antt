@@ -9,7 +9,7 @@ use lib.Dec.{eqb}
 use borrow.Author.Tests.{leb-true, eqb-true}
 use Rattle.counts.specs.Outcome.{Outcome, gives, refused}
 use Rattle.counts.proofs.OneOutcome.{pair-of}
-use Rattle.npy_codes.specs.Codes.{code, left, Tells}
+use Rattle.npy_codes.specs.Codes.{Tells}
 use Rattle.claims.specs.Doors.{Door, in-rattle, in-c}
 use Rattle.claims.specs.Exact.{Exactly}
 use Rattle.claims.proofs.Numbers.{Numbered}

@@ -3,12 +3,12 @@
 -- that is read.
 use Prim.Native.Nat.{ℕ, _+_, _≤_}
 use mathlib.Core.Path.{_≡_, refl, sym, ap, subst, _∙_}
-use mathlib.Core.Bool.{Bool, true, false, not}
-use mathlib.Core.List.{List, _++_}
+use mathlib.Core.Bool.{Bool, not}
+use mathlib.Core.List.{List}
 use lib.Dec.{ltb}
-use lib.ListN.{length, take, drop}
+use lib.ListN.{length}
 use borrow.Author.Tests.{le-ltb, ltb-false, not-false}
-use Rattle.counts.specs.Outcome.{Outcome, gives, refused, then, each, unless}
+use Rattle.counts.specs.Outcome.{Outcome, gives, then, each, afterwards}
 use Rattle.counts.specs.Front.{atFront}
 use Rattle.counts.proofs.Apart.{refused-gives, gives-apart}
 use Rattle.counts.proofs.Holds.{unless-back, then-back, each-back}
@@ -26,28 +26,29 @@ use Rattle.dtype.specs.Shape.{inRange}
 use Rattle.dtype.specs.Record.{Record}
 use Rattle.dtype.specs.Paths.{plainAt}
 use Rattle.dtype.specs.Places.{dataBytes, place}
-use Rattle.record.specs.Prefix.{most-text, Prefix, dataStart, prefix, textOf}
-use Rattle.record.specs.Version.{Version, textStart}
+use Rattle.record.specs.Prefix.{most-text, Prefix, dataStart, prefix, missing, textHeld, textOf}
+use Rattle.record.specs.Version.{Version}
 use Rattle.record.specs.FromValue.{recordOf}
 use Rattle.record.specs.Rooms.{needs, tooSmall, Lent, roomsOf, holding}
 use Rattle.record.specs.Header as header
 use Rattle.record.specs.File.{textLength, fileOf, headerLength}
-use Rattle.record.specs.Writing.{tooDeep, writing, placed, roomAfter}
+use Rattle.record.specs.Writing.{tooDeep, writing}
 use Rattle.record.proofs.Files.{record-in-by}
 use Rattle.record.proofs.RoundTrips.{file-whole}
 use Rattle.check_record.specs.Checked.{checkedRecord}
 use Rattle.judge.specs.Judged.{reading}
 use Rattle.judge.proofs.Top.{reading-keeps}
-use Rattle.header.specs.Reads.{HeaderInfo, headerInfo, infoOf, missing, textHeld, heldInto, textInto, roomed as fitted, filled}
-use Rattle.write.specs.Writes.{headerWritten, roomOf, headerPlaced, WritesHeader}
+use Rattle.header.specs.Reads.{HeaderInfo, headerInfo, infoOf, heldInto}
+use Rattle.write.specs.Writes.{headerWritten}
 use Rattle.place_area.specs.declared.Run.{Run}
 use Rattle.place.specs.Place as place
 use Rattle.place.proofs.Placing.{place-given}
-use Rattle.string_value.specs.Rooms.{roomed, after}
+use Rattle.counts.specs.Owes.{roomed}
+use Rattle.counts.proofs.Owes.{roomed-whole}
 use Rattle.element.specs.Bytes.{runBytes}
 use Rattle.element.specs.Element.{elementBytes, elementPoints}
 use Rattle.element.proofs.Typed.{bytes-after, points-after}
-use Rattle.npy_codes.specs.Codes.{left, alone}
+use Rattle.npy_codes.specs.Codes.{alone}
 use Rattle.npy_codes.specs.Numbers.{orderFor}
 use Rattle.npy_codes.specs.Values.{textValues, headerValues, runValues}
 use Rattle.npy.specs.Calls.{Puts}
@@ -109,16 +110,16 @@ read-in-text text r e =
 
 -- the text of a file is the same where the file may be longer, if it is all there
 held-whole : (longer : Bool) (p : Prefix) (file text : List ℕ) → textOf p file ≡ gives text → textHeld longer p file ≡ gives text
-unfolding textOf
+unfolding textHeld
 held-whole longer p file text e =
     let (fits, is) = unless-back (ltb (length file) (dataStart p)) 3 _ text e in
-    rw (fits) is
+    rw (textHeld, fits) is
 
 whole-held : (longer : Bool) (p : Prefix) (file text : List ℕ) → textHeld longer p file ≡ gives text → textOf p file ≡ gives text
-unfolding textOf
+unfolding textHeld
 whole-held longer p file text e =
     let (fits, is) = unless-back (ltb (length file) (dataStart p)) (missing longer) _ text e in
-    rw (textOf, fits) is
+    rw (textHeld, fits) is
 
 -- a header by its parts
 abbrev made : Version → Record → ℕ → header.Header
@@ -160,56 +161,56 @@ module _ (longer : Bool) (file : List ℕ) (l : Lent) where
       )
 
   reads-exactly : {R : Type 0} (door : Door HeaderInfo R) (y : R) (l′ : Lent) → y ≡ door .returned (each headerInfo (heldInto longer file l))
-      → l′ ≡ header.filled (heldInto longer file l) l → Fails door (each headerInfo (heldInto longer file l)) → Reads-exactly door file l y l′
+      → l′ ≡ afterwards header.holdingHeader (heldInto longer file l) l → Fails door (each headerInfo (heldInto longer file l)) → Reads-exactly door file l y l′
   reads-exactly door y l′ is after fails =
       exactly-by door (λ h. In-file file h × Fits l (h .says)) headerInfo (λ h. holding (h .says)) l y l′ (each headerInfo (heldInto longer file l)) is fails
-      (λ h d. let e = in-file-read h (d .0) (d .1) in (ap (each headerInfo) e, after ∙ ap (λ (o : Outcome header.Header). header.filled o l) e))
+      (λ h d. let e = in-file-read h (d .0) (d .1) in (ap (each headerInfo) e, after ∙ ap (λ (o : Outcome header.Header). afterwards header.holdingHeader o l) e))
       (λ i e. let (h, is-header, _) = each-back headerInfo (heldInto longer file l) i e in (h, read-in-file h is-header))
 
 module _ (text : List ℕ) (l : Lent) where
-  in-text-fitted : (r : Record) → In-text text r → Fits l r → textInto text l ≡ gives r
+  in-text-fitted : (r : Record) → In-text text r → Fits l r → header.textBy reading text l ≡ gives r
   in-text-fitted r s fits = let e = in-text-read text r s in let small = roomy-fits r l fits in simp (e, small)
 
-  fitted-in-text : (r : Record) → textInto text l ≡ gives r → In-text text r × Fits l r
+  fitted-in-text : (r : Record) → header.textBy reading text l ≡ gives r → In-text text r × Fits l r
   fitted-in-text r e =
       let (q, is, of-room) = then-back (header.recordIn reading text) _ r e in
       let (fits, same) = unless-back (tooSmall (roomsOf l) (needs q)) 23 _ r of-room in
       let equal : q ≡ r = gives-apart same in
       (subst (In-text text) equal (read-in-text text q is), subst (Fits l) equal (fits-roomy q l fits))
 
-  reads-text-exactly : {R : Type 0} (door : Door _ R) (y : R) (l′ : Lent) → y ≡ door .returned (each infoOf (textInto text l)) → l′ ≡ filled (textInto text l) l
-      → Fails door (each infoOf (textInto text l)) → Reads-text-exactly door text l y l′
+  reads-text-exactly : {R : Type 0} (door : Door _ R) (y : R) (l′ : Lent) → y ≡ door .returned (each infoOf (header.textBy reading text l)) → l′ ≡ afterwards holding (header.textBy reading text l) l
+      → Fails door (each infoOf (header.textBy reading text l)) → Reads-text-exactly door text l y l′
   reads-text-exactly door y l′ is after fails =
-      exactly-by door (λ r. In-text text r × Fits l r) infoOf holding l y l′ (each infoOf (textInto text l)) is fails
-      (λ r d. let e = in-text-fitted r (d .0) (d .1) in (ap (each infoOf) e, after ∙ ap (λ (o : Outcome Record). filled o l) e))
-      (λ i e. let (r, is-record, _) = each-back infoOf (textInto text l) i e in (r, fitted-in-text r is-record))
+      exactly-by door (λ r. In-text text r × Fits l r) infoOf holding l y l′ (each infoOf (header.textBy reading text l)) is fails
+      (λ r d. let e = in-text-fitted r (d .0) (d .1) in (ap (each infoOf) e, after ∙ ap (λ (o : Outcome Record). afterwards holding o l) e))
+      (λ i e. let (r, is-record, _) = each-back infoOf (header.textBy reading text l) i e in (r, fitted-in-text r is-record))
 
 -- ---- writing
 module _ (t ns s : List ℕ) (o : Order) (room : List ℕ) where
-  writes : (r : Record) → Writable t ns s o room r → writing r room ≡ gives (headerLength r)
-  unfolding writing
-  writes r w = rw (writing, valid-limits t ns s o r (w .accepted), w .shallow, le-ltb _ _ (w .short), le-ltb _ _ (w .fits))
-
-  room-holds : (r : Record) → writing r room ≡ gives (headerLength r) → roomAfter r room ≡ atFront (fileOf r) room
-  room-holds r e = sym (ap (λ (k : ℕ). fileOf r ++ drop k room) (file-whole r) ∙ sym (ap (λ (y : Outcome ℕ). placed y r room) e))
-
-  writable-writes : (r : Record) → Writable t ns s o room r → (headerWritten t ns s o room ≡ gives (headerLength r)) × (headerPlaced t ns s o room ≡ atFront (fileOf r) room)
-  unfolding headerWritten headerPlaced
-  writable-writes r w =
-      let e = writes r w in (
-        ap (λ (y : Outcome Record). then y (λ r. writing r room)) (w .accepted) ∙ e,
-        ap (λ (y : Outcome Record). roomOf y room) (w .accepted) ∙ room-holds r e,
-      )
-
-  writes-writable : (n : ℕ) → headerWritten t ns s o room ≡ gives n → (r : Record) × Writable t ns s o room r
+  writable-writes : (r : Record) → Writable t ns s o room r → headerWritten t ns s o room ≡ gives (fileOf r)
   unfolding headerWritten writing
-  writes-writable n e =
-      let (r, accepted, of-record) = then-back (checkedRecord t ns s o) _ n e in
-      let (_, _, of-text) = then-back (limited r) _ n of-record in
-      let (shallow, short) = unless-back (tooDeep r) 7 _ n of-text in
-      let (few, room-asked) = unless-back (ltb most-text (textLength r)) 4 _ n short in
-      let (fits, _) = unless-back (ltb (length room) (headerLength r)) 28 _ n room-asked in
-      (r, record { accepted = accepted; shallow = shallow; short = ltb-false _ _ few; fits = ltb-false _ _ fits })
+  writable-writes r w =
+      let fits : length (fileOf r) ≤ length room = subst (λ (k : ℕ). k ≤ length room) (sym (file-whole r)) (w .fits) in
+      rw (headerWritten, w .accepted, writing, valid-limits t ns s o r (w .accepted), w .shallow, le-ltb _ _ (w .short)) (roomed-whole 28 room (fileOf r) fits)
+
+  writes-writable : (bytes : List ℕ) → headerWritten t ns s o room ≡ gives bytes → (r : Record) × Writable t ns s o room r
+  unfolding headerWritten writing roomed
+  writes-writable bytes e =
+      let (r, accepted, of-record) = then-back (checkedRecord t ns s o) _ bytes e in
+      let (_, _, of-text) = then-back (limited r) _ bytes of-record in
+      let (shallow, short) = unless-back (tooDeep r) 7 _ bytes of-text in
+      let (few, room-asked) = unless-back (ltb most-text (textLength r)) 4 _ bytes short in
+      let (fits, _) = unless-back (ltb (length room) (length (fileOf r))) 28 _ bytes room-asked in
+      (r, record { accepted = accepted; shallow = shallow; short = ltb-false _ _ few; fits = subst (λ (k : ℕ). k ≤ length room) (file-whole r) (ltb-false _ _ fits) })
+
+-- a call that puts the header of what is due in the room
+writes-exactly : {R : Type 0} (door : Door ℕ R) (Due : Record → Type 0) (room : List ℕ) (y : R) (room′ : List ℕ) (put : Outcome (List ℕ))
+    → y ≡ door .returned (each length put) → room′ ≡ afterwards atFront put room → Fails door (each length put)
+    → ((r : Record) → Due r → put ≡ gives (fileOf r)) → ((bytes : List ℕ) → put ≡ gives bytes → (r : Record) × Due r) → Writes-exactly door Due room y room′
+writes-exactly door Due room y room′ put is held fails due back =
+    exactly-by door Due headerLength (λ r. atFront (fileOf r)) room y room′ (each length put) is fails
+    (λ r d. let e = due r d in (ap (each length) e ∙ ap gives (file-whole r), held ∙ ap (λ (o : Outcome (List ℕ)). afterwards atFront o room) e))
+    (λ n e. let (bytes, given-is, _) = each-back length put n e in back bytes given-is)
 
 -- ---- places
 module _ (file start : ℕ) (t ns s : List ℕ) (o : Order) (x p : List ℕ) where
@@ -250,11 +251,11 @@ module _ (within : TypeStr → List ℕ → Outcome (List ℕ)) (at : Outcome Ru
       record { run = u; placed = placed-at; is = is-content ∙ ap gives same; fits = subst (λ (y : List ℕ). length y ≤ length room) same (ltb-false _ _ fits) }
 
 takes-exactly : {R : Type 0} (door : Door ℕ R) (Due : List ℕ → Type 0) (room : List ℕ) (y : R) (room′ : List ℕ) (whole : Outcome (List ℕ))
-    → y ≡ door .returned (each length whole) → room′ ≡ after room whole → Fails door (each length whole)
+    → y ≡ door .returned (each length whole) → room′ ≡ afterwards atFront whole room → Fails door (each length whole)
     → ((c : List ℕ) → Due c → whole ≡ gives c) → ((c : List ℕ) → whole ≡ gives c → Due c) → Takes-exactly door Due room y room′
 takes-exactly door Due room y room′ whole is held fails due back =
     exactly-by door Due length atFront room y room′ (each length whole) is fails
-    (λ c d. let e = due c d in (ap (each length) e, held ∙ ap (after room) e))
+    (λ c d. let e = due c d in (ap (each length) e, held ∙ ap (λ (o : Outcome (List ℕ)). afterwards atFront o room) e))
     (λ n e. let (c, given-is, _) = each-back length whole n e in (c, back c given-is))
 
 -- ---- from C, where the order's number comes first
@@ -278,8 +279,8 @@ exact =
       read-text = λ text l x l′ h.
           reads-text-exactly text l in-rattle _ l′ (h .answered reading reading-keeps) (h .after reading reading-keeps) (rattle-fails _);
       write-header = λ t ns s o out w out′ h.
-          exactly-by in-rattle (Writable t ns s o out) headerLength (λ r. atFront (fileOf r)) out _ out′ (headerWritten t ns s o out) (h .writes .answered) (rattle-fails _)
-          (λ r d. let e = writable-writes t ns s o out r d in (e .0, h .writes .room-after ∙ e .1)) (writes-writable t ns s o out);
+          writes-exactly in-rattle (Writable t ns s o out) out _ out′ (headerWritten t ns s o out) (h .writes .answered) (h .writes .room-after) (rattle-fails _)
+          (writable-writes t ns s o out) (writes-writable t ns s o out);
       place = λ file start t ns s o x p y h.
           exactly-by in-rattle _ _ _ tt _ tt (place.placeOf file start t ns s o x p) h (rattle-fails _)
           (λ a d. (named-place file start t ns s o x p a d, refl)) (place-named file start t ns s o x p);
@@ -320,14 +321,10 @@ exact-in-c =
           reads-text-exactly text l (in-c textValues said) (r, said′) l′ (c-returned (h .answered reading reading-keeps)) (h .after reading reading-keeps)
           (c-fails textValues said _ (each-numbered infoOf _ (text-numbered reading text l)));
       npy-write-header = λ t ns s order out count r out′ count′ h.
-          exactly-by (in-c alone count) (In-order order (λ o. Writable t ns s o out)) headerLength (λ r. atFront (fileOf r)) out (r, count′) out′ _ (c-returned (h .writes .told))
-          (after-order order (λ o. headerWritten t ns s o out) alone count (λ o. header-written-numbered t ns s o out))
-          (λ a d. (
-            in-order order (λ o. headerWritten t ns s o out) headerLength (λ o r w. writable-writes t ns s o out r w .0) a d,
-            h .writes .room-after
-                ∙ ap (λ (g : Outcome Order). left (λ o. headerPlaced t ns s o out) g out) (d .1)
-                ∙ writable-writes t ns s (d .0) out a (d .2) .1,
-          ))
+          writes-exactly (in-c alone count) (In-order order (λ o. Writable t ns s o out)) out (r, count′) out′ (then (orderFor order) (λ o. headerWritten t ns s o out))
+          (c-returned (h .writes .told)) (h .writes .room-after)
+          (c-fails alone count _ (each-numbered length _ (then-numbered (orderFor order) (λ o. headerWritten t ns s o out) (for-numbered order) (λ o. header-written-numbered t ns s o out))))
+          (in-order order (λ o. headerWritten t ns s o out) fileOf (λ o. writable-writes t ns s o out))
           (order-in order (λ o. headerWritten t ns s o out) (λ o. writes-writable t ns s o out));
       npy-place = λ file start t ns s order x p run r run′ h.
           exactly-by (in-c runValues run) (In-order order (λ o a. Named file start t ns s o x p (a .0) (a .1))) (λ a. place.runFrom (place start (a .0) x p) (a .1)) (λ a m. m) tt

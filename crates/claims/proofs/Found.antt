@@ -6,7 +6,7 @@ use mathlib.Core.Path.{_≡_, refl, sym, ap, _∙_}
 use mathlib.Core.Bool.{Bool, false, true, cond}
 use mathlib.Core.List.{List}
 use lib.Dec.{eqb}
-use Rattle.counts.specs.Outcome.{Outcome, gives, refused, each}
+use Rattle.counts.specs.Outcome.{Outcome, gives, refused, each, afterwards}
 use Rattle.counts.proofs.Apart.{gives-apart, refused-gives}
 use Rattle.counts.proofs.Holds.{each-back}
 use borrow.Author.Tests.{leb-true, eqb-true}
@@ -29,7 +29,6 @@ use Rattle.npy_codes.specs.Values.{headerValues}
 use Rattle.claims.specs.Functions.{Read}
 use Rattle.claims.specs.InC.{Npy-read}
 use Rattle.claims.proofs.Numbers.{Numbered, each-numbered, held-header-numbered}
-use Rattle.claims.proofs.Readings.{whole-same}
 
 -- ---- 0 in C is a value
 pub told-value : {A : Type 0} {values : A → List ℕ} {said said′ : List ℕ} (o : Outcome A) → Numbered o → Tells values o said 0 said′ → (a : A) × (o ≡ gives a) × (said′ ≡ values a)
@@ -63,7 +62,7 @@ read-was file l l′ x i h e =
       header-is = k;
       given = given-is;
       values = sym same;
-      held = h .after reading reading-keeps ∙ ap (λ (o : Outcome header.Header). header.filled o l) given-is;
+      held = h .after reading reading-keeps ∙ ap (λ (o : Outcome header.Header). afterwards header.holdingHeader o l) given-is;
     }
 
 pub npy-read-was : (file : List ℕ) (l l′ : Lent) (said said′ : List ℕ) → Npy-read file l said 0 l′ said′ → (i : HeaderInfo) × (said′ ≡ headerValues i) × Was-read file l l′ i
@@ -77,7 +76,7 @@ npy-read-was file l l′ said said′ h =
         header-is = k;
         given = given-is;
         values = sym same;
-        held = h .after reading reading-keeps ∙ ap (λ (o : Outcome header.Header). header.filled o l) given-is;
+        held = h .after reading reading-keeps ∙ ap (λ (o : Outcome header.Header). afterwards header.holdingHeader o l) given-is;
       },
     )
 
@@ -88,8 +87,8 @@ module _ (file : List ℕ) (l l′ : Lent) (i : HeaderInfo) (w : Was-read file l
   pub in-rooms : Fronts (table (says .dtype)) (names (says .dtype)) (says .shape) (says .order) (i .info) l′
   in-rooms = stands-by says l l′ (i .info) (ap (λ (t : HeaderInfo). t .info) (w .values)) (w .held)
 
-  pub by-whole : header.headerInto reading file l ≡ gives (w .header-is)
-  by-whole = whole-same file l ∙ w .given
+  pub by-whole : header.heldBy reading false file l ≡ gives (w .header-is)
+  by-whole = w .given
 
   -- the check accepts what was read
   pub in-rooms-checked : checkedRecord (tableIn (i .info) l′) (namesIn (i .info) l′) (shapeIn (i .info) l′) (i .info .order) ≡ gives says

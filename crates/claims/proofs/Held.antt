@@ -8,22 +8,22 @@ use mathlib.Core.List.{List}
 use lib.ListN.{length, take}
 use lib.Seq.{length-take-le}
 use borrow.Author.Tests.{lt-ltb, le-ltb}
-use Rattle.counts.specs.Outcome.{Outcome, gives, refused, then, each}
+use Rattle.counts.specs.Outcome.{Outcome, gives, refused, then, each, afterwards}
 use Rattle.refusal.specs.declared.Refusal.{Refusal}
 use Rattle.refusal.proofs.Names.{number-apart}
 use Rattle.counts.proofs.Apart.{refused-gives}
 use Rattle.counts.proofs.Holds.{Holds, holds-each, then-alike-held}
-use Rattle.record.specs.Prefix.{Prefix, dataStart, prefix, textOf}
+use Rattle.record.specs.Prefix.{Prefix, dataStart, prefix, textHeld, textOf}
 use Rattle.record.specs.Rooms.{Lent, roomsOf}
 use Rattle.record.specs.Header as header
 use Rattle.record.proofs.Fronts.{prefix-front, front-enough}
 use Rattle.judge.specs.Judged.{reading}
 use Rattle.judge.proofs.Top.{reading-keeps}
 use Rattle.header.specs.declared.HeaderRead.{HeaderRead}
-use Rattle.header.specs.Reads.{headerInfo, answer, textHeld, afterPrefix, heldInto}
+use Rattle.header.specs.Reads.{headerInfo, answer, afterPrefix, heldInto}
 use Rattle.npy_codes.proofs.Named.{retold}
 use Rattle.claims.specs.Held.{Held-enough}
-use Rattle.claims.proofs.Readings.{whole-same, read-held-tied, npy-read-held-tied}
+use Rattle.claims.proofs.Readings.{read-held-tied, npy-read-held-tied}
 
 refused-by : (x : HeaderRead) → answer x ≡ refused 23 → x ≡ HeaderRead.Refused Refusal.Room
 refused-by (HeaderRead.Read h) a = refused-gives (sym a)
@@ -32,20 +32,20 @@ refused-by (HeaderRead.Refused f) a = ap HeaderRead.Refused (number-apart f Refu
 -- a part whose header ends within it
 module _ (part : List ℕ) (l : Lent) where
   text-same : (p : Prefix) → dataStart p ≤ length part → textHeld true p part ≡ textOf p part
-  unfolding textOf
-  text-same p h = rw (textOf, le-ltb (length part) (dataStart p) h)
+  unfolding textHeld
+  text-same p h = rw (textHeld, le-ltb (length part) (dataStart p) h)
 
-  held-same : Holds (λ p. dataStart p ≤ length part) (prefix part) → heldInto true part l ≡ header.headerInto reading part l
-  unfolding header.headerBy
+  held-same : Holds (λ p. dataStart p ≤ length part) (prefix part) → heldInto true part l ≡ header.heldBy reading false part l
   held-same h =
       then-alike-held (λ p. dataStart p ≤ length part) (prefix part) (λ p. afterPrefix true part p l)
       (λ p. then (textOf p part) (λ s. then (header.recordIn reading s) (header.stored (roomsOf l) p))) h
       (λ p e. ap (λ t. then t (λ s. then (header.recordIn reading s) (header.stored (roomsOf l) p))) (text-same p e))
 
   held-past : (p : Prefix) → prefix part ≡ gives p → length part < dataStart p → heldInto true part l ≡ refused 23
+  unfolding textHeld
   held-past p e h =
       ap (λ (o : Outcome Prefix). then o (λ q. afterPrefix true part q l)) e
-      ∙ rw (lt-ltb (length part) (dataStart p) h)
+      ∙ rw (textHeld, lt-ltb (length part) (dataStart p) h)
 
 module _ (k : ℕ) (file : List ℕ) (twelve : 12 ≤ k) (longer : k < length file) where
   held-length : length (take k file) ≡ k
@@ -57,7 +57,6 @@ module _ (k : ℕ) (file : List ℕ) (twelve : 12 ≤ k) (longer : k < length fi
       held-same (take k file) l
       (holds-each (λ p. dataStart p ≤ length (take k file)) (prefix (take k file)) (λ p e. rw len (h p (sym (prefix-front k file twelve) ∙ e))))
       ∙ front-enough reading (roomsOf l) k file twelve (holds-each (λ p. dataStart p ≤ k) (prefix file) h)
-      ∙ whole-same file l
 
   front-past : (p : Prefix) → prefix file ≡ gives p → k < dataStart p → (l : Lent) → heldInto true (take k file) l ≡ refused 23
   front-past p e h l = let len = held-length in held-past (take k file) l p (prefix-front k file twelve ∙ e) (rw len h)
@@ -73,12 +72,12 @@ held-enough =
                 read-held-tied false file l x l′
                 (record {
                   answered = h .answered reading reading-keeps ∙ ap (each headerInfo) same;
-                  after = h .after reading reading-keeps ∙ ap (λ (o : Outcome header.Header). header.filled o l) same;
+                  after = h .after reading reading-keeps ∙ ap (λ (o : Outcome header.Header). afterwards header.holdingHeader o l) same;
                 });
             past = λ p e ends.
                 let same = front-past k file twelve longer p e ends l in (
                   refused-by x (h .answered reading reading-keeps ∙ ap (each headerInfo) same),
-                  h .after reading reading-keeps ∙ ap (λ (o : Outcome header.Header). header.filled o l) same,
+                  h .after reading reading-keeps ∙ ap (λ (o : Outcome header.Header). afterwards header.holdingHeader o l) same,
                 );
           };
       npy-read-held = λ k file l l′ said said′ r twelve longer h.
@@ -88,11 +87,11 @@ held-enough =
                 npy-read-held-tied false file l said r l′ said′
                 (record {
                   told = retold (ap (each headerInfo) same) (h .answered reading reading-keeps);
-                  rooms = h .after reading reading-keeps ∙ ap (λ (o : Outcome header.Header). header.filled o l) same;
+                  rooms = h .after reading reading-keeps ∙ ap (λ (o : Outcome header.Header). afterwards header.holdingHeader o l) same;
                 });
             past = λ p e ends.
                 let same = front-past k file twelve longer p e ends l in
                 let t = retold (ap (each headerInfo) same) (h .answered reading reading-keeps) in
-                (t .answered, h .after reading reading-keeps ∙ ap (λ (o : Outcome header.Header). header.filled o l) same, t .after);
+                (t .answered, h .after reading reading-keeps ∙ ap (λ (o : Outcome header.Header). afterwards header.holdingHeader o l) same, t .after);
           };
     }

@@ -8,7 +8,6 @@ use lib.Dec.{leb, ltb, eqb}
 use lib.ListN.{length, getD, take, drop}
 use Rattle.counts.specs.Outcome.{Outcome, gives, refused, then, each, unless}
 use Rattle.counts.specs.Same.{same}
-use Rattle.emit.specs.Placed.{written}
 use Rattle.utf8_scalar.specs.Scalar.{isScalar}
 use Rattle.utf8.specs.Decode.{unlessIll, firstIll, utf8}
 use Rattle.decimal.specs.Decimal.{digitsOf, afterDigits, decimal}
@@ -41,12 +40,12 @@ use Rattle.record.specs.Dimensions.{signed, dimension, dimensions, subShape, ra
 use Rattle.record.specs.Descr.{arrays, twoOrThree, perhaps, descrOf, fieldsOf, fieldOf, namedOf, typedOf}
 use Rattle.record.specs.FromValue as from-value
 use Rattle.record.specs.Version.{Version, one-zero, two-zero, three-zero, versionOf, lengthWidth, textStart}
-use Rattle.record.specs.Prefix.{magic, most-text, Prefix, dataStart, lengthRead, prefix}
+use Rattle.record.specs.Prefix.{magic, most-text, Prefix, dataStart, lengthRead, prefix, textHeld}
 use Rattle.record.specs.Rooms.{Rooms, needs, tooSmall, Lent, roomsOf}
 use Rattle.record.specs.Header as header
 use Rattle.record.specs.Layout.{headerLayout}
 use Rattle.record.specs.Within.{within}
-use Rattle.record.specs.File.{textLength, headerLength}
+use Rattle.record.specs.File.{textLength, fileOf}
 use Rattle.record.specs.Writing.{writing}
 use Rattle.table_entry.specs.EntryType.{unitsFor, in-record, typed, typeOf}
 use Rattle.check_table.specs.Reading.{unread, readDtype}
@@ -57,10 +56,11 @@ use Rattle.number_bytes.specs.Numbers.{little, inOrder}
 use Rattle.string_value.specs.declared.StringKind.{StringKind}
 use Rattle.string_value.specs.Elements.{kindOf, trimmed, bytesIn, scalar, points, pointsIn}
 use Rattle.string_value.specs.Runs.{zeroFilled, bytesOut, allScalars, pointBytes, pointsOut}
-use Rattle.string_value.specs.Rooms.{roomed, readBytes, readPoints, writeBytes, writePoints}
+use Rattle.counts.specs.Owes.{roomed}
+use Rattle.string_value.specs.Rooms.{readBytes, readPoints, writeBytes, writePoints}
 use Rattle.element.specs.Bytes.{runBytes}
 use Rattle.element.specs.Element.{elementBytes, elementPoints}
-use Rattle.header.specs.Reads.{textHeld, afterPrefixBy, heldBy, textBy}
+use Rattle.record.specs.Header.{afterPrefixBy, heldBy, textBy}
 use Rattle.write.specs.Writes.{headerWritten}
 use Rattle.list_text.specs.Listing.{listing}
 use Rattle.list_record.specs.Answer.{listed}
@@ -324,12 +324,13 @@ part-numbered : (n : ℕ) (p : Prefix) (file : List ℕ) → Number n
 part-numbered n p file h = unless-numbered (ltb (length file) (dataStart p)) n h (an-answer (take (p .text-length) (drop (textStart (p .version)) file)))
 
 held-numbered : (longer : Bool) (p : Prefix) (file : List ℕ) → Numbered (textHeld longer p file)
+unfolding textHeld
 held-numbered true p file = part-numbered 23 p file (refl, refl)
 held-numbered false p file = part-numbered 3 p file (refl, refl)
 
 pub held-header-numbered : (reading : header.Reading) (longer : Bool) (file : List ℕ) (l : Lent) → Numbered (heldBy reading longer file l)
 held-header-numbered reading longer file l =
-    then-numbered (prefix file) (λ p. afterPrefixBy reading longer file p l) (prefix-numbered file)
+    then-numbered (prefix file) (λ p. afterPrefixBy reading longer file p (roomsOf l)) (prefix-numbered file)
     (λ p. then-numbered (textHeld longer p file) _ (held-numbered longer p file)
     (λ text. then-numbered (header.recordIn reading text) (header.stored (roomsOf l) p) (in-numbered reading text) (stored-numbered (roomsOf l) p)))
 
@@ -370,27 +371,27 @@ record-checked-numbered t ns s o =
     then-numbered (readDtype t ns) (λ d. limited (record { dtype = d; shape = s; order = o })) (dtype-numbered t ns)
     (λ d. limited-numbered (record { dtype = d; shape = s; order = o }))
 
-written-numbered : (text room : List ℕ) → Numbered (written text room)
-unfolding written
-written-numbered text room = cond-numbered (leb (length text) (length room)) (an-answer (length text)) (a-number (refl, refl))
+roomed-numbered : (n : ℕ) (room content : List ℕ) → Number n → Numbered (roomed n room content)
+unfolding roomed
+roomed-numbered n room content h = unless-numbered (ltb (length room) (length content)) n h (an-answer content)
 
 writing-numbered : (r : Record) (room : List ℕ) → Numbered (writing r room)
 unfolding writing
 writing-numbered r room =
     then-numbered (limited r) _ (limited-numbered r)
     (λ q. unless-numbered (not (within (valueOf (headerLayout r)) 32)) 7 (refl, refl)
-    (unless-numbered (ltb most-text (textLength r)) 4 (refl, refl) (unless-numbered (ltb (length room) (headerLength r)) 28 (refl, refl) (an-answer (headerLength r)))))
+    (unless-numbered (ltb most-text (textLength r)) 4 (refl, refl) (roomed-numbered 28 room (fileOf r) (refl, refl))))
 
 pub header-written-numbered : (t ns s : List ℕ) (o : Order) (room : List ℕ) → Numbered (headerWritten t ns s o room)
 unfolding headerWritten
 header-written-numbered t ns s o room = then-numbered (checkedRecord t ns s o) (λ r. writing r room) (record-checked-numbered t ns s o) (λ r. writing-numbered r room)
 
 pub listed-numbered : (v : Version) (start : ℕ) (t ns s : List ℕ) (o : Order) (room : List ℕ) → Numbered (listed v start t ns s o room)
-listed-numbered v start t ns s o room = then-numbered (checkedRecord t ns s o) _ (record-checked-numbered t ns s o) (λ r. written-numbered (listing v start r []) room)
+listed-numbered v start t ns s o room = then-numbered (checkedRecord t ns s o) _ (record-checked-numbered t ns s o) (λ r. roomed-numbered 28 room (listing v start r []) (refl, refl))
 
 pub type-printed-numbered : (t : TypeStr) (room : List ℕ) → Numbered (typePrinted t room)
 unfolding typePrinted
-type-printed-numbered t room = cond-numbered (isType t) (written-numbered (typeText t []) room) (a-number (refl, refl))
+type-printed-numbered t room = unless-numbered (not (isType t)) 27 (refl, refl) (roomed-numbered 28 room (typeText t []) (refl, refl))
 
 -- ---- shapes and places
 pub count-numbered : (o : Order) (s : List ℕ) → Numbered (itemCount o s)
@@ -431,10 +432,6 @@ place-numbered file start t ns s o x p =
     (each-numbered (λ t. runFrom (place start r x p) t) (plainAt (r .dtype) p) (plain-numbered (r .dtype) p)))))
 
 -- ---- elements
-roomed-numbered : (n : ℕ) (room content : List ℕ) → Number n → Numbered (roomed n room content)
-unfolding roomed
-roomed-numbered n room content h = unless-numbered (ltb (length room) (length content)) n h (an-answer content)
-
 scalar-numbered : (c : ℕ) → Numbered (scalar c)
 unfolding scalar
 scalar-numbered c = unless-numbered (not (isScalar c)) 29 (refl, refl) (an-answer c)

@@ -1,14 +1,14 @@
 -- Demand 3 (specs/Places.antt) holds of every file that is read: the record in the rooms is one that a reading gave, so the check accepts it, and for such records crate
 -- place shows that what is answered is document 01's formula, and crate dtype that by the formula each byte of the data area belongs to exactly one place.
-use Prim.Native.Nat.{ℕ, _+_, _<_, _≤_}
+use Prim.Native.Nat.{ℕ, _+_, _≤_}
 use native.Mathlib.Omega.{arith}
 use mathlib.Core.Path.{_≡_, refl, sym, ap, _∙_}
 use mathlib.Core.Bool.{Bool, true, false, not}
-use mathlib.Core.List.{List, [], _∷_}
+use mathlib.Core.List.{List}
 use lib.ListN.{length, getD}
 use mathlib.Core.Logic.{_⊎_, inl, inr}
 use borrow.Author.Tests.{le-ltb, not-false}
-use Rattle.counts.specs.Outcome.{Outcome, gives, refused, then, each, unless}
+use Rattle.counts.specs.Outcome.{Outcome, gives, refused, then, each, unless, afterwards}
 use Rattle.counts.proofs.Holds.{unless-back, each-back}
 use Rattle.counts.proofs.OneOutcome.{pair-of}
 use Rattle.refusal.specs.declared.Refusal.{Refusal}
@@ -18,8 +18,9 @@ use Rattle.dtype.specs.Entries.{hasObject}
 use Rattle.dtype.specs.PlainBytes.{plainBytes}
 use Rattle.dtype.specs.Shape.{inRange}
 use Rattle.dtype.specs.Record.{Record}
-use Rattle.dtype.specs.Paths.{Path-to, plainAt, runOf, run}
-use Rattle.dtype.specs.Places.{dataBytes, place, Ask, Belongs}
+use Rattle.dtype.specs.Paths.{plainAt, runOf, run}
+use Rattle.dtype.specs.Places.{dataBytes, place, Ask}
+use Rattle.dtype.proofs.Runs.{Belongs, Path-to}
 use Rattle.dtype.proofs.Items.{range-true}
 use Rattle.dtype.proofs.Paths.{path-plain}
 use Rattle.dtype.proofs.Places.{run-inside, owned, owned-once}
@@ -32,7 +33,7 @@ use Rattle.place.proofs.Outcomes.{place-one}
 use Rattle.place.proofs.Walks.{path-or-none, plain-path}
 use Rattle.place_item.proofs.Sums.{range-of}
 use Rattle.read_back.specs.Rooms.{tableIn, namesIn, shapeIn}
-use Rattle.npy_codes.specs.Codes.{code, left, Tells}
+use Rattle.npy_codes.specs.Codes.{code, Tells}
 use Rattle.npy_codes.specs.Numbers.{orderNumber}
 use Rattle.npy_codes.specs.Values.{runValues}
 use Rattle.npy_codes.proofs.Named.{retold}
@@ -154,11 +155,11 @@ module _ (file start : ℕ) (t ns s : List ℕ) (o : Order) (room : List ℕ) wh
       record {
         run-is = λ x p y u c e.
             let h = told-place x p (y .0) (y .1) c in
-            pair-of (h .answered ∙ ap code e) (h .after ∙ ap (λ (q : Outcome Run). left runValues q room) e);
+            pair-of (h .answered ∙ ap code e) (h .after ∙ ap (λ (q : Outcome Run). afterwards (λ a old. runValues a) q room) e);
         none-is = λ x p y c e.
             let h = told-place x p (y .0) (y .1) c in
-            pair-of (h .answered ∙ ap code e) (h .after ∙ ap (λ (q : Outcome Run). left runValues q room) e);
-        is-run = λ x p u e. place-told x p 0 (runValues u) (record { answered = sym (ap code e); after = sym (ap (λ (q : Outcome Run). left runValues q room) e) });
+            pair-of (h .answered ∙ ap code e) (h .after ∙ ap (λ (q : Outcome Run). afterwards (λ a old. runValues a) q room) e);
+        is-run = λ x p u e. place-told x p 0 (runValues u) (record { answered = sym (ap code e); after = sym (ap (λ (q : Outcome Run). afterwards (λ a old. runValues a) q room) e) });
         same-run = λ x p u c.
             let (v, e, same) = told-value (placeOf file start t ns s o x p) (place-numbered file start t ns s o x p) (told-place x p 0 (runValues u) c) in
             (v, e, sym (number-at 0 (runValues u) (runValues v) same), sym (number-at 1 (runValues u) (runValues v) same));

@@ -1,19 +1,17 @@
 -- The contracts of the readers are stated with the literal's own reading, their predicates (specs/Functions.antt, specs/InC.antt) with every reading that keeps the promise.
 -- For each text one outcome keeps it, so a contract gives its predicate.
 use Prim.Native.Nat.{ℕ}
-use mathlib.Core.Path.{_≡_, refl, sym, ap, _∙_}
+use mathlib.Core.Path.{_≡_, sym, ap, _∙_}
 use mathlib.Core.Bool.{Bool, false}
 use mathlib.Core.List.{List}
 use lib.Dec.{ltb}
 use lib.ListN.{length, take}
-use Rattle.counts.specs.Outcome.{Outcome, then, each}
-use Rattle.counts.proofs.Holds.{then-alike}
+use Rattle.counts.specs.Outcome.{Outcome, each, afterwards}
 use Rattle.refusal.specs.declared.BytesAnswer.{BytesAnswer}
 use Rattle.dtype.specs.Record.{Record}
-use Rattle.record.specs.Prefix.{prefix, textOf}
-use Rattle.record.specs.Rooms.{Lent, roomsOf}
+use Rattle.record.specs.Rooms.{Lent, roomsOf, holding}
 use Rattle.record.specs.Header as header
-use Rattle.record.proofs.OneHeader.{record-in-same}
+use Rattle.record.proofs.OneHeader.{header-same, text-same as records-same}
 use Rattle.judge.specs.Judged.{reading}
 use Rattle.judge.proofs.Top.{reading-keeps}
 use Rattle.header.specs.declared.TextRead.{TextRead}
@@ -26,45 +24,33 @@ use Rattle.claims.specs.Functions.{Read, Read-held, Read-text, Report}
 use Rattle.claims.specs.InC.{Npy-read, Npy-read-held, Npy-read-text}
 
 -- ---- the definitions with another reading
-pub whole-same : (file : List ℕ) (l : Lent) → header.headerInto reading file l ≡ reads.heldInto false file l
-unfolding header.headerBy textOf
-whole-same file l = refl
-
 module _ (other : header.Reading) (keeps : header.Keeps other) where
-  pub text-same : (text : List ℕ) (l : Lent) → reads.textInto text l ≡ reads.textBy other text l
-  text-same text l = ap (λ r. then r (reads.roomed (roomsOf l))) (record-in-same reading other reading-keeps keeps text)
+  pub text-same : (text : List ℕ) (l : Lent) → header.textBy reading text l ≡ header.textBy other text l
+  text-same text l = records-same reading other reading-keeps keeps text l
 
-  pub held-same : (longer : Bool) (file : List ℕ) (l : Lent) → reads.heldInto longer file l ≡ reads.heldBy other longer file l
-  held-same longer file l =
-      then-alike (prefix file) (λ p. reads.afterPrefix longer file p l) _
-      (λ p. then-alike (reads.textHeld longer p file) (λ text. then (header.recordIn reading text) (header.stored (roomsOf l) p)) _
-      (λ text. ap (λ r. then r (header.stored (roomsOf l) p)) (record-in-same reading other reading-keeps keeps text)))
+  pub held-same : (longer : Bool) (file : List ℕ) (l : Lent) → reads.heldInto longer file l ≡ header.heldBy other longer file l
+  held-same longer file l = header-same reading other reading-keeps keeps longer file (roomsOf l)
 
 -- ---- from a contract to its predicate
 pub read-held-tied : (longer : Bool) (file : List ℕ) (l : Lent) (x : HeaderRead) (l′ : Lent) → reads.ReadsHeld longer file l x l′ → Read-held longer file l x l′
 read-held-tied longer file l x l′ h =
     record {
       answered = λ other keeps. h .answered ∙ ap (each reads.headerInfo) (held-same other keeps longer file l);
-      after = λ other keeps. h .after ∙ ap (λ (o : Outcome header.Header). header.filled o l) (held-same other keeps longer file l);
+      after = λ other keeps. h .after ∙ ap (λ (o : Outcome header.Header). afterwards header.holdingHeader o l) (held-same other keeps longer file l);
     }
 
 pub read-tied : (file : List ℕ) (l : Lent) (x : HeaderRead) (l′ : Lent) → reads.Reads file l x l′ → Read file l x l′
-read-tied file l x l′ h =
-    read-held-tied false file l x l′
-    (record {
-      answered = h .answered ∙ ap (each reads.headerInfo) (whole-same file l);
-      after = h .after ∙ ap (λ (o : Outcome header.Header). header.filled o l) (whole-same file l);
-    })
+read-tied file l x l′ h = read-held-tied false file l x l′ h
 
 pub read-text-tied : (text : List ℕ) (l : Lent) (x : TextRead) (l′ : Lent) → reads.ReadsText text l x l′ → Read-text text l x l′
 read-text-tied text l x l′ h =
     record {
       answered = λ other keeps. h .answered ∙ ap (each reads.infoOf) (text-same other keeps text l);
-      after = λ other keeps. h .after ∙ ap (λ (o : Outcome Record). reads.filled o l) (text-same other keeps text l);
+      after = λ other keeps. h .after ∙ ap (λ (o : Outcome Record). afterwards holding o l) (text-same other keeps text l);
     }
 
 report-same : (other : header.Reading) → header.Keeps other → (file : List ℕ)
-    → reportOf file ≡ textFor (reads.heldBy other (ltb held-bytes (length file)) (take held-bytes file) fresh)
+    → reportOf file ≡ textFor (header.heldBy other (ltb held-bytes (length file)) (take held-bytes file) fresh)
 unfolding reportOf
 report-same other keeps file = ap textFor (held-same other keeps (ltb held-bytes (length file)) (take held-bytes file) fresh)
 
@@ -80,21 +66,16 @@ pub npy-read-held-tied : (longer : Bool) (file : List ℕ) (l : Lent) (said : Li
 npy-read-held-tied longer file l said r l′ said′ h =
     record {
       answered = λ other keeps. retold (ap (each reads.headerInfo) (held-same other keeps longer file l)) (h .told);
-      after = λ other keeps. h .rooms ∙ ap (λ (o : Outcome header.Header). header.filled o l) (held-same other keeps longer file l);
+      after = λ other keeps. h .rooms ∙ ap (λ (o : Outcome header.Header). afterwards header.holdingHeader o l) (held-same other keeps longer file l);
     }
 
 pub npy-read-tied : (file : List ℕ) (l : Lent) (said : List ℕ) (r : ℕ) (l′ : Lent) (said′ : List ℕ) → npy.Reads file l said r l′ said′ → Npy-read file l said r l′ said′
-npy-read-tied file l said r l′ said′ h =
-    npy-read-held-tied false file l said r l′ said′
-    (record {
-      told = retold (ap (each reads.headerInfo) (whole-same file l)) (h .told);
-      rooms = h .rooms ∙ ap (λ (o : Outcome header.Header). header.filled o l) (whole-same file l);
-    })
+npy-read-tied file l said r l′ said′ h = npy-read-held-tied false file l said r l′ said′ h
 
 pub npy-read-text-tied : (text : List ℕ) (l : Lent) (said : List ℕ) (r : ℕ) (l′ : Lent) (said′ : List ℕ)
     → npy.ReadsText text l said r l′ said′ → Npy-read-text text l said r l′ said′
 npy-read-text-tied text l said r l′ said′ h =
     record {
       answered = λ other keeps. retold (ap (each reads.infoOf) (text-same other keeps text l)) (h .told);
-      after = λ other keeps. h .rooms ∙ ap (λ (o : Outcome Record). reads.filled o l) (text-same other keeps text l);
+      after = λ other keeps. h .rooms ∙ ap (λ (o : Outcome Record). afterwards holding o l) (text-same other keeps text l);
     }

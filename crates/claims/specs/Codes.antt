@@ -13,6 +13,7 @@ use Rattle.type_str.specs.Text.{typePrinted}
 use Rattle.shape.specs.Count.{itemCount, stridesCount}
 use Rattle.record.specs.Version.{versionOf}
 use Rattle.record.specs.Rooms.{Lent}
+use Rattle.record.specs.Header.{textBy, heldBy}
 use Rattle.check_record.specs.Answer.{summary}
 use Rattle.check_record.specs.Checked.{checkedRecord}
 use Rattle.place_item.specs.Item.{itemOf}
@@ -78,15 +79,15 @@ CodedPuts put = CodedBeside alone (each length put)
 pub record Zero-answers : Type 0 where
   -- `npy_read_held`, and `npy_read`, which is the same of a file that is not longer
   pub npy-read-held : (longer : Bool) (file : List ℕ) (l : Lent) (said : List ℕ)
-      → By-grammar (λ reading. CodedBeside headerValues (each header.headerInfo (header.heldBy reading longer file l)) (Npy-read-held longer file l said) l said)
+      → By-grammar (λ reading. CodedBeside headerValues (each header.headerInfo (heldBy reading longer file l)) (Npy-read-held longer file l said) l said)
   pub npy-read-text : (text : List ℕ) (l : Lent) (said : List ℕ)
-      → By-grammar (λ reading. CodedBeside textValues (each header.infoOf (header.textBy reading text l)) (Npy-read-text text l said) l said)
+      → By-grammar (λ reading. CodedBeside textValues (each header.infoOf (textBy reading text l)) (Npy-read-text text l said) l said)
   pub npy-check : (t ns s : List ℕ) (order : ℕ) (said : List ℕ)
       → CodedAlone summaryValues (then (orderFor order) (λ o. each summary (checkedRecord t ns s o))) (Npy-check t ns s order said) said
   pub npy-write-header : (t ns s : List ℕ) (order : ℕ) (out count : List ℕ)
-      → CodedBeside alone (then (orderFor order) (λ o. headerWritten t ns s o out)) (Npy-write-header t ns s order out count) out count
+      → CodedPuts (then (orderFor order) (λ o. headerWritten t ns s o out)) (Npy-write-header t ns s order out count) out count
   pub npy-list : (version start : ℕ) (t ns s : List ℕ) (order : ℕ) (out count : List ℕ)
-      → CodedBeside alone (then (versionOf version 0) (λ v. then (orderFor order) (λ o. listed v start t ns s o out))) (Npy-list version start t ns s order out count) out count
+      → CodedPuts (then (versionOf version 0) (λ v. then (orderFor order) (λ o. listed v start t ns s o out))) (Npy-list version start t ns s order out count) out count
   pub npy-count : (s : List ℕ) (order : ℕ) (count : List ℕ) → CodedAlone alone (then (orderFor order) (λ o. itemCount o s)) (Npy-count s order count) count
   pub npy-strides : (s : List ℕ) (order : ℕ) (out count : List ℕ)
       → CodedBeside alone (then (orderFor order) (λ o. stridesCount o s (length out))) (Npy-strides s order out count) out count
@@ -107,7 +108,7 @@ pub record Zero-answers : Type 0 where
       → CodedPuts (then (typeFor order letter size units) (λ k. writePoints k value out)) (Npy-write-points order letter size units value out count) out count
   pub npy-type-read : (text said : List ℕ) → CodedAlone typeValues (typeString text) (Npy-type-read text said) said
   pub npy-type-print : (order letter size units : ℕ) (out count : List ℕ)
-      → CodedBeside alone (then (typeFor order letter size units) (λ k. typePrinted k out)) (Npy-type-print order letter size units out count) out count
+      → CodedPuts (then (typeFor order letter size units) (λ k. typePrinted k out)) (Npy-type-print order letter size units out count) out count
 
 -- "room beyond what was needed is left as it was": if the count holds n afterwards, the room after the first n is unchanged
 abbrev pub SparesBy : (Call : ℕ → List ℕ → List ℕ → Type 0) → (room : List ℕ) → Type 0

@@ -9,7 +9,8 @@ use mathlib.Core.Bool.{Bool, false}
 use mathlib.Core.List.{List}
 use lib.Dec.{ltb}
 use lib.ListN.{length, take}
-use Rattle.counts.specs.Outcome.{each}
+use Rattle.counts.specs.Outcome.{each, afterwards}
+use Rattle.counts.specs.Owes.{Owes}
 use Rattle.refusal.specs.declared.ItemsAnswer.{ItemsAnswer}
 use Rattle.refusal.specs.declared.BytesAnswer.{BytesAnswer}
 use Rattle.refusal.specs.declared.PointsAnswer.{PointsAnswer}
@@ -23,8 +24,8 @@ use Rattle.type_print.specs.Printed.{Prints}
 use Rattle.dtype.specs.declared.Order.{Order}
 use Rattle.shape.specs.Count.{itemCount, WritesStrides}
 use Rattle.record.specs.Version.{Version}
-use Rattle.record.specs.Rooms.{Lent}
-use Rattle.record.specs.Header.{Reading, Keeps, filled}
+use Rattle.record.specs.Rooms.{Lent, holding}
+use Rattle.record.specs.Header.{Reading, Keeps, textBy, heldBy, holdingHeader}
 use Rattle.record.specs.Sound.{Small}
 use Rattle.check_record.specs.declared.Checked.{Checked}
 use Rattle.check_record.specs.Answer as check-record
@@ -39,7 +40,7 @@ use Rattle.place_item.specs.Item.{itemOf}
 use Rattle.place.specs.declared.Placed.{Placed}
 use Rattle.place.specs.Answer as place
 use Rattle.place.specs.Place.{placeOf}
-use Rattle.string_value.specs.Rooms.{readBytes, readPoints, writeBytes, writePoints, Owes}
+use Rattle.string_value.specs.Rooms.{readBytes, readPoints, writeBytes, writePoints}
 use Rattle.element.specs.Element.{elementBytes, elementPoints}
 
 -- a statement of every reading that keeps the promise
@@ -49,8 +50,8 @@ By-grammar Says = (reading : Reading) → Keeps reading → Says reading
 -- ---- reading a header
 -- `header::read_held`: of the first bytes of a file, which is longer or is not
 pub record Read-held (longer : Bool) (file : List ℕ) (l : Lent) (x : HeaderRead) (l′ : Lent) : Type 0 where
-  pub answered : By-grammar (λ reading. header.answer x ≡ each header.headerInfo (header.heldBy reading longer file l))
-  pub after : By-grammar (λ reading. l′ ≡ filled (header.heldBy reading longer file l) l)
+  pub answered : By-grammar (λ reading. header.answer x ≡ each header.headerInfo (heldBy reading longer file l))
+  pub after : By-grammar (λ reading. l′ ≡ afterwards holdingHeader (heldBy reading longer file l) l)
 
 -- `header::read`: of a whole file
 abbrev pub Read : (file : List ℕ) (l : Lent) (x : HeaderRead) (l′ : Lent) → Type 0
@@ -58,12 +59,12 @@ Read = Read-held false
 
 -- `header::read_text`
 pub record Read-text (text : List ℕ) (l : Lent) (x : TextRead) (l′ : Lent) : Type 0 where
-  pub answered : By-grammar (λ reading. header.textAnswer x ≡ each header.infoOf (header.textBy reading text l))
-  pub after : By-grammar (λ reading. l′ ≡ header.filled (header.textBy reading text l) l)
+  pub answered : By-grammar (λ reading. header.textAnswer x ≡ each header.infoOf (textBy reading text l))
+  pub after : By-grammar (λ reading. l′ ≡ afterwards holding (textBy reading text l) l)
 
 -- `list_file::report`
 abbrev pub Report : (file out : List ℕ) (x : BytesAnswer) (out′ : List ℕ) → Type 0
-Report file out x out′ = By-grammar (λ reading. WritesText (textFor (header.heldBy reading (ltb held-bytes (length file)) (take held-bytes file) fresh)) out x out′)
+Report file out x out′ = By-grammar (λ reading. WritesText (textFor (heldBy reading (ltb held-bytes (length file)) (take held-bytes file) fresh)) out x out′)
 
 -- ---- a caller's record; the numbers of its table and shape are below 2^64, as every u64 is
 -- `check_record::check`

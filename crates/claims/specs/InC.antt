@@ -5,11 +5,11 @@ use Prim.Native.Nat.{ℕ}
 use mathlib.Core.Path.{_≡_}
 use mathlib.Core.Bool.{Bool, false}
 use mathlib.Core.List.{List}
-use Rattle.counts.specs.Outcome.{then, each}
+use Rattle.counts.specs.Outcome.{then, each, afterwards}
 use Rattle.type_str.specs.TypeString.{typeString}
 use Rattle.shape.specs.Count.{itemCount}
-use Rattle.record.specs.Rooms.{Lent}
-use Rattle.record.specs.Header.{filled}
+use Rattle.record.specs.Rooms.{Lent, holding}
+use Rattle.record.specs.Header.{textBy, heldBy, holdingHeader}
 use Rattle.record.specs.Sound.{Small}
 use Rattle.check_record.specs.Answer.{summary}
 use Rattle.check_record.specs.Checked.{checkedRecord}
@@ -27,8 +27,8 @@ use Rattle.claims.specs.Functions.{By-grammar}
 -- ---- reading a header
 -- `npy_read_held`
 pub record Npy-read-held (longer : Bool) (file : List ℕ) (l : Lent) (said : List ℕ) (r : ℕ) (l′ : Lent) (said′ : List ℕ) : Type 0 where
-  pub answered : By-grammar (λ reading. Tells headerValues (each header.headerInfo (header.heldBy reading longer file l)) said r said′)
-  pub after : By-grammar (λ reading. l′ ≡ filled (header.heldBy reading longer file l) l)
+  pub answered : By-grammar (λ reading. Tells headerValues (each header.headerInfo (heldBy reading longer file l)) said r said′)
+  pub after : By-grammar (λ reading. l′ ≡ afterwards holdingHeader (heldBy reading longer file l) l)
 
 -- `npy_read`
 abbrev pub Npy-read : (file : List ℕ) (l : Lent) (said : List ℕ) (r : ℕ) (l′ : Lent) (said′ : List ℕ) → Type 0
@@ -36,8 +36,8 @@ Npy-read = Npy-read-held false
 
 -- `npy_read_text`
 pub record Npy-read-text (text : List ℕ) (l : Lent) (said : List ℕ) (r : ℕ) (l′ : Lent) (said′ : List ℕ) : Type 0 where
-  pub answered : By-grammar (λ reading. Tells textValues (each header.infoOf (header.textBy reading text l)) said r said′)
-  pub after : By-grammar (λ reading. l′ ≡ header.filled (header.textBy reading text l) l)
+  pub answered : By-grammar (λ reading. Tells textValues (each header.infoOf (textBy reading text l)) said r said′)
+  pub after : By-grammar (λ reading. l′ ≡ afterwards holding (textBy reading text l) l)
 
 -- ---- a caller's record; the numbers of its table and shape are below 2^64, as every uint64_t is
 -- `npy_check`

@@ -28,9 +28,9 @@ use Rattle.record.proofs.Levels.{arrays-entries, arrays-name-bytes}
 use Rattle.shape_verdict.specs.Outline.{hasZero, afterZero, outlineOf, largestIn}
 use Rattle.shape_verdict.proofs.Levels.{largest-is, arrays-outline, arrays-over, arrays-wide, arrays-object}
 use Rattle.descr_totals.specs.declared.Totals.{Totals}
-use Rattle.descr_totals.specs.Totals.{atMost, largest, nothing, oneEntry, nameTotals, totalsOf, totalsIn, fieldTotals, together, arrayed}
+use Rattle.descr_totals.specs.Totals.{atMost, largest, nameTotals, totalsOf, totalsIn, fieldTotals, together, arrayed}
 use Rattle.descr_totals.specs.Verdict.{both}
-use Rattle.descr_totals.proofs.Sums.{totals-eq, over-never, over-not, over-more, held-bytes, cap-front}
+use Rattle.descr_totals.proofs.Sums.{totals-eq, over-never, over-not, over-more, held-bytes, cap-front, nothing, oneEntry}
 use Rattle.descr_totals.proofs.Limits.{own-over}
 
 over-front : (n : ℕ) → over (0 + atMost largest n) ≡ false

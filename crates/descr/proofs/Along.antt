@@ -25,12 +25,11 @@ use Rattle.descr_field.specs.declared.DescrJudged.{DescrJudged}
 use Rattle.record.specs.Dimensions.{subShape}
 use Rattle.shape_verdict.specs.Outline.{outlineOf}
 use Rattle.shape_verdict.specs.declared.Outline.{Outline}
-use Rattle.descr_totals.specs.Totals.{nothing}
 use Rattle.descr_totals.specs.Verdict.{verdict, both}
 use Rattle.descr_field.specs.After.{itemsFrom}
 use Rattle.descr_field.specs.Parts.{levelsOver}
 use Rattle.descr.specs.Judges.{JudgesDescr, JudgesFrom}
-use Rattle.descr_totals.proofs.Sums.{both-assoc, both-nothing}
+use Rattle.descr_totals.proofs.Sums.{both-assoc, both-nothing, nothing}
 use Rattle.descr.proofs.Adds.{fieldsBy, fieldBy, nameBy, descrBy, afterInnerBy, itemsBy, fields-step, fields-start, two-items, three-items}
 use Rattle.descr_field.proofs.Reach.{inside, from-end, from-stop, from-more, row-over, row-after, row-stops}
 

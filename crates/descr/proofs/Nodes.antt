@@ -24,15 +24,16 @@ use Rattle.literal_bytes.proofs.Positions.{open-in, open-square, open-round}
 use Rattle.literal_escapes.specs.Strings.{spelled}
 use Rattle.literal.specs.Literal.{value as valueOf}
 use Rattle.literal_bytes.specs.Gaps.{gapAt}
-use Rattle.literal.specs.Rows.{Row, kindOfNode}
+use Rattle.literal.specs.Rows.{Row}
 use Rattle.literal.specs.Forget.{forget}
 use Rattle.literal_bytes.specs.declared.Parsed.the-variants.{Deep}
 use Rattle.literal_bytes.specs.declared.ValueKind.{ValueKind}
 use Rattle.literal_bytes.specs.declared.ValueKind.the-variants.{Square, Round, Curly, Quote, Minus, Digit, TrueWord, FalseWord, NoneWord, Other}
 use Rattle.literal.proofs.Steps.{value-deep, value-list, value-tuple}
-use Rattle.literal.proofs.View.{view, value-kind}
+use Rattle.literal.proofs.View.{view, value-kind, kindOfNode}
 use Rattle.descr_totals.specs.declared.Totals.{Totals}
-use Rattle.descr_totals.specs.Totals.{totalsOf, oneEntry, nameTotals}
+use Rattle.descr_totals.specs.Totals.{totalsOf, nameTotals}
+use Rattle.descr_totals.proofs.Sums.{oneEntry}
 use Rattle.descr_totals.specs.Verdict.{verdict, both}
 use Rattle.descr_field.specs.Begins.{isString}
 use Rattle.descr_field.proofs.Begins.{string-kind}

@@ -10,13 +10,9 @@ use Rattle.counts.proofs.Fits.{number-is, number-over}
 use Rattle.counts.proofs.Counted.{bytes-eq}
 use Rattle.counts.specs.Counts.{bytes, asBytes}
 use Rattle.type_str.specs.declared.TypeStr.{TypeStr}
-use Rattle.type_letters.specs.declared.TypeChar.{TypeChar}
-use Rattle.type_letters.specs.declared.TypeChar.the-variants.{Bool as Boolean, Int, Uint, Float as Floating, Complex, TimeDelta, DateTime, ByteStr, UnicodeStr, Object, RawData}
 use Rattle.type_str.specs.declared.TypeBytes.{TypeBytes}
 use Rattle.type_str.specs.declared.TypeBytes.the-variants.{Sized, Unsized, TooLarge}
 use Rattle.type_str.specs.Bytes.{typeBytes, countedBytes, numBytes}
-use Rattle.type_letters.specs.Letters.{letterByte}
-use Rattle.dtype.specs.PlainBytes as byte
 use Rattle.dtype.specs.PlainBytes.{plainBytes}
 use Rattle.dtype.proofs.Types.{plain-bytes-type}
 use Rattle.type_letters.specs.Classes.{isObject}
@@ -30,20 +26,6 @@ abbrev pub plainTotals : TypeBytes → Totals
 plainTotals (Sized n) = record { entries = 1; names = 0; object = false; «over_levels» = false; over = false; size = n }
 plainTotals Unsized = record { entries = 1; names = 0; object = true; «over_levels» = false; over = false; size = asBytes 0 }
 plainTotals TooLarge = record { entries = 1; names = 0; object = false; «over_levels» = false; over = true; size = asBytes largest }
-
--- a letter is an object exactly where its byte is
-object-byte : (l : TypeChar) → byte.isObject (letterByte l) ≡ isObject l
-object-byte Boolean = refl
-object-byte Int = refl
-object-byte Uint = refl
-object-byte Floating = refl
-object-byte Complex = refl
-object-byte TimeDelta = refl
-object-byte DateTime = refl
-object-byte ByteStr = refl
-object-byte UnicodeStr = refl
-object-byte Object = refl
-object-byte RawData = refl
 
 plain-sized : (n : ℕ) → plainTotals (countedBytes (bytes (number n))) ≡ record { entries = 1; names = 0; object = false; «over_levels» = false; over = over n; size = asBytes (atMost largest n) }
 plain-sized n = go (over n) refl
@@ -68,10 +50,10 @@ module _ (t : TypeStr) where
 pub plain-totals : (t : TypeStr) → plainTotals (numBytes t) ≡ totalsOf (plain t)
 plain-totals t = go (isObject (t .letter)) refl
   where
-    of-bytes : (o : Bool) → byte.isObject (letterByte (t .letter)) ≡ o → (n : ℕ) → plainBytes t ≡ n
+    of-bytes : (o : Bool) → isObject (t .letter) ≡ o → (n : ℕ) → plainBytes t ≡ n
         → record { entries = 1; names = 0; object = o; «over_levels» = false; over = over n; size = asBytes (atMost largest n) } ≡ totalsOf (plain t)
     of-bytes o ho n hn = totals-eq refl refl (sym ho) refl (ap over (sym hn)) (bytes-eq (ap (λ (x : ℕ). atMost largest x) (sym hn)))
 
     go : (o : Bool) → isObject (t .letter) ≡ o → plainTotals (numBytes t) ≡ totalsOf (plain t)
-    go true h = ap plainTotals (object-bytes t h .0) ∙ of-bytes true (object-byte (t .letter) ∙ h) 0 (plain-bytes-type t ∙ object-bytes t h .1)
-    go false h = ap plainTotals (counted-bytes t h) ∙ (plain-sized (typeBytes t) ∙ of-bytes false (object-byte (t .letter) ∙ h) (typeBytes t) (plain-bytes-type t))
+    go true h = ap plainTotals (object-bytes t h .0) ∙ of-bytes true h 0 (plain-bytes-type t ∙ object-bytes t h .1)
+    go false h = ap plainTotals (counted-bytes t h) ∙ (plain-sized (typeBytes t) ∙ of-bytes false h (typeBytes t) (plain-bytes-type t))

@@ -12,8 +12,15 @@ use Rattle.counts.specs.declared.Bytes.{Bytes}
 use Rattle.counts.proofs.Counted.{bytes-eq, held-bytes as held}
 use Rattle.dtype.specs.Limits.{over}
 use Rattle.descr_totals.specs.declared.Totals.{Totals}
-use Rattle.descr_totals.specs.Totals.{atMost, largest, nothing, together}
+use Rattle.descr_totals.specs.Totals.{atMost, largest, together}
 use Rattle.descr_totals.specs.Verdict.{both}
+
+-- of no field, of a record's own entry, and of a name of so many bytes
+abbrev pub nothing : Totals
+nothing = record { entries = 0; names = 0; object = false; «over_levels» = false; over = false; size = asBytes 0 }
+
+abbrev pub oneEntry : Totals
+oneEntry = record { entries = 1; names = 0; object = false; «over_levels» = false; over = false; size = asBytes 0 }
 
 pub totals-eq : {e e′ n n′ : ℕ} {o o′ w w′ v v′ : Bool} {z z′ : Bytes} → e ≡ e′ → n ≡ n′ → o ≡ o′ → w ≡ w′ → v ≡ v′ → z ≡ z′
     → _≡_ {A = Totals} (record { entries = e; names = n; object = o; «over_levels» = w; over = v; size = z }) (record { entries = e′; names = n′; object = o′; «over_levels» = w′; over = v′; size = z′ })

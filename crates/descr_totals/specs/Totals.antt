@@ -6,8 +6,7 @@ use mathlib.Core.Bool.{false, _||_, cond}
 use lib.Dec.{ltb}
 use lib.ListN.{length}
 use Rattle.counts.specs.Counts.{bytesOver, asBytes, heldBytes}
-use Rattle.dtype.specs.TypeNumbers.{letterByte}
-use Rattle.dtype.specs.PlainBytes.{isObject}
+use Rattle.type_letters.specs.Classes.{isObject}
 use Rattle.dtype.specs.Dtype.{Dtype, Fields, sizeOf, sizesOf}
 use Rattle.dtype.specs.Entries.{entriesOf, entriesIn, someEntryIn, levels, plainOnly, hasObject}
 use Rattle.dtype.specs.Names.{nameBytes, nameBytesIn}
@@ -43,18 +42,11 @@ totalsIn fs =
     record {
       entries = atMost 513 (entriesIn fs);
       names = atMost 65537 (nameBytesIn fs);
-      object = someEntryIn (plainOnly (λ t. isObject (letterByte (t .letter)))) fs;
+      object = someEntryIn (plainOnly (λ t. isObject (t .letter))) fs;
       «over_levels» = someEntryIn (λ e. ltb 32 (levels e)) fs;
       over = someEntryIn (λ e. over (sizeOf e)) fs || over (sizesOf fs);
       size = asBytes (atMost largest (sizesOf fs));
     }
-
--- of no field, of a record's own entry, and of a name of so many bytes
-abbrev pub nothing : Totals
-nothing = record { entries = 0; names = 0; object = false; «over_levels» = false; over = false; size = asBytes 0 }
-
-abbrev pub oneEntry : Totals
-oneEntry = record { entries = 1; names = 0; object = false; «over_levels» = false; over = false; size = asBytes 0 }
 
 abbrev pub nameTotals : ℕ → Totals
 nameTotals n = record { entries = 0; names = atMost 65537 n; object = false; «over_levels» = false; over = false; size = asBytes 0 }

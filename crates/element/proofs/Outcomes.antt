@@ -7,8 +7,8 @@ use Rattle.refusal.specs.declared.PointsAnswer.{PointsAnswer}
 use Rattle.refusal.specs.Answers.{bytesAnswer, pointsAnswer}
 use Rattle.refusal.proofs.Answers.{bytes-one, points-one}
 use Rattle.dtype.specs.declared.Order.{Order}
-use Rattle.string_value.specs.Rooms.{Owes}
-use Rattle.string_value.proofs.Outcomes.{owes-one}
+use Rattle.counts.specs.Owes.{Owes}
+use Rattle.counts.proofs.Owes.{owes-one}
 use Rattle.element.specs.Element.{elementBytes, elementPoints}
 
 pub read-bytes-one : (file : List ℕ) (start : ℕ) (t ns s : List ℕ) (o : Order) (x p room : List ℕ)

@@ -8,8 +8,9 @@ use Rattle.dtype.specs.declared.Order.{Order}
 use Rattle.type_str.specs.declared.TypeStr.{TypeStr}
 use Rattle.place_area.specs.declared.Run.{Run}
 use Rattle.place.specs.Place.{placeOf}
-use Rattle.string_value.specs.Rooms.{readBytes, readPoints, Owes}
-use Rattle.string_value.proofs.Places.{owes-refused, owes-same}
+use Rattle.counts.specs.Owes.{Owes}
+use Rattle.string_value.specs.Rooms.{readBytes, readPoints}
+use Rattle.counts.proofs.Owes.{owes-refused, owes-same}
 use Rattle.element.specs.Bytes.{runBytes}
 use Rattle.element.specs.Element.{elementBytes, elementPoints}
 

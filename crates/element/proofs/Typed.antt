@@ -23,7 +23,8 @@ use Rattle.place_area.specs.declared.Run.{Run}
 use Rattle.place.specs.Place.{runFrom, placed, placeOf}
 use Rattle.place.proofs.Walks.{plain-typed}
 use Rattle.string_value.specs.Elements.{kindOf, bytesIn, pointsIn}
-use Rattle.string_value.specs.Rooms.{roomed, readBytes, readPoints}
+use Rattle.counts.specs.Owes.{roomed}
+use Rattle.string_value.specs.Rooms.{readBytes, readPoints}
 use Rattle.element.specs.Bytes.{runBytes}
 use Rattle.element.specs.Element.{elementBytes, elementPoints}
 

@@ -6,7 +6,7 @@ use place::Placed;
 use refusal::BytesAnswer;
 use refusal::PointsAnswer;
 ghost use Rattle.refusal.specs.Answers.{bytesAnswer, pointsAnswer};
-ghost use Rattle.string_value.specs.Rooms.{Owes};
+ghost use Rattle.counts.specs.Owes.{Owes};
 ghost use Rattle.element.specs.Element.{elementBytes, elementPoints};
 
 // Reads the element of S or V that an index and a path name, and returns how many bytes were written.

@@ -1,21 +1,21 @@
 -- The parts of a field, as the code finds them. A field that is one is a bracket of two or three items; each item begins where the gap before it says, and
 -- the definition, taken apart by its outcomes, says what each is.
-use Prim.Native.Nat.{ℕ, _+_, _-_, _<_, _≤_}
+use Prim.Native.Nat.{ℕ, _+_, _-_, _<_, _≤_, _*_}
 use native.Mathlib.Omega.{arith}
 use mathlib.Core.Path.{_≡_, refl, sym, ap, subst, _∙_}
-use mathlib.Core.List.{List, [], _∷_}
+use mathlib.Core.List.{List, [], _∷_, _++_}
 use mathlib.Core.Bool.{Bool, true, false, not}
 use lib.ListN.{length, take, drop}
-use lib.Seq.{take-append-seam}
+use lib.Seq.{take-append-seam, sets}
 use lib.Dec.{eqb}
 use borrow.Author.Tests.{eqb-true, eqb-false}
-use denote.Enum.Declared.{tagOf}
 use types.Run.{OneOf, miss}
+use denote.Enum.Declared.{tagOf}
 use Rattle.counts.specs.Outcome.{Outcome, gives, refused, then, each, unless}
 use Rattle.counts.proofs.Apart.{refused-gives}
 use Rattle.literal_grammar.specs.Value as value
 use Rattle.literal_grammar.specs.Value.{Value, Values}
-use Rattle.dtype.specs.Dtype.{Dtype}
+use Rattle.dtype.specs.Dtype.{Dtype, sizeOf}
 use Rattle.type_str.specs.declared.TypeStr.{TypeStr}
 use Rattle.type_str.specs.declared.TypeRead.{TypeRead}
 use Rattle.type_str.specs.Answer.{answer}
@@ -47,8 +47,33 @@ use Rattle.table_fill.specs.Written.{sizeOver, above}
 use Rattle.shape_text.specs.Members.{closingOf}
 use Rattle.shape_text.proofs.Held.{Bracket, bracket, no-bracket}
 use Rattle.descr_field.specs.Begins.{gapPlace}
-use Rattle.header.specs.Filled.{OneField, namePlace, nameSpelled, innerPlace, DueShape, Shaped}
+use Rattle.header.specs.Filled.{namePlace, nameSpelled, innerPlace, DueShape, Shaped, Narrow}
 use Rattle.header.specs.declared.fill.DescrFilled.{DescrFilled}
+use Rattle.literal.specs.Literal.{value}
+use Rattle.dtype.specs.Flat.{entry-width, flat}
+use Rattle.counts.specs.Number.{capped}
+use Rattle.dtype.specs.Names.{nameBytes, namesOf}
+use Rattle.dtype.specs.Entries.{entriesOf}
+
+-- the value at `at` is a field
+pub record OneField (k : ℕ) (s : List ℕ) (at : ℕ) (n : Node) (e : ℕ) (f : Field) : Type 0 where
+  pub stands : value k s at ≡ got n e
+  pub is : fieldOf (forget n) ≡ gives f
+
+-- the value at `at` is a field that gives f, and there is room for f
+pub record DueField (k : ℕ) (s : List ℕ) (at entry : ℕ) (table : List ℕ) (byte : ℕ) (names : List ℕ) (n : Node) (e : ℕ) (f : Field) : Type 0 where
+  pub one : OneField k s at n e f
+  pub narrow : Narrow (f .type)
+  pub room : entry-width * (entry + entriesOf (f .type)) ≤ length table
+  pub name-room : byte + (length (f .name) + nameBytes (f .type)) ≤ length names
+
+pub record FilledField (e entry up byte : ℕ) (f : Field) (table names table′ names′ : List ℕ) (r : DescrFilled) : Type 0 where
+  pub ends : r .end ≡ e
+  pub next : r .entry ≡ entry + entriesOf (f .type)
+  pub next-name : r .byte ≡ byte + (length (f .name) + nameBytes (f .type))
+  pub sized : r .size .0 ≡ capped (sizeOf (f .type))
+  pub table-after : table′ ≡ sets table (entry-width * entry) (flat (f .type) entry up (length (f .name)) [])
+  pub names-after : names′ ≡ sets names byte (f .name ++ namesOf (f .type) [])
 
 -- an answer that stands for a type is that type
 pub read-back : (r : TypeRead) (t : TypeStr) → answer r ≡ gives t → r ≡ TypeRead.Read t

@@ -6,13 +6,13 @@ use mathlib.Core.List.{List}
 use mathlib.Core.Bool.{Bool, true, false}
 use lib.ListN.{length, take, drop}
 use borrow.Author.Tests.{lt-ltb, le-ltb}
-use Rattle.counts.specs.Outcome.{Outcome, gives, refused, then, each, unless}
+use Rattle.counts.specs.Outcome.{Outcome, gives, refused, then, each, unless, afterwards}
 use Rattle.refusal.specs.declared.Refusal.{Refusal}
 use Rattle.refusal.specs.Numbers.{numberOf}
 use Rattle.dtype.specs.Record.{Record}
 use Rattle.record.specs.Version.{Version, textStart, one-zero, two-zero, three-zero}
-use Rattle.record.specs.Prefix.{Prefix, dataStart, prefix, textOf}
-use Rattle.record.specs.Rooms.{Rooms, needs, tooSmall, Lent, roomsOf}
+use Rattle.record.specs.Prefix.{Prefix, dataStart, prefix, missing, textHeld}
+use Rattle.record.specs.Rooms.{Rooms, needs, tooSmall, Lent, roomsOf, holding}
 use Rattle.record.specs.Header as header
 use Rattle.header_prefix.specs.declared.Prefix as before
 use Rattle.header_prefix.specs.Answer.{versionIs, prefixIs}
@@ -20,7 +20,7 @@ use Rattle.judge.specs.Judged.{reading}
 use Rattle.header.specs.declared.RecordInfo.{RecordInfo}
 use Rattle.header.specs.declared.TextRead.{TextRead}
 use Rattle.header.specs.declared.HeaderRead.{HeaderRead}
-use Rattle.header.specs.Reads.{infoOf, textAnswer, roomed, textInto, filled, ReadsText, HeaderInfo, headerInfo, answer, missing, afterPrefix, heldInto, ReadsAfterPrefix, ReadsHeld, Reads}
+use Rattle.header.specs.Reads.{infoOf, textAnswer, ReadsText, HeaderInfo, headerInfo, answer, afterPrefix, heldInto, ReadsAfterPrefix, ReadsHeld}
 
 -- ---- after the prefix
 pub start-small : (v : Version) → textStart v ≤ 12
@@ -35,7 +35,7 @@ headed p r = record { version = p .version; says = r; data-start = dataStart p }
 abbrev info-of : Prefix → RecordInfo → HeaderInfo
 info-of p s = record { version = p .version; info = s; data-start = dataStart p }
 
-stored-is : (rooms : Rooms) (p : Prefix) (r : Record) → header.stored rooms p r ≡ each (headed p) (roomed rooms r)
+stored-is : (rooms : Rooms) (p : Prefix) (r : Record) → header.stored rooms p r ≡ each (headed p) (header.fitted rooms r)
 unfolding header.stored
 stored-is rooms p r = go (tooSmall rooms (needs r))
   where
@@ -47,30 +47,32 @@ module _ (longer : Bool) (file : List ℕ) (p : Prefix) (l : Lent) where
   abbrev words : List ℕ
   words = take (p .text-length) (drop (textStart (p .version)) file)
 
-  record-then : (o : Outcome Record) → then o (header.stored (roomsOf l) p) ≡ each (headed p) (then o (roomed (roomsOf l)))
+  record-then : (o : Outcome Record) → then o (header.stored (roomsOf l) p) ≡ each (headed p) (then o (header.fitted (roomsOf l)))
   record-then (gives r) = stored-is (roomsOf l) p r
   record-then (refused n) = refl
 
-  after-is : dataStart p ≤ length file → afterPrefix longer file p l ≡ each (headed p) (textInto words l)
-  after-is le = rw (le-ltb (length file) (dataStart p) le) (record-then (header.recordIn reading words))
+  after-is : dataStart p ≤ length file → afterPrefix longer file p l ≡ each (headed p) (header.textBy reading words l)
+  unfolding textHeld
+  after-is le = rw (textHeld, le-ltb (length file) (dataStart p) le) (record-then (header.recordIn reading words))
 
   info-each : (o : Outcome Record) → each headerInfo (each (headed p) o) ≡ each (info-of p) (each infoOf o)
   info-each (gives r) = refl
   info-each (refused n) = refl
 
-  filled-each : (o : Outcome Record) → header.filled (each (headed p) o) l ≡ filled o l
+  filled-each : (o : Outcome Record) → afterwards header.holdingHeader (each (headed p) o) l ≡ afterwards holding o l
   filled-each (gives r) = refl
   filled-each (refused n) = refl
 
   pub after-missing : (f : Refusal) → numberOf f ≡ missing longer → length file < dataStart p → ReadsAfterPrefix longer file p l (HeaderRead.Refused f) l
-  after-missing f e lt = let z = lt-ltb (length file) (dataStart p) lt in record { answered = rw z (ap refused e); after = rw z refl }
+  unfolding textHeld
+  after-missing f e lt = let z = lt-ltb (length file) (dataStart p) lt in record { answered = rw (textHeld, z) (ap refused e); after = rw (textHeld, z) refl }
 
   after-by : dataStart p ≤ length file → (x : TextRead) (l′ : Lent) (y : HeaderRead) → ReadsText words l x l′ → answer y ≡ each (info-of p) (textAnswer x) → ReadsAfterPrefix longer file p l y l′
   after-by le x l′ y h e =
-      let o = textInto words l in
+      let o = header.textBy reading words l in
       record {
         answered = e ∙ ap (each (info-of p)) (h .answered) ∙ sym (info-each o) ∙ ap (each headerInfo) (sym (after-is le));
-        after = h .after ∙ sym (filled-each o) ∙ ap (λ (z : Outcome header.Header). header.filled z l) (sym (after-is le));
+        after = h .after ∙ sym (filled-each o) ∙ ap (λ (z : Outcome header.Header). afterwards header.holdingHeader z l) (sym (after-is le));
       }
 
 -- the same, of what the code has in hand
@@ -102,19 +104,9 @@ module _ (longer : Bool) (file : List ℕ) (l : Lent) where
   pub held-read : (p : Prefix) (x : HeaderRead) (l′ : Lent) → gives p ≡ prefix file → ReadsAfterPrefix longer file p l x l′ → ReadsHeld longer file l x l′
   held-read p x l′ e h =
       let z = held-then (gives p) (sym e) in
-      record { answered = h .answered ∙ ap (each headerInfo) (sym z); after = h .after ∙ ap (λ (o : Outcome header.Header). header.filled o l) (sym z) }
+      record { answered = h .answered ∙ ap (each headerInfo) (sym z); after = h .after ∙ ap (λ (o : Outcome header.Header). afterwards header.holdingHeader o l) (sym z) }
 
   pub held-refused : (f : Refusal) → refused (numberOf f) ≡ prefix file → ReadsHeld longer file l (HeaderRead.Refused f) l
   held-refused f e =
       let z = held-then (refused (numberOf f)) (sym e) in
-      record { answered = ap (each headerInfo) (sym z); after = ap (λ (o : Outcome header.Header). header.filled o l) (sym z) }
-
--- a file that is held whole
-whole-held : (file : List ℕ) (l : Lent) → heldInto false file l ≡ header.headerInto reading file l
-unfolding header.headerBy textOf
-whole-held file l = refl
-
-pub whole-read : (file : List ℕ) (l : Lent) (x : HeaderRead) (l′ : Lent) → ReadsHeld false file l x l′ → Reads file l x l′
-whole-read file l x l′ h =
-    let z = whole-held file l in
-    record { answered = h .answered ∙ ap (each headerInfo) z; after = h .after ∙ ap (λ (o : Outcome header.Header). header.filled o l) z }
+      record { answered = ap (each headerInfo) (sym z); after = ap (λ (o : Outcome header.Header). afterwards header.holdingHeader o l) (sym z) }

@@ -55,8 +55,8 @@ use Rattle.table_fill.specs.Written.{typeIn, put, bare, above}
 use Rattle.table_fill.proofs.EntryStores.{sets-append, flat-front, names-front}
 use Rattle.table_fill.proofs.Levels.{put-room, entry-before, size-over}
 use Rattle.table_fill.proofs.LevelLifts.{above-flat}
-use Rattle.header.specs.Filled.{Narrow, NarrowIn, nameSpelled, DueHead, Headed, DueShape, DueShapeAt, Shapes, Due, DueAt, Fills, Filled, DueFields, DueFieldsFrom, FillsFields, FilledFields, DueField, FilledField}
-use Rattle.header.proofs.FieldParts.{read-back, row-none, Opened, opened}
+use Rattle.header.specs.Filled.{Narrow, NarrowIn, nameSpelled, DueHead, Headed, DueShape, DueShapeAt, Shapes, Due, DueAt, Fills, Filled, DueFields, DueFieldsFrom, FillsFields, FilledFields}
+use Rattle.header.proofs.FieldParts.{read-back, row-none, Opened, opened, DueField, FilledField}
 
 -- ---- a type string
 plain-back : (o : Outcome TypeStr) (d : Dtype) → each plain o ≡ gives d → (t : TypeStr) × (o ≡ gives t) × (d ≡ plain t)

@@ -4,21 +4,22 @@ use mathlib.Core.Path.{_≡_, refl, sym, ap, _∙_}
 use mathlib.Core.List.{List}
 use mathlib.Core.Bool.{Bool}
 use Prim.Native.Nat.{ℕ}
-use Rattle.counts.specs.Outcome.{Outcome}
+use Rattle.counts.specs.Outcome.{Outcome, each, afterwards}
 use Rattle.counts.specs.OneOutcome.{OneOutcome}
 use Rattle.counts.proofs.OneOutcome.{pair-of}
 use Rattle.refusal.proofs.Names.{refusal-back}
 use Rattle.refusal.proofs.Answers.{answerFor, answer-one}
-use Rattle.record.specs.Rooms.{Rooms, Lent}
-use Rattle.record.specs.Header.{Reading, Keeps, headerBy}
-use Rattle.record.proofs.OneHeader.{header-same}
+use Rattle.dtype.specs.Record.{Record}
+use Rattle.record.specs.Rooms.{Lent, roomsOf, holding}
+use Rattle.record.specs.Header.{Header, Reading, Keeps, holdingHeader}
+use Rattle.record.proofs.OneHeader.{header-same, text-same as records-same}
 use Rattle.header_prefix.specs.declared.Version.{Version}
 use Rattle.header_prefix.proofs.Outcomes.{versionBack, version-back}
 use Rattle.judge.specs.Judged.{reading}
 use Rattle.judge.proofs.Top.{reading-keeps}
 use Rattle.header.specs.declared.TextRead.{TextRead}
 use Rattle.header.specs.declared.HeaderRead.{HeaderRead}
-use Rattle.header.specs.Reads.{textAnswer, ReadsText, HeaderInfo, answer, ReadsHeld, Reads}
+use Rattle.header.specs.Reads.{infoOf, textAnswer, ReadsTextBy, ReadsText, HeaderInfo, headerInfo, answer, ReadsBy, ReadsHeld, Reads}
 
 -- ---- an answer can be found again from what it stands for
 text-same : (a : TextRead) → answerFor TextRead.Read TextRead.Refused (textAnswer a) ≡ a
@@ -46,5 +47,13 @@ pub read-text-one : (text : List ℕ) (l : Lent) → OneOutcome {A = TextRead ×
 read-text-one text l x y p q = pair-of (answer-one textAnswer TextRead.Read TextRead.Refused text-same _ (x .0) (y .0) (p .answered) (q .answered)) (p .after ∙ sym (q .after))
 
 -- ---- any reading that keeps the promise
-pub any-reading : (other : Reading) → Keeps other → (file : List ℕ) (rooms : Rooms) → headerBy reading file rooms ≡ headerBy other file rooms
-any-reading other k file rooms = header-same reading other reading-keeps k file rooms
+module _ (other : Reading) (keeps : Keeps other) where
+  pub any-reading : (longer : Bool) (file : List ℕ) (l : Lent) (x : HeaderRead) (l′ : Lent) → ReadsHeld longer file l x l′ → ReadsBy other longer file l x l′
+  any-reading longer file l x l′ h =
+      let same = header-same reading other reading-keeps keeps longer file (roomsOf l) in
+      record { answered = h .answered ∙ ap (each headerInfo) same; after = h .after ∙ ap (λ (o : Outcome Header). afterwards holdingHeader o l) same }
+
+  pub any-text-reading : (text : List ℕ) (l : Lent) (x : TextRead) (l′ : Lent) → ReadsText text l x l′ → ReadsTextBy other text l x l′
+  any-text-reading text l x l′ h =
+      let same = records-same reading other reading-keeps keeps text l in
+      record { answered = h .answered ∙ ap (each infoOf) same; after = h .after ∙ ap (λ (o : Outcome Record). afterwards holding o l) same }

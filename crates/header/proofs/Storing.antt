@@ -29,8 +29,7 @@ use Rattle.shape_verdict.specs.Outline.{outlineOf}
 use Rattle.shape_verdict.specs.declared.Outline.{Outline}
 use Rattle.shape_text.specs.Answer.{dimensionsAt}
 use Rattle.shape_text.specs.declared.DimsStored.{DimsStored}
-use Rattle.shape_text.specs.Fill.{FillsShape}
-use Rattle.shape_text.proofs.Stored.{stored-over}
+use Rattle.shape_text.proofs.Stored.{stored-over, FillsShape}
 use Rattle.descr_totals.specs.declared.Totals.{Totals}
 use Rattle.descr_totals.proofs.Limits.{entries-are, names-are}
 use Rattle.judge.specs.declared.FoundRecord.{FoundRecord}

@@ -2,18 +2,18 @@
 use Prim.Native.Nat.{ℕ}
 use mathlib.Core.Path.{_≡_, refl, sym, ap, subst, _∙_}
 use mathlib.Core.List.{List}
-use Rattle.counts.specs.Outcome.{Outcome, gives, refused, then, each}
+use Rattle.counts.specs.Outcome.{Outcome, gives, refused, then, each, afterwards}
 use Rattle.refusal.specs.declared.Refusal.{Refusal}
 use Rattle.refusal.specs.Numbers.{numberOf}
 use Rattle.dtype.specs.Record.{Record}
-use Rattle.record.specs.Rooms.{Lent, roomsOf}
+use Rattle.record.specs.Rooms.{Lent, roomsOf, holding}
 use Rattle.record.specs.Header as header
 use Rattle.literal_bytes.specs.Text.{skip}
 use Rattle.judge.specs.declared.FoundRecord.{FoundRecord}
 use Rattle.judge.specs.declared.Judged.{Judged}
 use Rattle.judge.specs.Judged.{reading, PlanOf, JudgedIs}
 use Rattle.header.specs.declared.TextRead.{TextRead}
-use Rattle.header.specs.Reads.{infoOf, textAnswer, roomed, textInto, filled, Stores, ReadsText}
+use Rattle.header.specs.Reads.{infoOf, Stores, ReadsText}
 
 module _ (text : List ℕ) (j : Judged) (h : JudgedIs text (skip text 0) j (header.recordIn reading text)) where
   plan-of : (plan : FoundRecord) (o : Outcome Record) → JudgedIs text (skip text 0) (Judged.Fits plan) o → (r : Record) × PlanOf text (skip text 0) plan r × (o ≡ gives r)
@@ -30,8 +30,8 @@ module _ (text : List ℕ) (j : Judged) (h : JudgedIs text (skip text 0) j (head
   text-stored plan l x l′ e k =
       let y = fits plan e in
       let a = k (y .0) (y .1) in
-      let same : textInto text l ≡ roomed (roomsOf l) (y .0) = ap (λ (o : Outcome Record). then o (roomed (roomsOf l))) (y .2) in
-      record { answered = a .answered ∙ ap (each infoOf) (sym same); after = a .after ∙ ap (λ (o : Outcome Record). filled o l) (sym same) }
+      let same : header.textBy reading text l ≡ header.fitted (roomsOf l) (y .0) = ap (λ (o : Outcome Record). then o (header.fitted (roomsOf l))) (y .2) in
+      record { answered = a .answered ∙ ap (each infoOf) (sym same); after = a .after ∙ ap (λ (o : Outcome Record). afterwards holding o l) (sym same) }
 
   none-of : (f : Refusal) (o : Outcome Record) → JudgedIs text (skip text 0) (Judged.Refused f) o → o ≡ refused (numberOf f)
   none-of f (gives r) k = absurd k
@@ -40,5 +40,5 @@ module _ (text : List ℕ) (j : Judged) (h : JudgedIs text (skip text 0) j (head
   pub text-refused : (f : Refusal) (l : Lent) → j ≡ Judged.Refused f → ReadsText text l (TextRead.Refused f) l
   text-refused f l e =
       let z = none-of f (header.recordIn reading text) (subst (λ (x : Judged). JudgedIs text (skip text 0) x (header.recordIn reading text)) e h) in
-      let same : textInto text l ≡ refused (numberOf f) = ap (λ (o : Outcome Record). then o (roomed (roomsOf l))) z in
-      record { answered = sym (ap (each infoOf) same); after = sym (ap (λ (o : Outcome Record). filled o l) same) }
+      let same : header.textBy reading text l ≡ refused (numberOf f) = ap (λ (o : Outcome Record). then o (header.fitted (roomsOf l))) z in
+      record { answered = sym (ap (each infoOf) same); after = sym (ap (λ (o : Outcome Record). afterwards holding o l) same) }

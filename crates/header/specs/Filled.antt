@@ -3,7 +3,7 @@
 -- beyond what was needed is unchanged." The table and the names themselves are crate dtype's.
 use Prim.Native.Nat.{ℕ, _+_, _*_, _≤_, _<_}
 use mathlib.Core.Path.{_≡_}
-use mathlib.Core.List.{List, [], _++_}
+use mathlib.Core.List.{List, []}
 use lib.ListN.{length}
 use lib.Seq.{sets}
 use Rattle.counts.specs.Outcome.{gives}
@@ -12,7 +12,7 @@ use Rattle.dtype.specs.Entries.{entriesOf, entriesIn, fieldCount, levels}
 use Rattle.dtype.specs.Names.{nameBytes, nameBytesIn, namesOf, namesIn}
 use Rattle.counts.specs.Number.{capped}
 use Rattle.dtype.specs.Flat.{entry-width, flat, flats}
-use Rattle.record.specs.Descr.{Field, perhaps, descrOf, fieldOf, fieldsOf}
+use Rattle.record.specs.Descr.{perhaps, descrOf, fieldsOf}
 use Rattle.literal_tokens.specs.Node.{Node, nodes}
 use Rattle.literal_bytes.specs.Got.{got}
 use Rattle.literal_bytes.specs.Text.{byteAt}
@@ -40,10 +40,6 @@ abbrev mutual
   NarrowIn (field-then name d fs) = Narrow d × NarrowIn fs
 
 -- ---- a field
--- the value at `at` is a field
-pub record OneField (k : ℕ) (s : List ℕ) (at : ℕ) (n : Node) (e : ℕ) (f : Field) : Type 0 where
-  pub stands : value k s at ≡ got n e
-  pub is : fieldOf (forget n) ≡ gives f
 
 -- ---- the head of a field that begins at `at` and is shut by `close`
 -- where its name begins, what that spells, and where the inner descr begins
@@ -129,21 +125,6 @@ pub record FilledFields (e entry up byte : ℕ) (fs : Fields) (table names table
   pub counted : r .count ≡ fieldCount fs
   pub table-after : table′ ≡ sets table (entry-width * entry) (flats fs entry up [])
   pub names-after : names′ ≡ sets names byte (namesIn fs [])
-
--- the value at `at` is a field that gives f, and there is room for f
-pub record DueField (k : ℕ) (s : List ℕ) (at entry : ℕ) (table : List ℕ) (byte : ℕ) (names : List ℕ) (n : Node) (e : ℕ) (f : Field) : Type 0 where
-  pub one : OneField k s at n e f
-  pub narrow : Narrow (f .type)
-  pub room : entry-width * (entry + entriesOf (f .type)) ≤ length table
-  pub name-room : byte + (length (f .name) + nameBytes (f .type)) ≤ length names
-
-pub record FilledField (e entry up byte : ℕ) (f : Field) (table names table′ names′ : List ℕ) (r : DescrFilled) : Type 0 where
-  pub ends : r .end ≡ e
-  pub next : r .entry ≡ entry + entriesOf (f .type)
-  pub next-name : r .byte ≡ byte + (length (f .name) + nameBytes (f .type))
-  pub sized : r .size .0 ≡ capped (sizeOf (f .type))
-  pub table-after : table′ ≡ sets table (entry-width * entry) (flat (f .type) entry up (length (f .name)) [])
-  pub names-after : names′ ≡ sets names byte (f .name ++ namesOf (f .type) [])
 
 -- ---- the same, whichever value the text has there
 abbrev pub DueAt : (k : ℕ) (s : List ℕ) (at entry : ℕ) (table : List ℕ) (byte : ℕ) (names : List ℕ) → Type 0

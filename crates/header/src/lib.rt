@@ -13,9 +13,9 @@ use refusal::Refusal;
 ghost use mathlib.Core.Path.{_≡_};
 ghost use Prim.Native.Nat.{_≤_};
 ghost use Rattle.refusal.specs.Numbers.{numberOf};
-ghost use Rattle.record.specs.Prefix.{most-text};
+ghost use Rattle.record.specs.Prefix.{most-text, missing as missingNumber};
 ghost use Rattle.header_prefix.specs.Answer.{prefixIs};
-ghost use Rattle.header.specs.Reads.{lent, missing as missingNumber, Reads, ReadsHeld, ReadsAfterPrefix, ReadsText};
+ghost use Rattle.header.specs.Reads.{lent, Reads, ReadsHeld, ReadsAfterPrefix, ReadsText};
 
 // What is known of a record beside its table, names and shape, which are in the lent rooms: its order, and how much of each room it takes.
 pub struct RecordInfo {

@@ -20,11 +20,10 @@ use Rattle.literal_bytes.specs.Text.{byteAt, kindOf}
 use Rattle.literal_escapes.specs.Strings.{spelled}
 use Rattle.literal.specs.Brackets.{listBy, pairBy}
 use Rattle.literal.specs.Literal.{bracketBy, value}
-use Rattle.literal.specs.Rows.{View}
 use Rattle.literal_bytes.specs.declared.ValueKind.{ValueKind}
 use Rattle.literal_bytes.specs.declared.ValueKind.the-variants.{Square, Round, Curly, Quote, Minus, Digit, TrueWord, FalseWord, NoneWord, Other}
 use Rattle.literal_bytes.proofs.ValueKind.{the-type}
-use Rattle.literal.proofs.View.{view}
+use Rattle.literal.proofs.View.{view, View}
 use Rattle.judge_names.specs.declared.Name as name
 use Rattle.judge_names.specs.declared.Name.{Name}
 use Rattle.judge_names.specs.Answer.{Named}

@@ -10,7 +10,8 @@ use Rattle.dtype.specs.Dtype.{Dtype}
 use Rattle.dtype.specs.Record.{Record}
 use Rattle.record.specs.Dict.{key-shape, key-descr}
 use Rattle.record.specs.Header.{recordIn}
-use Rattle.literal_tokens.specs.Node.{Span, spanOf}
+use Rattle.literal_tokens.specs.Node.{Span}
+use Rattle.literal_tokens.proofs.Spans.{spanOf}
 use Rattle.literal_bytes.specs.Text.{skip}
 use Rattle.literal.proofs.View.{value-span}
 use Rattle.shape_verdict.specs.declared.Outline.{Outline}

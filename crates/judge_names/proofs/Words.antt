@@ -15,8 +15,7 @@ use Rattle.literal_bytes.specs.declared.ValueKind.the-variants.{Square, Round, 
 use Rattle.literal_bytes.proofs.ValueKind.{the-type}
 use Rattle.literal.specs.Forget.{forget}
 use Rattle.literal.specs.Literal.{value}
-use Rattle.literal.specs.Rows.{View}
-use Rattle.literal.proofs.View.{view}
+use Rattle.literal.proofs.View.{view, View}
 use Rattle.refusal.specs.declared.Refusal.{Refusal}
 use Rattle.judge_names.specs.declared.Declared.{Declared}
 use Rattle.judge_names.specs.Answer.{wordOf}

@@ -6,23 +6,25 @@ use mathlib.Core.Path.{_≡_, refl, sym, ap, subst, _∙_}
 use mathlib.Core.Logic.{⊎-elim}
 use mathlib.Core.Bool.{Bool, true, false, _||_}
 use mathlib.Core.List.{List, [], _∷_}
-use lib.Dec.{ltb, leb}
+use lib.Dec.{ltb}
 use lib.ListN.{length, take, drop, length-append, length-take, length-replicate}
 use lib.Seq.{take-take}
-use borrow.Author.Tests.{lt-ltb, le-ltb, leb-true, ltb-false, le-leb}
-use Rattle.counts.specs.Outcome.{Outcome, gives, refused}
+use borrow.Author.Tests.{lt-ltb, le-ltb, leb-true, ltb-false}
+use Rattle.counts.specs.Outcome.{Outcome, gives, refused, each, afterwards}
+use Rattle.counts.specs.Front.{atFront}
+use Rattle.counts.specs.Owes.{roomed}
 use Rattle.counts.specs.declared.Bytes.{Bytes}
 use Rattle.counts.proofs.Apart.{gives-apart, refused-gives}
 use Rattle.counts.proofs.Holds.{Holds, then-holds, then-any, unless-holds, holds-of}
+use Rattle.counts.proofs.Owes.{roomed-whole}
 use Rattle.counts.proofs.Sides.{lt-or-ge}
 use Rattle.refusal.specs.declared.Refusal.{Refusal}
 use Rattle.refusal.specs.declared.BytesAnswer.{BytesAnswer}
 use Rattle.refusal.specs.Answers.{bytesAnswer}
 use Rattle.decimal.proofs.Lengths.{printed-u64}
-use Rattle.emit.specs.Placed.{written, roomWith}
 use Rattle.dtype.specs.Flat.{entry-width}
 use Rattle.dtype.proofs.Seen.{or-left, or-right}
-use Rattle.record.specs.Prefix.{Prefix, dataStart, prefix}
+use Rattle.record.specs.Prefix.{Prefix, dataStart, prefix, missing, textHeld}
 use Rattle.record.specs.Rooms.{Rooms, Lent, needs, tooSmall, roomsOf}
 use Rattle.record.specs.Header.{Header, recordIn, stored}
 use Rattle.record.proofs.Numbers.{Numbered, then-numbered, in-numbered, prefix-numbered, stored-numbered, part-numbered}
@@ -30,10 +32,22 @@ use Rattle.record.proofs.RoundTrips.{read-readable}
 use Rattle.list_text.proofs.Lengths.{listing-length}
 use Rattle.judge.specs.Judged.{reading}
 use Rattle.judge.proofs.Top.{reading-keeps}
-use Rattle.header.specs.Reads.{missing, textHeld, afterPrefix, heldInto}
+use Rattle.header.specs.Reads.{afterPrefix, heldInto}
 use Rattle.list_file.specs.Report.{held-bytes, fresh, textFor, reportOf, Reports}
-use Rattle.list_file.specs.Enough.{Front-reports, text-room, Report-fits, WritesReport}
+use Rattle.list_file.specs.Enough.{WritesReport}
 use Rattle.list_file.proofs.Whole.{held-whole}
+
+-- the report of a file's first 65,537 bytes is the report of the file
+abbrev pub Front-reports : Type 0
+Front-reports = (file : List ℕ) → reportOf (take (suc held-bytes) file) ≡ reportOf file
+
+-- the program's room for the text
+abbrev pub text-room : ℕ
+text-room = 131072
+
+-- no report is longer
+abbrev pub Report-fits : Type 0
+Report-fits = (file : List ℕ) → length (reportOf file) ≤ text-room
 
 -- ---- one byte more than is held shows whether the file is longer
 longer-same : (file : List ℕ) → ltb held-bytes (length (take (suc held-bytes) file)) ≡ ltb held-bytes (length file)
@@ -51,7 +65,7 @@ front-reports file = rw (reportOf, longer-same file, take-take held-bytes (suc h
 module _ (longer : Bool) (file : List ℕ) (l : Lent) where
   -- it starts its data inside the bytes that are held
   start-held : Holds (λ h. h .data-start ≤ length file) (heldInto longer file l)
-  unfolding stored
+  unfolding stored textHeld
   start-held =
       let Inside : Header → Type 0 = λ h. h .data-start ≤ length file in
       then-any Inside (prefix file) (λ p. afterPrefix longer file p l)
@@ -61,6 +75,7 @@ module _ (longer : Bool) (file : List ℕ) (l : Lent) where
       (λ r. unless-holds Inside (tooSmall (roomsOf l) (needs r)) 23 _ (λ e. inside))))
 
   text-numbered : (p : Prefix) → Numbered (textHeld longer p file)
+  unfolding textHeld
   text-numbered p = go longer
     where
       go : (b : Bool) → Numbered (textHeld b p file)
@@ -119,16 +134,15 @@ report-fits file =
 
 -- ---- with that room the text is written
 module _ (file room : List ℕ) (r : BytesAnswer) (room′ : List ℕ) (enough : text-room ≤ length room) (w : Reports file room r room′) where
-  fits : leb (length (reportOf file)) (length room) ≡ true
-  fits = le-leb (length (reportOf file)) (length room) (omega (arith, report-fits file, enough))
+  fits : roomed 28 room (reportOf file) ≡ gives (reportOf file)
+  fits = roomed-whole 28 room (reportOf file) (omega (arith, report-fits file, enough))
 
   whole : bytesAnswer r ≡ gives (length (reportOf file))
-  unfolding written
-  whole = w .answered ∙ rw (written, fits)
+  whole = w .answered ∙ ap (each length) fits
 
   pub report-written : (n : Bytes) → r ≡ BytesAnswer.Is n → WritesReport file room n room′
-  unfolding roomWith
-  report-written n e = record { answered = gives-apart (sym (ap bytesAnswer e) ∙ whole); after = w .after ∙ rw (roomWith, fits) }
+  report-written n e =
+      record { answered = gives-apart (sym (ap bytesAnswer e) ∙ whole); after = w .room-after ∙ ap (λ (o : Outcome (List ℕ)). afterwards atFront o room) fits }
 
   pub never-refused : (why : Refusal) → r ≡ BytesAnswer.Refused why → ⊥
   never-refused why e = refused-gives (sym (ap bytesAnswer e) ∙ whole)

@@ -5,17 +5,18 @@ use mathlib.Core.List.{List}
 use lib.ListN.{length}
 use Rattle.counts.specs.OneOutcome.{OneOutcome}
 use Rattle.counts.specs.Front.{atFront}
+use Rattle.counts.specs.Owes.{roomed}
 use Rattle.counts.specs.declared.Bytes.{Bytes}
 use Rattle.counts.proofs.OneOutcome.{by-equation, by-inverse, beside}
+use Rattle.counts.proofs.Owes.{owes-one}
 use Rattle.refusal.specs.declared.BytesAnswer.{BytesAnswer}
+use Rattle.refusal.specs.Answers.{bytesAnswer}
 use Rattle.refusal.proofs.Answers.{bytes-one}
-use Rattle.emit.specs.Placed.{written, roomWith}
 use Rattle.list_file.specs.Report.{reportOf, Reports}
 use Rattle.list_file.specs.Enough.{WritesReport}
 
 pub report-one : (file room : List ℕ) → OneOutcome {A = BytesAnswer × List ℕ} (λ r. Reports file room (r .0) (r .1))
-report-one file room x y p q =
-    beside (bytes-one (written (reportOf file) room)) (by-equation (roomWith (reportOf file) room)) x y (p .answered, p .after) (q .answered, q .after)
+report-one file room = owes-one bytesAnswer bytes-one (roomed 28 room (reportOf file)) room
 
 pub report-whole-one : (file room : List ℕ) → OneOutcome {A = Bytes × List ℕ} (λ r. WritesReport file room (r .0) (r .1))
 report-whole-one file room x y p q =

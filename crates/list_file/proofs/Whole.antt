@@ -6,17 +6,18 @@ use mathlib.Core.List.{List, []}
 use mathlib.Core.Bool.{Bool, true, false}
 use lib.Dec.{ltb}
 use lib.ListN.{length, take, drop, length-replicate}
-use Rattle.counts.specs.Outcome.{Outcome, gives, refused, then, each, unless}
+use Rattle.counts.specs.Outcome.{Outcome, gives, refused, then, each, unless, afterwards}
+use Rattle.counts.specs.Owes.{roomed, Owes}
+use Rattle.counts.proofs.Owes.{owes-same}
 use Rattle.refusal.specs.declared.Refusal.{Refusal}
 use Rattle.refusal.specs.declared.BytesAnswer.{BytesAnswer}
 use Rattle.refusal.specs.Numbers.{numberOf}
 use Rattle.emit.specs.Emits.{Emits}
-use Rattle.emit.specs.Placed.{written}
 use Rattle.emit.proofs.Texts.{written-short, written-whole}
 use Rattle.dtype.specs.Flat.{entry-width}
 use Rattle.dtype.specs.Record.{Record}
 use Rattle.record.specs.Version.{Version, textStart}
-use Rattle.record.specs.Prefix.{Prefix, dataStart, prefix, textOf}
+use Rattle.record.specs.Prefix.{Prefix, dataStart, prefix, missing, textHeld, textOf}
 use Rattle.record.specs.Rooms.{Rooms, Lent, roomsOf}
 use Rattle.record.specs.Header as header
 use Rattle.header_prefix.specs.Answer.{versionIs}
@@ -26,7 +27,7 @@ use Rattle.judge.proofs.Top.{reading-keeps}
 use Rattle.header.specs.declared.RecordInfo.{RecordInfo}
 use Rattle.header.specs.declared.Header.{Header}
 use Rattle.header.specs.declared.HeaderRead.{HeaderRead}
-use Rattle.header.specs.Reads.{HeaderInfo, headerInfo, headerIs, missing, textHeld, afterPrefix, heldInto, ReadsHeld}
+use Rattle.header.specs.Reads.{HeaderInfo, headerInfo, headerIs, afterPrefix, heldInto, ReadsHeld}
 use Rattle.list_record.specs.Answer as lists
 use Rattle.read_back.specs.Rooms.{tableIn, namesIn, shapeIn, Holds}
 use Rattle.list_file.specs.Report.{held-bytes, fresh, refusedLine, textFor, reportOf, WritesText, Reports}
@@ -35,7 +36,7 @@ use Rattle.read_back.proofs.Rooms.{stands-by, checked-fronts}
 
 -- ---- a header of a file that is held in part is one of the bytes that are held
 text-whole : (longer : Bool) (p : Prefix) (file s : List ℕ) → textHeld longer p file ≡ gives s → textOf p file ≡ gives s
-unfolding textOf
+unfolding textHeld
 text-whole longer p file s e = go (ltb (length file) (dataStart p)) e
   where
     go : (b : Bool) → unless b (missing longer) (gives (take (p .text-length) (drop (textStart (p .version)) file))) ≡ gives s
@@ -43,8 +44,7 @@ text-whole longer p file s e = go (ltb (length file) (dataStart p)) e
     go true e = absurd (let z : _≡_ {A = ℕ} 0 1 = cc in omega arith)
     go false e = e
 
-pub held-whole : (longer : Bool) (file : List ℕ) (l : Lent) (h : header.Header) → heldInto longer file l ≡ gives h → header.headerInto reading file l ≡ gives h
-unfolding header.headerBy
+pub held-whole : (longer : Bool) (file : List ℕ) (l : Lent) (h : header.Header) → heldInto longer file l ≡ gives h → header.heldBy reading false file l ≡ gives h
 held-whole longer file l h e = go (prefix file) e
   where
     texts : (p : Prefix) (o o′ : Outcome (List ℕ)) → ((s : List ℕ) → o ≡ gives s → o′ ≡ gives s)
@@ -53,8 +53,7 @@ held-whole longer file l h e = go (prefix file) e
     texts p (gives s) o′ same e = rw (same s refl) e
     texts p (refused n) o′ same e = absurd (let z : _≡_ {A = ℕ} 0 1 = cc in omega arith)
 
-    go : (o : Outcome Prefix) → then o (λ p. afterPrefix longer file p l) ≡ gives h
-        → then o (λ p. then (textOf p file) (λ s. then (header.recordIn reading s) (header.stored (roomsOf l) p))) ≡ gives h
+    go : (o : Outcome Prefix) → then o (λ p. afterPrefix longer file p l) ≡ gives h → then o (λ p. afterPrefix false file p l) ≡ gives h
     go (gives p) e = texts p (textHeld longer p file) (textOf p file) (text-whole longer p file) e
     go (refused n) e = absurd (let z : _≡_ {A = ℕ} 0 1 = cc in omega arith)
 
@@ -62,11 +61,7 @@ held-whole longer file l h e = go (prefix file) e
 module _ (v : Version) (start : ℕ) (r : Record) (info : RecordInfo) (l : Lent) (room room′ : List ℕ) (h : Holds r info l) where
   text-of : (x : BytesAnswer) → lists.Lists v start (tableIn info l) (namesIn info l) (shapeIn info l) (info .order) room x room′
       → WritesText (listing v start r []) room x room′
-  text-of x w =
-      record {
-        answered = w .answered ∙ ap (λ (o : Outcome Record). then o (λ z. written (listing v start z []) room)) (h .accepted);
-        after = w .after ∙ ap (λ (o : Outcome Record). lists.roomBy o v start room) (h .accepted);
-      }
+  text-of x w = owes-same _ _ room _ _ (ap (λ (o : Outcome Record). then o (λ z. roomed 28 room (listing v start z []))) (h .accepted)) w
 
   -- the fronts, as the functions gave them
   module _ (t ns s : List ℕ) (x : BytesAnswer) (et : t ≡ tableIn info l) (en : ns ≡ namesIn info l) (es : s ≡ shapeIn info l) (w : lists.Lists v start t ns s (info .order) room x room′) where
@@ -82,13 +77,14 @@ module _ (v : Version) (start : ℕ) (r : Record) (info : RecordInfo) (l : Lent)
 -- ---- a refusal's line
 module _ (k : ℕ) (scratch mid : List ℕ) (n : ℕ) (room : List ℕ) (fits : n < 2 ^ 64) (short : length room < 2 ^ 64 - 1) (measured : Emits (refusedLine k) scratch 0 mid n) where
   pub line-28 : length room < n → WritesText (refusedLine k []) room (BytesAnswer.Refused Refusal.OutputRoom) room
-  line-28 lt = let x = written-short (refusedLine k) scratch mid n room fits short measured lt in record { answered = x .0; after = x .1 }
+  line-28 lt = written-short (refusedLine k) scratch mid n room fits short measured lt
 
   pub line-written : (out : List ℕ) (q : ℕ) → n ≤ length room → Emits (refusedLine k) room 0 out q → WritesText (refusedLine k []) room (BytesAnswer.Is (record { 0 = n })) out
-  line-written out q le h = let x = written-whole (refusedLine k) scratch mid n room fits short measured out q le h in record { answered = x .0; after = x .1 }
+  line-written out q le h = written-whole (refusedLine k) scratch mid n room fits short measured out q le h
 
-pub line-known : (k n : ℕ) (room : List ℕ) (x : BytesAnswer) (room′ : List ℕ) → k ≡ n → WritesText (refusedLine k []) room x room′ → WritesText (refusedLine n []) room x room′
-line-known k n room x room′ e w = subst (λ (m : ℕ). WritesText (refusedLine m []) room x room′) e w
+pub line-known : (k n : ℕ) (room : List ℕ) (answer : Outcome ℕ) (room′ : List ℕ) → k ≡ n → Owes (roomed 28 room (refusedLine k [])) room answer room′
+    → Owes (roomed 28 room (refusedLine n [])) room answer room′
+line-known k n room answer room′ e w = subst (λ (m : ℕ). Owes (roomed 28 room (refusedLine m [])) room answer room′) e w
 
 -- ---- the whole
 -- rooms of these lengths are as good as fresh ones
@@ -115,7 +111,7 @@ module _ (longer : Bool) (file : List ℕ) (l : Lent) (a : length (l .table) ≡
   pub held-found : (h : Header) (l′ : Lent) → ReadsHeld longer file l (HeaderRead.Read h) l′ → Found h l′
   held-found h l′ x = go (heldInto longer file l) refl (x .answered) (x .after)
     where
-      go : (o : Outcome header.Header) → heldInto longer file l ≡ o → gives (headerIs h) ≡ each headerInfo o → l′ ≡ header.filled o l → Found h l′
+      go : (o : Outcome header.Header) → heldInto longer file l ≡ o → gives (headerIs h) ≡ each headerInfo o → l′ ≡ afterwards header.holdingHeader o l → Found h l′
       go (gives k) e p q =
           let same : headerIs h ≡ headerInfo k = cc in
           let s = stands-by (k .says) l l′ (h .info) (ap (λ (t : HeaderInfo). t .info) same) q in

@@ -1,25 +1,13 @@
 -- Document 01, "What the collector buys": "It holds the file's first 65,536 bytes and 16,384 name bytes; a longer file whose header ends past those gets 23". So the
 -- program reads one byte more than it holds, to see whether the file is longer, and its room for the text is enough for every file: it never prints 28. Both are proved in
 -- proofs/Enough.antt.
-use Prim.Native.Nat.{ℕ, suc, _≤_}
+use Prim.Native.Nat.{ℕ}
 use mathlib.Core.Path.{_≡_}
 use mathlib.Core.List.{List}
-use lib.ListN.{length, take}
+use lib.ListN.{length}
 use Rattle.counts.specs.Front.{atFront}
 use Rattle.counts.specs.declared.Bytes.{Bytes}
-use Rattle.list_file.specs.Report.{held-bytes, reportOf}
-
--- the report of a file's first 65,537 bytes is the report of the file
-abbrev pub Front-reports : Type 0
-Front-reports = (file : List ℕ) → reportOf (take (suc held-bytes) file) ≡ reportOf file
-
--- the program's room for the text
-abbrev pub text-room : ℕ
-text-room = 131072
-
--- no report is longer
-abbrev pub Report-fits : Type 0
-Report-fits = (file : List ℕ) → length (reportOf file) ≤ text-room
+use Rattle.list_file.specs.Report.{reportOf}
 
 -- what the function with that room returns, and what the room then holds: the whole report, with no refusal
 pub record WritesReport (file room : List ℕ) (n : Bytes) (room′ : List ℕ) : Type 0 where

@@ -2,15 +2,14 @@
 -- file's first 65,536 bytes and 16,384 name bytes; a longer file whose header ends past those gets 23 right after 4; too many name bytes get 23 last. .. A refusal prints
 -- `refused` and the number." How a header is read from the bytes that are held is Reads.antt of header, its listing Listing.antt of list_text.
 use Prim.Native.Nat.{ℕ, _*_}
-use mathlib.Core.Path.{_≡_}
 use mathlib.Core.List.{List, [], _∷_}
 use lib.Dec.{ltb}
 use lib.ListN.{length, take, replicate}
 use Rattle.counts.specs.Outcome.{Outcome, gives, refused}
+use Rattle.counts.specs.Owes.{roomed, Owes}
 use Rattle.decimal.specs.Decimal.{printed}
 use Rattle.refusal.specs.declared.BytesAnswer.{BytesAnswer}
 use Rattle.refusal.specs.Answers.{bytesAnswer}
-use Rattle.emit.specs.Placed.{written, roomWith}
 use Rattle.dtype.specs.Flat.{entry-width}
 use Rattle.record.specs.Rooms.{Lent}
 use Rattle.record.specs.Header.{Header}
@@ -38,10 +37,9 @@ textFor (refused n) = refusedLine n []
 unfoldable pub reportOf : (file : List ℕ) → List ℕ
 reportOf file = textFor (heldInto (ltb held-bytes (length file)) (take held-bytes file) fresh)
 
--- ---- what the function answers, and what the room then holds
-pub record WritesText (text room : List ℕ) (x : BytesAnswer) (room′ : List ℕ) : Type 0 where
-  pub answered : bytesAnswer x ≡ written text room
-  pub after : room′ ≡ roomWith text room
+-- the contract of writing a text, and of the report of a file: the text, or 28
+abbrev pub WritesText : (text room : List ℕ) → BytesAnswer → (room′ : List ℕ) → Type 0
+WritesText text room x room′ = Owes (roomed 28 room text) room (bytesAnswer x) room′
 
 abbrev pub Reports : (file room : List ℕ) → BytesAnswer → (room′ : List ℕ) → Type 0
 Reports file room x room′ = WritesText (reportOf file) room x room′

@@ -1,16 +1,17 @@
 -- What listing answers and what the room then holds: of a record that was checked, and of a caller's record. And a line of a word and numbers.
 use Prim.Native.Nat.{ℕ, _^_, _-_, _<_, _≤_}
-use mathlib.Core.Path.{_≡_, refl, sym, ap, _∙_}
+use mathlib.Core.Path.{_≡_, refl, sym, ap}
 use mathlib.Core.List.{List, [], _∷_, _++_}
 use lib.ListN.{length}
 use Rattle.counts.specs.Outcome.{Outcome, gives, refused, then, each}
+use Rattle.counts.specs.Owes.{roomed}
+use Rattle.counts.proofs.Owes.{owes-refused, owes-same}
 use Rattle.counts.proofs.Apart.{each-none}
 use Rattle.refusal.specs.declared.Refusal.{Refusal}
 use Rattle.refusal.specs.declared.BytesAnswer.{BytesAnswer}
 use Rattle.refusal.specs.Numbers.{numberOf}
 use Rattle.decimal.specs.Decimal.{printed}
 use Rattle.emit.specs.Emits.{Emits}
-use Rattle.emit.specs.Placed.{written}
 use Rattle.emit.proofs.Pieces.{emits-same}
 use Rattle.emit.proofs.Texts.{written-short, written-whole}
 use Rattle.dtype.specs.declared.Order.{Order}
@@ -21,15 +22,15 @@ use Rattle.check_record.specs.Checked.{checkedRecord}
 use Rattle.write_pieces.specs.Pieces.{numbersBetween}
 use Rattle.list_text.specs.Listing.{numbers, listing}
 use Rattle.list_text.proofs.Pieces.{three}
-use Rattle.list_record.specs.Answer.{roomBy, ListsOne, Lists}
+use Rattle.list_record.specs.Answer.{ListsOne, Lists}
 
 -- ---- a record that was checked
 module _ (v : Version) (start : ℕ) (r : Record) (scratch mid : List ℕ) (n : ℕ) (room : List ℕ) (fits : n < 2 ^ 64) (short : length room < 2 ^ 64 - 1) (measured : Emits (listing v start r) scratch 0 mid n) where
   pub one-28 : length room < n → ListsOne v start r room (BytesAnswer.Refused Refusal.OutputRoom) room
-  one-28 lt = let x = written-short (listing v start r) scratch mid n room fits short measured lt in record { answered = x .0; after = x .1 }
+  one-28 lt = written-short (listing v start r) scratch mid n room fits short measured lt
 
   pub one-written : (out : List ℕ) (q : ℕ) → n ≤ length room → Emits (listing v start r) room 0 out q → ListsOne v start r room (BytesAnswer.Is (record { 0 = n })) out
-  one-written out q le h = let x = written-whole (listing v start r) scratch mid n room fits short measured out q le h in record { answered = x .0; after = x .1 }
+  one-written out q le h = written-whole (listing v start r) scratch mid n room fits short measured out q le h
 
 -- ---- a line of a word and numbers
 numbers-text : (s x : List ℕ) → numbersBetween (32 ∷ []) [] s x ≡ numbers s x
@@ -49,15 +50,7 @@ refused-by-check t ns s o n e = each-none summary (checkedRecord t ns s o) n (sy
 
 module _ (v : Version) (start : ℕ) (t ns s : List ℕ) (o : Order) (room : List ℕ) where
   pub lists-one : (r : Record) (x : BytesAnswer) (room′ : List ℕ) → checkedRecord t ns s o ≡ gives r → ListsOne v start r room x room′ → Lists v start t ns s o room x room′
-  lists-one r x room′ e h =
-      record {
-        answered = h .answered ∙ sym (ap (λ (y : Outcome Record). then y (λ z. written (listing v start z []) room)) e);
-        after = h .after ∙ sym (ap (λ (y : Outcome Record). roomBy y v start room) e);
-      }
+  lists-one r x room′ e h = owes-same _ _ room _ _ (sym (ap (λ (y : Outcome Record). then y (λ z. roomed 28 room (listing v start z []))) e)) h
 
   pub lists-refused : (f : Refusal) → checkedRecord t ns s o ≡ refused (numberOf f) → Lists v start t ns s o room (BytesAnswer.Refused f) room
-  lists-refused f e =
-      record {
-        answered = sym (ap (λ (y : Outcome Record). then y (λ z. written (listing v start z []) room)) e);
-        after = sym (ap (λ (y : Outcome Record). roomBy y v start room) e);
-      }
+  lists-refused f e = owes-same _ _ room _ _ (sym (ap (λ (y : Outcome Record). then y (λ z. roomed 28 room (listing v start z []))) e)) (owes-refused (numberOf f) room)

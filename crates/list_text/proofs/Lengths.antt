@@ -31,7 +31,8 @@ use Rattle.dtype.proofs.Flat.{some-entry}
 use Rattle.dtype.proofs.Stands.{stands-entry, stands-below, stands-after}
 use Rattle.dtype.proofs.Seen.{or-left, or-right, size-fits}
 use Rattle.record.specs.Version.{Version, one-zero, two-zero, three-zero, major}
-use Rattle.record.specs.Sound.{Small, Good, AllGood, Sound}
+use Rattle.record.specs.Sound.{Small}
+use Rattle.record.proofs.Sound.{Good, AllGood, Sound}
 use Rattle.check_record.specs.Answer.{itemSize}
 use Rattle.check_record.specs.declared.ItemSize.the-variants.{Sized, Unsized}
 use Rattle.table_entry.specs.EntryType.{typeOf}

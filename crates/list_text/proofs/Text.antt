@@ -6,7 +6,7 @@ use mathlib.Core.List.{List}
 use lib.ListN.{length, take, drop}
 use lib.Seq.{take-append-seam}
 use borrow.Author.Tests.{le-ltb, ltb-false}
-use Rattle.counts.specs.Outcome.{Outcome, gives}
+use Rattle.counts.specs.Outcome.{Outcome, gives, afterwards}
 use Rattle.counts.specs.declared.Items.{Items}
 use Rattle.emit.specs.Emits.{Emits}
 use Rattle.emit.proofs.Pieces.{emits-then, emits-same}
@@ -20,7 +20,7 @@ use Rattle.dtype.specs.Limits.{overDimensions, overLevels}
 use Rattle.dtype.proofs.Strides.{strides-length}
 use Rattle.dtype.proofs.Seen.{table-length, or-left}
 use Rattle.counts.specs.Front.{atFront}
-use Rattle.shape.specs.Count.{stridesCount, stridesAfter, WritesStrides}
+use Rattle.shape.specs.Count.{stridesCount, WritesStrides}
 use Rattle.refusal.specs.declared.ItemsAnswer.{ItemsAnswer}
 use Rattle.record.specs.Version.{Version}
 use Rattle.check_record.specs.Answer.{itemSize}
@@ -38,7 +38,7 @@ module _ (o : Order) (s zeros : List ℕ) (r : ItemsAnswer) (out : List ℕ) (lo
   strides-there = rw (st .fits, le-ltb (length zeros) (length s) (omega (arith, long, st .few))) refl
 
   held : out ≡ atFront (strides o s) zeros
-  held = w .out-after ∙ ap (λ (x : Outcome ℕ). stridesAfter x (strides o s) zeros) strides-there
+  held = w .out-after ∙ ap (λ (x : Outcome ℕ). afterwards (λ n. atFront (strides o s)) x zeros) strides-there
 
   pub strides-held : take (length s) out ≡ strides o s
   strides-held =

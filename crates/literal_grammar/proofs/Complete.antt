@@ -11,7 +11,8 @@ use borrow.Author.Tests.{eqb-true}
 use Rattle.counts.proofs.Alike.{true-false}
 use Rattle.decimal.specs.Decimal.{isDigit}
 use Rattle.literal_grammar.specs.Bytes.{isBlank, isQuote}
-use Rattle.literal_grammar.specs.Value.{Value, Item, string, integer, True, False, None}
+use Rattle.literal_grammar.specs.Value.{Value, string, integer, True, False, None}
+use Rattle.literal_grammar.proofs.Lists.{Item}
 use Rattle.literal_grammar.specs.Grammar.{Natural, nought, nonzero, Plain, in-quotes, unsigned, minus-sign, word-true, word-false, word-none}
 use Rattle.literal_grammar.specs.Promise.{got, deep}
 use Rattle.literal_grammar.proofs.Texts.{case-of, Blanks, blank-by, headOf, tailOf}

@@ -11,7 +11,7 @@ use Rattle.counts.proofs.Alike.{true-false}
 use Rattle.literal_grammar.specs.Bytes.{isOpen}
 use Rattle.literal_grammar.specs.Value.{Value}
 use Rattle.literal_grammar.specs.Grammar.{Gives}
-use Rattle.literal_grammar.specs.Promise.{GivesIn, Completable, Barred, Faulty, TooDeep, Got, got, fault, deep, Promise, PromiseAt}
+use Rattle.literal_grammar.specs.Promise.{GivesIn, Completable, Barred, Faulty, TooDeep, Got, got, fault, deep, PromiseAt}
 use Rattle.literal_grammar.proofs.Texts.{headOf, tailOf, Alike, alike-self}
 use Rattle.literal_grammar.proofs.Layers.{Literal, raise′}
 use Rattle.literal_grammar.proofs.Same.{given, some-layer}
@@ -19,6 +19,12 @@ use Rattle.literal_grammar.proofs.Reading.{Read, literal}
 use Rattle.literal_grammar.proofs.Told.{By, Tells, reads}
 use Rattle.literal_grammar.proofs.Limits.{fault-wider}
 use Rattle.literal_grammar.proofs.Whole.{told-literal, nothing-left, sound, complete, layer-complete, literal-suc, one-value}
+
+-- the promise where a place is the rest of the text from there on
+abbrev pub Promise : ℕ → List ℕ → Got (List ℕ) Value → Type 0
+Promise k s (got v q) = (q ≡ []) × GivesIn k s v
+Promise k s (fault q) = (u : List ℕ) × (s ≡ u ++ q) × Faulty k u q
+Promise k s (deep q) = (u : List ℕ) × (s ≡ u ++ q) × TooDeep k u q
 
 got-fault : {A : Type 0} {v : A} {r q : List ℕ} → _≡_ {A = Read A} (got v r) (fault q) → ⊥
 got-fault e = let z : _≡_ {A = ℕ} 0 1 = cc in omega arith

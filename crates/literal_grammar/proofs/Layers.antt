@@ -7,7 +7,8 @@ use mathlib.Core.Path.{_≡_, subst}
 use mathlib.Core.Logic.{_⊎_, inl, inr}
 use mathlib.Core.List.{List, [], _∷_, _++_}
 use mathlib.Core.Bool.{Bool, true, false}
-use Rattle.literal_grammar.specs.Value.{Value, Item, values, items, list, tuple, dict}
+use Rattle.literal_grammar.specs.Value.{Value, list, tuple, dict}
+use Rattle.literal_grammar.proofs.Lists.{Item, values, items}
 use Rattle.literal_grammar.specs.Grammar.{Plain}
 use Rattle.literal_grammar.proofs.Texts.{Blanks}
 

@@ -8,7 +8,8 @@ use lib.ListN.{length}
 use lib.Dec.{eqb}
 use Rattle.decimal.specs.Decimal.{isDigit, digitsOf, decimal}
 use Rattle.literal_grammar.specs.Bytes.{isBlank, isQuote, isBreak, isEscape, unescape}
-use Rattle.literal_grammar.specs.Value.{Value, Item, string, integer, True, False, None}
+use Rattle.literal_grammar.specs.Value.{Value, string, integer, True, False, None}
+use Rattle.literal_grammar.proofs.Lists.{Item}
 use Rattle.literal_grammar.specs.Promise.{Got, got, fault, deep}
 use Rattle.literal_grammar.proofs.Texts.{headOf, tailOf}
 use Rattle.literal_grammar.proofs.Layers.{item, list-of, tuple-of, dict-of}

@@ -46,12 +46,6 @@ pub data Got (Place A : Type 0) : Type 0 where
   fault : Place → Got Place A
   deep : Place → Got Place A
 
--- the promise where a place is the rest of the text from there on
-abbrev pub Promise : ℕ → List ℕ → Got (List ℕ) Value → Type 0
-Promise k s (got v q) = (q ≡ []) × GivesIn k s v
-Promise k s (fault q) = (u : List ℕ) × (s ≡ u ++ q) × Faulty k u q
-Promise k s (deep q) = (u : List ℕ) × (s ≡ u ++ q) × TooDeep k u q
-
 -- the promise where a place is a position in the text
 abbrev pub PromiseAt : ℕ → List ℕ → Got ℕ Value → Type 0
 PromiseAt k s (got v p) = (p ≡ length s) × GivesIn k s v

@@ -1,7 +1,7 @@
 -- Document 01, "The literal": "A value is a string, an integer, `True`, `False`, `None`, a list, a tuple or a dict. A list holds values, and a
 -- value may be a list." Which texts give which values is Grammar.antt.
 use Prim.Native.Nat.{ℕ}
-use mathlib.Core.List.{List, [], _∷_}
+use mathlib.Core.List.{List}
 use mathlib.Core.Bool.{Bool}
 
 mutual
@@ -21,18 +21,3 @@ mutual
   pub data Items : Type 0 where
     end-of-items : Items
     item-then : (key value : Value) → Items → Items
-
--- one `key: value` item
-pub record Item : Type 0 where
-  pub key : Value
-  pub value : Value
-
--- a list of values as `Values`
-abbrev pub values : List Value → Values
-values [] = end-of-values
-values (v ∷ vs) = value-then v (values vs)
-
--- a list of items as `Items`
-abbrev pub items : List Item → Items
-items [] = end-of-items
-items (e ∷ es) = item-then (e .key) (e .value) (items es)

@@ -48,14 +48,3 @@ nodes (n ∷ ns) = node-then n (nodes ns)
 abbrev pub pairs : List Pair → Pairs
 pairs [] = end-of-pairs
 pairs (p ∷ ps) = pair-then (p .key) (p .value) (pairs ps)
-
--- the place of a value in the text
-abbrev pub spanOf : Node → Span
-spanOf (string p w) = p
-spanOf (integer p minus n) = p
-spanOf (True p) = p
-spanOf (False p) = p
-spanOf (None p) = p
-spanOf (list p ns) = p
-spanOf (tuple p ns) = p
-spanOf (dict p ps) = p

@@ -2,12 +2,12 @@
 use Prim.Native.Nat.{ℕ}
 use mathlib.Core.Path.{_≡_, ap, _∙_}
 use mathlib.Core.List.{List}
-use Rattle.counts.specs.Outcome.{Outcome, gives, refused, then}
-use Rattle.npy_codes.specs.Codes.{code, left, Tells}
+use Rattle.counts.specs.Outcome.{Outcome, gives, refused, then, afterwards}
+use Rattle.npy_codes.specs.Codes.{code, Tells}
 
 -- the same for an equal outcome
 pub retold : {A : Type 0} {values : A → List ℕ} {o p : Outcome A} {room room′ : List ℕ} {r : ℕ} → o ≡ p → Tells values o room r room′ → Tells values p room r room′
-retold {values = values} {room = room} is t = record { answered = t .answered ∙ ap code is; after = t .after ∙ ap (λ x. left values x room) is }
+retold {values = values} {room = room} is t = record { answered = t .answered ∙ ap code is; after = t .after ∙ ap (λ x. afterwards (λ a old. values a) x room) is }
 
 module _ {A B : Type 0} {given : Outcome A} (next : A → Outcome B) where
   then-is : {a : A} → gives a ≡ given → next a ≡ then given next
@@ -20,12 +20,12 @@ module _ {A B : Type 0} {given : Outcome A} (next : A → Outcome B) where
   none-told {values = values} {room = room} is number =
       record {
         answered = number ∙ ap (λ (g : Outcome A). code (then g next)) is;
-        after = ap (λ (g : Outcome A). left values (then g next) room) is;
+        after = ap (λ (g : Outcome A). afterwards (λ a old. values a) (then g next) room) is;
       }
 
-module _ {A : Type 0} {given : Outcome A} (put : A → List ℕ) (room : List ℕ) where
-  pub then-left : {a : A} {room′ : List ℕ} → gives a ≡ given → room′ ≡ put a → room′ ≡ left put given room
-  then-left is e = e ∙ ap (λ g. left put g room) is
+module _ {A : Type 0} {given : Outcome A} (store : A → List ℕ → List ℕ) (room : List ℕ) where
+  pub then-stored : {a : A} {room′ : List ℕ} → gives a ≡ given → room′ ≡ store a room → room′ ≡ afterwards store given room
+  then-stored is e = e ∙ ap (λ g. afterwards store g room) is
 
-  pub none-left : {n : ℕ} → refused n ≡ given → room ≡ left put given room
-  none-left is = ap (λ (g : Outcome A). left put g room) is
+  pub none-stored : {n : ℕ} → refused n ≡ given → room ≡ afterwards store given room
+  none-stored is = ap (λ (g : Outcome A). afterwards store g room) is

@@ -3,12 +3,12 @@
 use Prim.Native.Nat.{ℕ}
 use mathlib.Core.Path.{_≡_, sym, ap, _∙_}
 use mathlib.Core.List.{List, [], _∷_}
-use Rattle.counts.specs.Outcome.{Outcome, gives, refused}
+use Rattle.counts.specs.Outcome.{Outcome, gives, refused, afterwards}
 use Rattle.type_str.specs.declared.TypeStr.{TypeStr}
 use Rattle.dtype.specs.declared.Entry.{Entry}
 use Rattle.dtype.specs.Dtype.{plain}
 use Rattle.dtype.specs.Flat.{entryOf}
-use Rattle.npy_codes.specs.Codes.{code, left, Tells}
+use Rattle.npy_codes.specs.Codes.{code, Tells}
 use Rattle.check_record.specs.declared.ItemSize.{ItemSize}
 use Rattle.check_record.specs.declared.Summary.{Summary}
 use Rattle.place_area.specs.declared.Run.{Run}
@@ -16,10 +16,10 @@ use Rattle.npy_codes.specs.Values.{typeValues, sizeValues, summaryValues
 
 module _ {A : Type 0} (values : A → List ℕ) where
   value-told : {o : Outcome A} {a : A} {room room′ : List ℕ} → o ≡ gives a → room′ ≡ values a → Tells values o room 0 room′
-  value-told {room = room} is put = record { answered = sym (ap code is); after = put ∙ sym (ap (λ x. left values x room) is) }
+  value-told {room = room} is put = record { answered = sym (ap code is); after = put ∙ sym (ap (λ x. afterwards (λ a old. values a) x room) is) }
 
   number-told : {o : Outcome A} {n r : ℕ} {room : List ℕ} → o ≡ refused n → r ≡ n → Tells values o room r room
-  number-told {room = room} is number = record { answered = number ∙ sym (ap code is); after = sym (ap (λ x. left values x room) is) }
+  number-told {room = room} is number = record { answered = number ∙ sym (ap code is); after = sym (ap (λ x. afterwards (λ a old. values a) x room) is) }
 
   -- the answer x that a pattern found
   pub gives-told : {X : Type 0} (answer : X → Outcome A) {x y : X} {a : A} {room room′ : List ℕ} → x ≡ y → answer y ≡ gives a → room′ ≡ values a → Tells values (answer x) room 0 room′

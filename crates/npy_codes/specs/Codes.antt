@@ -3,22 +3,17 @@
 use Prim.Native.Nat.{ℕ}
 use mathlib.Core.Path.{_≡_}
 use mathlib.Core.List.{List, [], _∷_}
-use Rattle.counts.specs.Outcome.{Outcome, gives, refused}
+use Rattle.counts.specs.Outcome.{Outcome, gives, refused, afterwards}
 
 -- the return value: 0, or the number of the refusal
 abbrev pub code : {A : Type 0} → Outcome A → ℕ
 code (gives a) = 0
 code (refused n) = n
 
--- the room for the values afterwards: the values, or unchanged on a refusal
-abbrev pub left : {A : Type 0} → (A → List ℕ) → Outcome A → (room : List ℕ) → List ℕ
-left values (gives a) room = values a
-left values (refused n) room = room
-
 -- the outcome o as a C function reports it: r is returned, and the room for the values then holds room′
 pub record Tells {A : Type 0} (values : A → List ℕ) (o : Outcome A) (room : List ℕ) (r : ℕ) (room′ : List ℕ) : Type 0 where
   pub answered : r ≡ code o
-  pub after : room′ ≡ left values o room
+  pub after : room′ ≡ afterwards (λ a old. values a) o room
 
 -- the values of an outcome that is one number
 abbrev pub alone : ℕ → List ℕ

@@ -1,31 +1,56 @@
--- Demand 3 (specs/Demand.antt) holds of every record that the check accepts, without an `O`, in a file that is long enough. The answers are document 01's
+-- Demand 3, over the answers of `place` (document 01, "What counts as an answer": "Demand 3 speaks of the record of demand 2, so an empty table can't satisfy it,
+-- and a walk correct only for item 0 or the first field leaves bytes without an owner"), holds of every record that the check accepts, without an `O`, in a file that is long enough. The answers are document 01's
 -- formula, of which the crate dtype shows it.
-use Prim.Native.Nat.{ℕ, _+_, _≤_}
+use Prim.Native.Nat.{ℕ, _+_, _≤_, _<_}
+use native.Mathlib.Omega.{arith}
 use mathlib.Core.Path.{_≡_, refl, ap, sym, _∙_}
 use mathlib.Core.Bool.{Bool, true, false, not}
 use mathlib.Core.List.{List}
 use mathlib.Core.Logic.{_⊎_, inl, inr}
-use native.Mathlib.Omega.{arith}
 use borrow.Author.Tests.{le-ltb}
 use Rattle.counts.specs.Outcome.{Outcome, gives, refused, each, unless}
 use Rattle.type_str.specs.declared.TypeStr.{TypeStr}
 use Rattle.dtype.specs.declared.Order.{Order}
 use Rattle.dtype.specs.PlainBytes.{plainBytes}
 use Rattle.dtype.specs.Entries.{hasObject}
-use Rattle.dtype.specs.Shape.{In-range, inRange}
+use Rattle.dtype.specs.Shape.{inRange}
 use Rattle.dtype.specs.Record.{Record}
-use Rattle.dtype.specs.Paths.{Path-to, plainAt, runOf, run}
-use Rattle.dtype.specs.Places.{dataBytes, place, Ask, Belongs}
+use Rattle.dtype.specs.Paths.{plainAt}
+use Rattle.dtype.specs.Places.{dataBytes, place, Ask}
+use Rattle.dtype.proofs.Runs.{Belongs, runOf, run, Path-to, In-range}
 use Rattle.dtype.proofs.Items.{range-true}
 use Rattle.dtype.proofs.Paths.{path-plain}
 use Rattle.dtype.proofs.Places.{run-inside, owned, owned-once}
 use Rattle.check_record.specs.Checked.{checkedRecord}
 use Rattle.place_area.specs.declared.Run.{Run}
 use Rattle.place.specs.Place.{runFrom, placed, placeOf}
-use Rattle.place.specs.Demand.{Named-by, Demand-3, Demanded}
 use Rattle.place_item.proofs.Sums.{range-of}
 use Rattle.place.proofs.Walks.{path-or-none, plain-path}
 use Rattle.place.proofs.Placing.{place-given}
+
+-- the byte at b is named by an index, a path, and a byte of the run that is answered for them
+pub record Named-by (file start : ℕ) (t ns s : List ℕ) (o : Order) (b : ℕ) (a : Ask) : Type 0 where
+  pub answered-run : Run
+  pub answered : placeOf file start t ns s o (a .index) (a .path) ≡ gives answered-run
+  pub in-run : a .byte < answered-run .len .0
+  pub is-byte : answered-run .first .0 + a .byte ≡ b
+
+pub record Demand-3 (file start : ℕ) (t ns s : List ℕ) (o : Order) (r : Record) : Type 0 where
+  -- an index in range and a path are answered with a run inside the data area
+  pub inside : (x p : List ℕ) → In-range (r .shape) x → Path-to (r .dtype) p
+      → (u : Run) × (placeOf file start t ns s o x p ≡ gives u) × (start ≤ u .first .0) × (u .first .0 + u .len .0 ≤ start + dataBytes r)
+  -- all else with 26
+  pub nowhere : (x p : List ℕ) → (In-range (r .shape) x × Path-to (r .dtype) p → ⊥) → placeOf file start t ns s o x p ≡ refused 26
+  -- each byte of the data area is named
+  pub each-byte : (b : ℕ) → b < dataBytes r → (a : Ask) × Named-by file start t ns s o (start + b) a
+  -- and only once
+  pub once : (b : ℕ) (a a′ : Ask) → Named-by file start t ns s o b a → Named-by file start t ns s o b a′ → a ≡ a′
+
+-- the demand: of every caller's record that is accepted, without an `O`, and every file that holds its data
+abbrev pub Demanded : Type 0
+Demanded =
+    (file start : ℕ) (t ns s : List ℕ) (o : Order) (r : Record) → checkedRecord t ns s o ≡ gives r → hasObject (r .dtype) ≡ false
+    → start + dataBytes r ≤ file → Demand-3 file start t ns s o r
 
 module _ (file start : ℕ) (t ns s : List ℕ) (o : Order) (r : Record) (h : checkedRecord t ns s o ≡ gives r) (n : hasObject (r .dtype) ≡ false)
     (l : start + dataBytes r ≤ file) where

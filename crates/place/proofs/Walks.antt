@@ -24,7 +24,8 @@ use Rattle.dtype.specs.Entries.{fieldCount, entriesOf, someEntry, someEntryIn, 
 use Rattle.dtype.specs.Flat.{entryOf, entry-width}
 use Rattle.dtype.specs.Record.{table}
 use Rattle.dtype.specs.Limits.{someOver}
-use Rattle.dtype.specs.Paths.{Path-to, Field-path, plainAt, plainOf, offset}
+use Rattle.dtype.specs.Paths.{plainAt, plainOf, offset}
+use Rattle.dtype.proofs.Runs.{Path-to, Field-path}
 use Rattle.dtype.specs.Agrees.{entryAt}
 use Rattle.dtype.specs.Seen.{fieldAt, fieldBytes}
 use Rattle.dtype.proofs.Flat.{some-entry, flat-length}

@@ -1,4 +1,3 @@
 pub mod Place
 pub mod Answer
 pub mod Walk
-pub mod Demand

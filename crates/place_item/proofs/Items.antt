@@ -7,7 +7,7 @@ use mathlib.Core.List.{List}
 use native.Mathlib.Omega.{arith}
 use borrow.Author.Tests.{lt-ltb, le-ltb, leb-false}
 use lib.ListN.{length, drop}
-use Rattle.counts.specs.Outcome.{gives, refused, unless}
+use Rattle.counts.specs.Outcome.{gives, refused, unless, afterwards}
 use Rattle.counts.specs.Front.{atFront}
 use Rattle.counts.specs.Number.{number}
 use Rattle.counts.specs.Counts.{items}
@@ -24,7 +24,7 @@ use Rattle.dtype.specs.Limits.{over, anyOver, overShape}
 use Rattle.dtype.proofs.Strides.{strides-length, range-length}
 use Rattle.dtype.proofs.Items.{item-below}
 use Rattle.dtype.proofs.Seen.{or-left}
-use Rattle.shape.specs.Count.{itemCount, stridesCount, stridesAfter, WritesStrides}
+use Rattle.shape.specs.Count.{itemCount, stridesCount, WritesStrides}
 use Rattle.shape.proofs.Turns.{counted-fits, counted-refused}
 use Rattle.place_item.specs.Item.{itemOf}
 use Rattle.counts.proofs.Counted.{items-back, items-over}
@@ -66,7 +66,7 @@ module _ (o : Order) (s x out : List ℕ) (w : ItemsAnswer) (out′ : List ℕ) 
     module _ (g : inRange s x ≡ true) where
       sum-is : sumOfProducts x out′ ≡ item o s x
       sum-is =
-          let a : out′ ≡ atFront (strides o s) out = h .out-after ∙ ap (λ y. stridesAfter y (strides o s) out) strides-fit in
+          let a : out′ ≡ atFront (strides o s) out = h .out-after ∙ ap (λ y. afterwards (λ n. atFront (strides o s)) y out) strides-fit in
           let b : length x ≡ length (strides o s) = range-length s x (range-of s x g) ∙ sym (strides-length o s) in
           ap (λ (y : List ℕ). sumOfProducts x y) a ∙ sum-front x (strides o s) (drop (length (strides o s)) out) b
 

@@ -14,7 +14,8 @@ use Rattle.counts.specs.declared.Items.{Items}
 use Rattle.counts.specs.declared.ItemCount.{ItemCount}
 use Rattle.counts.proofs.Alike.{and-left, and-right, true-false}
 use Rattle.counts.proofs.Counted.{items-back, items-over, is-items, over-items}
-use Rattle.dtype.specs.Shape.{In-range, inRange, sumOfProducts}
+use Rattle.dtype.specs.Shape.{inRange, sumOfProducts}
+use Rattle.dtype.proofs.Runs.{In-range}
 
 -- ---- the loop of `sum_of_products`
 pub record Summed (x ts : List ℕ) (sum k : ℕ) : Type 0 where

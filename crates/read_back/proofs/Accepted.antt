@@ -25,7 +25,8 @@ use Rattle.dtype.proofs.Seen.{or-left, or-right}
 use Rattle.record.specs.Layout.{levelsOf}
 use Rattle.record.specs.Rooms.{Rooms}
 use Rattle.record.specs.Header.{Header, Reading, Keeps, headerBy}
-use Rattle.record.specs.Sound.{Small, Good, AllGood, Sound}
+use Rattle.record.specs.Sound.{Small}
+use Rattle.record.proofs.Sound.{Good, AllGood, Sound}
 use Rattle.record.proofs.RoundTrips.{read-readable}
 use Rattle.check_table.specs.Decides.{refuses}
 use Rattle.check_table.specs.Reading.{untyped, illNamed, isArray, readDtype}
@@ -76,7 +77,7 @@ unfolding checkedRecord
 sound-checked r s l = rw (checkedRecord, sound-read r s) l
 
 -- WHAT WAS READ IS ACCEPTED
-pub read-checked : (reading : Reading) → Keeps reading → (file : List ℕ) (rooms : Rooms) (h : Header) → headerBy reading file rooms ≡ gives h
+pub read-checked : (reading : Reading) → Keeps reading → (file : List ℕ) (rooms : Rooms) (h : Header) → headerBy reading false file rooms ≡ gives h
     → checkedRecord (table (h .says .dtype)) (names (h .says .dtype)) (h .says .shape) (h .says .order) ≡ gives (h .says)
 read-checked reading keeps file rooms h e = let w = read-readable reading keeps file rooms h e .writable in sound-checked (h .says) (w .sound) (w .limits)
 

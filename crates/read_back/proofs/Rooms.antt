@@ -3,9 +3,10 @@ use Prim.Native.Nat.{ℕ, _*_}
 use native.Mathlib.Omega.{arith}
 use mathlib.Core.Path.{_≡_, refl, ap}
 use mathlib.Core.List.{List, []}
+use mathlib.Core.Bool.{false}
 use lib.ListN.{length, take, drop}
 use lib.Seq.{take-append-seam}
-use Rattle.counts.specs.Outcome.{Outcome, gives, refused, each}
+use Rattle.counts.specs.Outcome.{Outcome, gives, refused, each, afterwards}
 use Rattle.dtype.specs.Flat.{entry-width}
 use Rattle.dtype.specs.Entries.{entriesOf}
 use Rattle.dtype.specs.Names.{nameBytes}
@@ -55,7 +56,7 @@ checked-fronts r info l p e = rw (p .table-is, p .names-are, p .shape-is, p .ord
 -- the header that is returned, and the rooms, are those of a header that the file gives
 pub record Found (file : List ℕ) (l : Lent) (h : Header) (l′ : Lent) : Type 0 where
   pub header-is : header.Header
-  pub given : header.headerInto reading file l ≡ gives header-is
+  pub given : header.heldBy reading false file l ≡ gives header-is
   pub starts : h .start .0 ≡ header-is .data-start
   pub stands : Parts (header-is .says) (h .info) l′
 
@@ -63,9 +64,9 @@ pub stands-by : (r : Record) (l l′ : Lent) (info : RecordInfo) → info ≡ in
 stands-by r l l′ info p q = rw (p, q) (holding-stands r l)
 
 pub read-found : (file : List ℕ) (l : Lent) (h : Header) (l′ : Lent) → Reads file l (HeaderRead.Read h) l′ → Found file l h l′
-read-found file l h l′ x = go (header.headerInto reading file l) refl (x .answered) (x .after)
+read-found file l h l′ x = go (header.heldBy reading false file l) refl (x .answered) (x .after)
   where
-    go : (o : Outcome header.Header) → header.headerInto reading file l ≡ o → gives (headerIs h) ≡ each headerInfo o → l′ ≡ header.filled o l → Found file l h l′
+    go : (o : Outcome header.Header) → header.heldBy reading false file l ≡ o → gives (headerIs h) ≡ each headerInfo o → l′ ≡ afterwards header.holdingHeader o l → Found file l h l′
     go (gives k) e a b =
         let same : headerIs h ≡ headerInfo k = cc in
         record {

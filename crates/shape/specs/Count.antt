@@ -6,7 +6,7 @@ use mathlib.Core.List.{List}
 use lib.Dec.{ltb}
 use lib.ListN.{length}
 use Rattle.counts.specs.Front.{atFront}
-use Rattle.counts.specs.Outcome.{Outcome, gives, refused, unless}
+use Rattle.counts.specs.Outcome.{Outcome, gives, unless, afterwards}
 use Rattle.dtype.specs.declared.Order.{Order}
 use Rattle.dtype.specs.Shape.{product, strides}
 use Rattle.dtype.specs.Limits.{overShape}
@@ -21,12 +21,7 @@ itemCount o s = unless (overShape o s) 22 (gives (product s))
 unfoldable pub stridesCount : Order → List ℕ → (room : ℕ) → Outcome ℕ
 stridesCount o s room = unless (overShape o s) 22 (unless (ltb room (length s)) 23 (gives (product s)))
 
--- what a buffer holds afterwards: the new numbers, or what it held where the answer is a refusal
-abbrev pub stridesAfter : Outcome ℕ → (new old : List ℕ) → List ℕ
-stridesAfter (gives n) new old = atFront new old
-stridesAfter (refused n) new old = old
-
 -- the contract of writing the strides: the answer, and what `out` then holds
 pub record WritesStrides (o : Order) (s out : List ℕ) (r : ItemsAnswer) (out′ : List ℕ) : Type 0 where
   pub answered : itemsAnswer r ≡ stridesCount o s (length out)
-  pub out-after : out′ ≡ stridesAfter (stridesCount o s (length out)) (strides o s) out
+  pub out-after : out′ ≡ afterwards (λ n. atFront (strides o s)) (stridesCount o s (length out)) out

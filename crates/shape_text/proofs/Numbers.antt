@@ -19,7 +19,6 @@ use Rattle.literal.specs.Forget.{forget}
 use Rattle.literal_bytes.specs.Text.{byteAt, part, kindOf, past}
 use Rattle.literal_tokens.specs.Tokens.{naturalAt, numberBy, numeralAt}
 use Rattle.literal.specs.Literal.{value}
-use Rattle.literal.specs.Rows.{View}
 use Rattle.literal_tokens.specs.declared.Numeral.{Numeral}
 use Rattle.literal_bytes.specs.declared.Parsed.{Parsed}
 use Rattle.literal_bytes.specs.declared.Parsed.the-variants.{Value, Fault, Deep}
@@ -30,7 +29,7 @@ use Rattle.literal_bytes.proofs.ValueKind.{the-type}
 use Rattle.literal_tokens.proofs.Ends.{tokenEnd, token-ends}
 use Rattle.literal_bytes.proofs.Ends.{Stops, stops}
 use Rattle.literal.proofs.Steps.{value-token}
-use Rattle.literal.proofs.View.{view}
+use Rattle.literal.proofs.View.{view, View}
 use Rattle.shape_verdict.specs.declared.Member.{Member}
 use Rattle.refusal.specs.declared.Refusal.{Refusal}
 use Rattle.shape_verdict.specs.Signs.{positiveOf, negativeOf}

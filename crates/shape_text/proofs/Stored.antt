@@ -11,8 +11,8 @@ use lib.ListN.{length, set, length-set}
 use lib.Seq.{sets, sets-eq}
 use lib.Dec.{eqb, lit<}
 use borrow.Author.Tests.{eqb-true, eqb-false, ne-eqb}
-use denote.Enum.Declared.{tagOf}
 use types.Run.{OneOf, miss}
+use denote.Enum.Declared.{tagOf}
 use Rattle.counts.specs.Outcome.{Outcome, gives, refused, then, each}
 use Rattle.literal_grammar.specs.Value.{Values}
 use Rattle.counts.proofs.Alike.{or-none}
@@ -48,9 +48,13 @@ use Rattle.shape_text.specs.Members.{closingOf, SizeAt}
 use Rattle.shape_text.specs.Answer.{dimensionsAt}
 use Rattle.shape_text.specs.Walk.{dimensionsOf}
 use Rattle.shape_text.specs.declared.DimsStored.{DimsStored}
-use Rattle.shape_text.specs.Fill.{frontFrom, frontIn, frontAt, stopFrom, stopIn, stopAt, Stored, FillsShape}
+use Rattle.shape_text.specs.Fill.{frontFrom, frontIn, frontAt, stopFrom, stopIn, stopAt, Stored}
 use Rattle.shape_text.proofs.Goes.{Counted, counted-none, counted-at, counted-more}
 use Rattle.shape_text.proofs.Held.{Bracket, bracket, no-bracket}
+
+-- what follows of a value that is a shape (`stored-shape`, proofs/Stored.antt)
+abbrev pub FillsShape : Got Node → (out : List ℕ) (r : DimsStored) (out′ : List ℕ) → Type 0
+FillsShape g out r out′ = (ns : List ℕ) → dimensionsAt g ≡ gives ns → Stored ns (Shut (endOf (pos g))) out r out′
 
 -- ---- the loop
 module _ (k : ℕ) (s : List ℕ) (close : ℕ) where

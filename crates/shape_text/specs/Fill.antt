@@ -10,16 +10,14 @@ use lib.Dec.{eqb}
 use Rattle.counts.specs.Outcome.{gives, refused}
 use Rattle.record.specs.Dimensions.{dimension}
 use Rattle.literal_tokens.specs.Node.{Node}
-use Rattle.literal_bytes.specs.Got.{Got, got, fault, deep, pos}
+use Rattle.literal_bytes.specs.Got.{Got, got, fault, deep}
 use Rattle.literal_bytes.specs.Text.{byteAt, kindOf}
-use Rattle.literal.specs.Answer.{endOf}
 use Rattle.literal.specs.Forget.{forget}
 use Rattle.literal.specs.Literal.{value}
 use Rattle.literal_bytes.specs.Gaps.{gapAt, thenAt}
 use Rattle.literal_bytes.specs.declared.Gap.{Gap}
 use Rattle.literal_bytes.specs.declared.Gap.the-variants.{Shut, Item, Stray}
 use Rattle.shape_text.specs.Members.{closingOf}
-use Rattle.shape_text.specs.Answer.{dimensionsAt}
 use Rattle.shape_text.specs.declared.DimsStored.{DimsStored}
 
 -- the dimensions from a gap on, fewer than m: as far as each item is one
@@ -70,7 +68,3 @@ pub record Stored (ns : List ℕ) (g : Gap) (out : List ℕ) (r : DimsStored) (o
   pub counted : r .rank ≡ length ns
   pub stopped : r .stop ≡ g
   pub out-after : out′ ≡ sets out 0 ns
-
--- what follows of a value that is a shape (`stored-shape`, proofs/Stored.antt)
-abbrev pub FillsShape : Got Node → (out : List ℕ) (r : DimsStored) (out′ : List ℕ) → Type 0
-FillsShape g out r out′ = (ns : List ℕ) → dimensionsAt g ≡ gives ns → Stored ns (Shut (endOf (pos g))) out r out′

@@ -15,8 +15,9 @@ use Rattle.type_letters.specs.declared.Endianness.{Endianness}
 use Rattle.type_str.specs.declared.TypeStr.{TypeStr}
 use Rattle.string_value.specs.Elements.{trimmed, point, points}
 use Rattle.string_value.specs.Runs.{allScalars}
-use Rattle.string_value.specs.Rooms.{readBytes, readPoints, writeBytes, writePoints, Owes}
-use Rattle.string_value.proofs.Outcomes.{owes-one}
+use Rattle.counts.specs.Owes.{Owes}
+use Rattle.string_value.specs.Rooms.{readBytes, readPoints, writeBytes, writePoints}
+use Rattle.counts.proofs.Owes.{owes-one}
 use Rattle.string_element.specs.Answer.{pointAnswer}
 use Rattle.string_element.specs.declared.PointRead.{PointRead}
 

@@ -20,7 +20,8 @@ ghost use Rattle.refusal.specs.Answers.{bytesAnswer, pointsAnswer};
 ghost use Rattle.emit.specs.Emits.{Emits};
 ghost use Rattle.string_value.specs.Elements.{trimmed, point, points, kindOf, found};
 ghost use Rattle.string_value.specs.Runs.{allScalars, zeroFilled, pointBytes};
-ghost use Rattle.string_value.specs.Rooms.{roomed, readBytes, readPoints, writeBytes, writePoints, Owes};
+ghost use Rattle.counts.specs.Owes.{roomed, Owes};
+ghost use Rattle.string_value.specs.Rooms.{readBytes, readPoints, writeBytes, writePoints};
 ghost use Rattle.string_element.specs.Answer.{pointAnswer};
 
 // What four bytes are: a scalar value, or none.

@@ -2,18 +2,15 @@
 use Prim.Native.Nat.{ℕ, zero, suc, _+_, _*_, _-_, _<_, _≤_}
 use native.Mathlib.Omega.{arith}
 use native.Mathlib.Numerals.{add-one}
-use mathlib.Core.Path.{_≡_, refl, sym, ap, _∙_, subst}
+use mathlib.Core.Path.{_≡_, refl, sym, ap, _∙_}
 use mathlib.Core.List.{List, [], _∷_, _++_, append-assoc, append-nil}
 use lib.ListN.{length, getD, take, drop, set, replicate, length-append, length-replicate, length-set}
-use lib.Seq.{sets-eq, drop-cons, take-suc, length-take-le, set-at}
-use borrow.Author.Tests.{lt-ltb, le-ltb}
-use Rattle.counts.specs.Outcome.{Outcome, gives, refused}
-use Rattle.emit.specs.Emits.{Emits}
+use lib.Seq.{drop-cons, take-suc, length-take-le, set-at}
+use Rattle.counts.specs.Outcome.{gives}
 use Rattle.number_bytes.proofs.Runs.{length-out}
 use Rattle.type_letters.specs.declared.Endianness.{Endianness}
 use Rattle.string_value.specs.Elements.{trimmed, point, points, found}
 use Rattle.string_value.specs.Runs.{zeroFilled, pointBytes}
-use Rattle.string_value.specs.Rooms.{roomed, Owes}
 use Rattle.string_value.proofs.Trims.{trim-zeros}
 use Rattle.string_value.proofs.Scalars.{found-at}
 
@@ -53,37 +50,6 @@ length-points order (p ∷ ps) x = rw length-append (omega (arith, length-out or
 
 pub length-filled-points : (order : Endianness) (size : ℕ) (value : List ℕ) → length value ≤ size → length (pointBytes order (zeroFilled size value) []) ≡ 4 * size
 length-filled-points order size value h = omega (arith, length-points order (zeroFilled size value) [], length-filled size value h)
-
--- ---- all or nothing
-pub owes-refused : (n : ℕ) (room : List ℕ) → Owes (refused n) room (refused n) room
-owes-refused n room = record { answered = refl; room-after = refl }
-
-pub owes-same : (put put′ : Outcome (List ℕ)) (room : List ℕ) (answer : Outcome ℕ) (room′ : List ℕ) → put ≡ put′ → Owes put room answer room′ → Owes put′ room answer room′
-owes-same put put′ room answer room′ e h = subst (λ (o : Outcome (List ℕ)). Owes o room answer room′) e h
-
-module _ (n : ℕ) (room content : List ℕ) where
-  pub owes-whole : (k : ℕ) → length content ≤ length room → k ≡ length content → Owes (roomed n room content) room (gives k) (content ++ drop (length content) room)
-  unfolding roomed
-  owes-whole k h l =
-      let e = le-ltb (length room) (length content) h in
-      record { answered = rw (roomed, e) (ap gives l); room-after = rw (roomed, e) }
-
-  pub owes-short : length room < length content → Owes (roomed n room content) room (refused n) room
-  unfolding roomed
-  owes-short h =
-      let e = lt-ltb (length room) (length content) h in
-      record { answered = rw (roomed, e); room-after = rw (roomed, e) }
-
-emitted : (f : List ℕ → List ℕ) (old out : List ℕ) (q : ℕ) → Emits f old 0 out q → length (f []) ≤ length old → out ≡ f [] ++ drop (length (f [])) old
-emitted f old out q h le =
-    let z : 0 + length (f []) ≡ length (f []) = omega arith in
-    h .stored [] ∙ sets-eq (f []) old 0 (omega arith) ∙ ap (λ (i : ℕ). f [] ++ drop i old) z
-
-pub owes-emitted : (n : ℕ) (f : List ℕ → List ℕ) (old out : List ℕ) (q : ℕ) (content : List ℕ) (k : ℕ) → f [] ≡ content → Emits f old 0 out q → length content ≤ length old → k ≡ length content
-    → Owes (roomed n old content) old (gives k) out
-owes-emitted n f old out q content k e h le l =
-    let o = emitted f old out q h (rw e le) ∙ ap (λ (c : List ℕ). c ++ drop (length c) old) e in
-    subst (λ (o : List ℕ). Owes (roomed n old content) old (gives k) o) (sym o) (owes-whole n old content k le l)
 
 -- ---- one number after another to the front of a room
 pub record Copying (ps : List ℕ) (n : ℕ) (old out : List ℕ) (at i : ℕ) : Type 0 where

@@ -23,7 +23,8 @@ use Rattle.type_letters.specs.declared.Endianness.{Endianness}
 use Rattle.type_str.specs.declared.TypeStr.{TypeStr}
 use Rattle.string_value.specs.Elements.{kindOf, trimmed, scalar, point, points, pointsIn}
 use Rattle.string_value.specs.Runs.{zeroFilled, bytesOut, allScalars, pointBytes, pointsOut}
-use Rattle.string_value.specs.Rooms.{roomed, readBytes, readPoints, writeBytes, writePoints}
+use Rattle.counts.specs.Owes.{roomed}
+use Rattle.string_value.specs.Rooms.{readBytes, readPoints, writeBytes, writePoints}
 use Rattle.string_value.specs.declared.StringKind.{StringKind}
 use Rattle.string_value.proofs.Scalars.{scalar-is, point-four, point-step}
 use Rattle.string_value.proofs.Places.{trim-filled}

@@ -24,10 +24,12 @@ use Rattle.type_letters.specs.declared.TypeChar.the-variants.{Bool as Boolean, 
 use Rattle.type_str.specs.declared.TypeStr.{TypeStr}
 use Rattle.string_value.specs.Elements.{kindOf, trimmed, bytesIn, points, pointsIn, found}
 use Rattle.string_value.specs.Runs.{zeroFilled, bytesOut, allScalars, pointBytes, pointsOut}
-use Rattle.string_value.specs.Rooms.{roomed, readBytes, readPoints, writeBytes, writePoints, Owes}
+use Rattle.counts.specs.Owes.{roomed, Owes}
+use Rattle.string_value.specs.Rooms.{readBytes, readPoints, writeBytes, writePoints}
 use Rattle.string_value.specs.declared.StringKind.{StringKind}
 use Rattle.string_value.proofs.Trims.{trim-take, trim-length}
-use Rattle.string_value.proofs.Places.{filled-exact, owes-same, owes-short, owes-whole}
+use Rattle.counts.proofs.Owes.{owes-same, owes-short, owes-whole}
+use Rattle.string_value.proofs.Places.{filled-exact}
 
 -- ---- U and no other letter has code points
 unicode-kind : (l : TypeChar) → isUnicode l ≡ true → kindOf l ≡ StringKind.UnicodeStr

@@ -1,27 +1,14 @@
 -- Document 01, "String elements": "Room is asked for what is left." "The refusal numbers": 23 "lent .. element room too small", 28 "output room too small", 27
--- "caller's .. type that no reading gives"; "every lent buffer stays unchanged. On success, room beyond what was needed is unchanged." The room for reading a U element
--- is counted in code points, every other in bytes.
+-- "caller's .. type that no reading gives". The room for reading a U element is counted in code points, every other in bytes.
 use Prim.Native.Nat.{ℕ}
-use mathlib.Core.Path.{_≡_}
 use mathlib.Core.List.{List}
 use mathlib.Core.Bool.{not}
-use lib.Dec.{ltb}
-use lib.ListN.{length}
-use Rattle.counts.specs.Outcome.{Outcome, gives, refused, then, each, unless}
-use Rattle.counts.specs.Front.{atFront}
+use Rattle.counts.specs.Outcome.{Outcome, then, unless}
+use Rattle.counts.specs.Owes.{roomed}
 use Rattle.type_str.specs.Text.{isType}
 use Rattle.type_str.specs.declared.TypeStr.{TypeStr}
 use Rattle.string_value.specs.Elements.{kindOf, bytesIn, pointsIn}
 use Rattle.string_value.specs.Runs.{bytesOut, pointsOut}
-
--- the content if it fits the room, else refusal n
-unfoldable pub roomed : ℕ → (room content : List ℕ) → Outcome (List ℕ)
-roomed n room content = unless (ltb (length room) (length content)) n (gives content)
-
--- the room afterwards: the content at its front and the rest as it was; unchanged on a refusal
-abbrev pub after : (room : List ℕ) → Outcome (List ℕ) → List ℕ
-after room (gives content) = atFront content room
-after room (refused n) = room
 
 -- ---- what each of the four functions puts in the room, or the first refusal that applies
 
@@ -40,8 +27,3 @@ writeBytes t value room = unless (not (isType t)) 27 (then (bytesOut (kindOf (t 
 -- code points written as a U element: 27 for no type, 26 for another letter, 29, 30, then 28
 unfoldable pub writePoints : TypeStr → (value room : List ℕ) → Outcome (List ℕ)
 writePoints t value room = unless (not (isType t)) 27 (then (pointsOut (kindOf (t .letter)) (t .order) (t .size) value) (roomed 28 room))
-
--- the contract of the four functions, where `put` is what they put in the room: the answer is its length, and the room afterwards
-pub record Owes (put : Outcome (List ℕ)) (room : List ℕ) (answer : Outcome ℕ) (room′ : List ℕ) : Type 0 where
-  pub answered : answer ≡ each length put
-  pub room-after : room′ ≡ after room put

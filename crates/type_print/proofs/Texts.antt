@@ -4,6 +4,7 @@ use mathlib.Core.Path.{_≡_}
 use mathlib.Core.Bool.{true, false}
 use mathlib.Core.List.{List, _∷_}
 use lib.ListN.{length}
+use Rattle.counts.proofs.Owes.{owes-refused}
 use Rattle.decimal.specs.Decimal.{printed}
 use Rattle.emit.specs.Emits.{Emits}
 use Rattle.emit.proofs.Pieces.{emits-then, emits-same}
@@ -14,7 +15,7 @@ use Rattle.type_letters.specs.Orders.{orderByte}
 use Rattle.type_letters.specs.Letters.{letterByte}
 use Rattle.type_units.specs.Units.{unitText}
 use Rattle.type_letters.specs.Classes.{isObject}
-use Rattle.type_str.specs.Text.{typeText, isType, typePrinted, typePlaced}
+use Rattle.type_str.specs.Text.{typeText, isType, typePrinted}
 use Rattle.type_str.specs.declared.TypeStr.{TypeStr}
 use Rattle.type_print.specs.Printed.{Prints}
 
@@ -38,18 +39,14 @@ module _ (t : TypeStr) (old : List ℕ) (at : ℕ) (mid₁ : List ℕ) (p₁ : �
 
 -- ---- the whole, to lent room
 pub prints-none : (t : TypeStr) (room : List ℕ) → isType t ≡ false → Prints t room (Refused NoReading) room
-unfolding typePrinted typePlaced
-prints-none t room h = record { answered = rw (typePrinted, h); room-after = rw (typePlaced, h) }
+unfolding typePrinted
+prints-none t room h = rw (typePrinted, h) (owes-refused 27 room)
 
 module _ (t : TypeStr) (scratch mid : List ℕ) (n : ℕ) (room : List ℕ) (fits : n < 2 ^ 64) (small : length room < 2 ^ 64 - 1) (h : isType t ≡ true) (measured : Emits (typeText t) scratch 0 mid n) where
   pub prints-short : length room < n → Prints t room (Refused OutputRoom) room
-  unfolding typePrinted typePlaced
-  prints-short lt =
-      let w = written-short (typeText t) scratch mid n room fits small measured lt in
-      record { answered = rw (typePrinted, h) (w .0); room-after = rw (typePlaced, h) (w .1) }
+  unfolding typePrinted
+  prints-short lt = rw (typePrinted, h) (written-short (typeText t) scratch mid n room fits small measured lt)
 
   pub prints-whole : (out : List ℕ) (q : ℕ) → n ≤ length room → Emits (typeText t) room 0 out q → Prints t room (Is (record { 0 = n })) out
-  unfolding typePrinted typePlaced
-  prints-whole out q le e =
-      let w = written-whole (typeText t) scratch mid n room fits small measured out q le e in
-      record { answered = rw (typePrinted, h) (w .0); room-after = rw (typePlaced, h) (w .1) }
+  unfolding typePrinted
+  prints-whole out q le e = rw (typePrinted, h) (written-whole (typeText t) scratch mid n room fits small measured out q le e)

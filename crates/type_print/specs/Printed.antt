@@ -1,13 +1,11 @@
--- What printing a type answers: how many bytes, or 27 ("caller's record or type that no reading gives") or 28 (the lent room is too small), and what the room then holds,
--- both of type_str's Text.antt.
-use Prim.Native.Nat.{ℕ}
-use mathlib.Core.Path.{_≡_}
+-- What printing a type puts in lent room: its text, or 27 ("caller's record or type that no reading gives") or 28 (the room is too small), of type_str's Text.antt.
 use mathlib.Core.List.{List}
+use Prim.Native.Nat.{ℕ}
+use Rattle.counts.specs.Owes.{Owes}
 use Rattle.refusal.specs.declared.BytesAnswer.{BytesAnswer}
 use Rattle.refusal.specs.Answers.{bytesAnswer}
-use Rattle.type_str.specs.Text.{typePrinted, typePlaced}
+use Rattle.type_str.specs.Text.{typePrinted}
 use Rattle.type_str.specs.declared.TypeStr.{TypeStr}
 
-pub record Prints (t : TypeStr) (room : List ℕ) (r : BytesAnswer) (room′ : List ℕ) : Type 0 where
-  pub answered : bytesAnswer r ≡ typePrinted t room
-  pub room-after : room′ ≡ typePlaced t room
+abbrev pub Prints : TypeStr → (room : List ℕ) → BytesAnswer → (room′ : List ℕ) → Type 0
+Prints t room r room′ = Owes (typePrinted t room) room (bytesAnswer r) room′

@@ -1,26 +1,24 @@
 -- Document 01, "The record": "Sizes: b 1; i, u 1 2 4 8; f 2 4 8 16; c 8 16 32; m, M 8; others any. `|` is refused for U, and for b i u f c m M when the size is
 -- not 1. Units stand exactly on m and M."
 use Prim.Native.Nat.{ℕ}
-use mathlib.Core.Bool.{Bool, true, false, not, _||_}
+use mathlib.Core.Bool.{Bool, true, false, not, _||_, _&&_}
+use mathlib.Core.List.{List, [], _∷_}
 use lib.Dec.{eqb}
+use Rattle.type_letters.specs.Letters.{letterByte}
+use Rattle.type_letters.specs.Classes.{isUnicode}
 use Rattle.type_letters.specs.declared.Endianness.{Endianness}
 use Rattle.type_letters.specs.declared.Endianness.the-variants.{Little, Big, Irrelevant}
 use Rattle.type_letters.specs.declared.TypeChar.{TypeChar}
 use Rattle.type_letters.specs.declared.TypeChar.the-variants.{Bool as Boolean, Int, Uint, Float as Floating, Complex, TimeDelta, DateTime, ByteStr, UnicodeStr, Object, RawData}
 
+-- whether a letter is one of those with these bytes
+abbrev pub among : List ℕ → TypeChar → Bool
+among [] l = false
+among (b ∷ bs) l = eqb (letterByte l) b || among bs l
+
 -- "`|` is refused for U, and for b i u f c m M when the size is not 1"
 abbrev pub needsOrder : TypeChar → ℕ → Bool
-needsOrder Boolean n = not (eqb n 1)
-needsOrder Int n = not (eqb n 1)
-needsOrder Uint n = not (eqb n 1)
-needsOrder Floating n = not (eqb n 1)
-needsOrder Complex n = not (eqb n 1)
-needsOrder TimeDelta n = not (eqb n 1)
-needsOrder DateTime n = not (eqb n 1)
-needsOrder ByteStr n = false
-needsOrder UnicodeStr n = true
-needsOrder Object n = false
-needsOrder RawData n = false
+needsOrder l n = isUnicode l || (among (98 ∷ 105 ∷ 117 ∷ 102 ∷ 99 ∷ 109 ∷ 77 ∷ []) l && not (eqb n 1))
 
 abbrev pub isIrrelevant : Endianness → Bool
 isIrrelevant Little = false
@@ -43,14 +41,4 @@ allows RawData n = true
 
 -- "Units stand exactly on m and M"
 abbrev pub hasUnits : TypeChar → Bool
-hasUnits Boolean = false
-hasUnits Int = false
-hasUnits Uint = false
-hasUnits Floating = false
-hasUnits Complex = false
-hasUnits TimeDelta = true
-hasUnits DateTime = true
-hasUnits ByteStr = false
-hasUnits UnicodeStr = false
-hasUnits Object = false
-hasUnits RawData = false
+hasUnits l = among (109 ∷ 77 ∷ []) l

@@ -50,19 +50,6 @@ unitText u r = bracketed (unitName u) r
 unfoldable pub unitsOf : List ℕ → Outcome TimeUnits
 unitsOf text = firstOf (λ u. same text (unitText u [])) units
 
--- "optional": whether there are no units
+-- "optional": whether there are no units, and so no name
 abbrev pub isAbsent : TimeUnits → Bool
-isAbsent Absent = true
-isAbsent Year = false
-isAbsent Month = false
-isAbsent Week = false
-isAbsent Day = false
-isAbsent Hour = false
-isAbsent Minute = false
-isAbsent Second = false
-isAbsent Millisecond = false
-isAbsent Microsecond = false
-isAbsent Nanosecond = false
-isAbsent Picosecond = false
-isAbsent Femtosecond = false
-isAbsent Attosecond = false
+isAbsent u = same (unitName u) []

@@ -3,20 +3,21 @@
 -- small for it.
 use Prim.Native.Nat.{ℕ, _≤_, _<_}
 use mathlib.Core.Path.{_≡_, refl}
-use mathlib.Core.Bool.{Bool, true, false, cond}
+use mathlib.Core.Bool.{Bool, true, false}
 use mathlib.Core.Logic.{_↔_, ⊎-elim}
 use mathlib.Core.List.{List}
 use native.Mathlib.Omega.{arith}
-use lib.Dec.{eqb}
 use lib.ListN.{length}
 use Rattle.counts.specs.Outcome.{Outcome, gives, refused}
 use Rattle.counts.specs.OneOutcome.{OneOutcome}
-use Rattle.counts.proofs.OneOutcome.{by-equation, beside}
+use Rattle.counts.proofs.OneOutcome.{by-equation}
+use Rattle.counts.proofs.Owes.{owes-one}
 use Rattle.counts.proofs.Sides.{lt-or-ge}
 use Rattle.utf8_scalar.specs.Scalar.{isScalar}
 use Rattle.utf8_scalar.specs.Encode.{encode}
-use Rattle.utf8_scalar.specs.Answer.{Encodes, encoding, after}
+use Rattle.utf8_scalar.specs.Answer.{Encodes, encoding}
 use Rattle.refusal.specs.declared.BytesAnswer.{BytesAnswer}
+use Rattle.refusal.specs.Answers.{bytesAnswer}
 use Rattle.refusal.proofs.Answers.{bytes-one}
 use Rattle.utf8_scalar.proofs.Writing.{encoding-not, encoding-short, encoding-fits}
 
@@ -27,9 +28,7 @@ is-scalar-one value = by-equation (isScalar value)
 
 -- an outcome of writing is the answer and the room's final content
 pub encode-one : (value : ℕ) (room : List ℕ) → OneOutcome {A = BytesAnswer × List ℕ} (λ r. Encodes value room (r .0) (r .1))
-encode-one value room x y p q =
-    let r = encoding value (length room) in
-    beside (bytes-one r) (by-equation (after r value room)) x y (p .answered, p .room-after) (q .answered, q .room-after)
+encode-one value room = owes-one bytesAnswer bytes-one (encoding value room) room
 
 -- ---- given exactly when
 
@@ -40,17 +39,17 @@ differ p q h = h cc
 pub given : {A : Type 0} {r : Outcome A} {a : A} {n : ℕ} → r ≡ gives a → r ≡ refused n → ⊥
 given p q = let z : _≡_ {A = ℕ} 0 1 = cc in omega arith
 
-module _ (c room : ℕ) where
+module _ (c : ℕ) (room : List ℕ) where
   -- writing by its three cases
   by-case : {P : Type 0}
       → (isScalar c ≡ false → P)
-      → (isScalar c ≡ true → room < length (encode c) → P)
-      → (isScalar c ≡ true → length (encode c) ≤ room → P)
+      → (isScalar c ≡ true → length room < length (encode c) → P)
+      → (isScalar c ≡ true → length (encode c) ≤ length room → P)
       → P
   by-case {P} not short fits = go (isScalar c) refl
     where
       go : (t : Bool) → isScalar c ≡ t → P
-      go true s = ⊎-elim (short s) (fits s) (lt-or-ge room (length (encode c)))
+      go true s = ⊎-elim (short s) (fits s) (lt-or-ge (length room) (length (encode c)))
       go false s = not s
 
   pub not-scalar-exactly : (encoding c room ≡ refused 29) ↔ (isScalar c ≡ false)
@@ -62,7 +61,7 @@ module _ (c room : ℕ) where
     encoding-not c room,
   )
 
-  pub no-room-exactly : (encoding c room ≡ refused 28) ↔ ((isScalar c ≡ true) × (room < length (encode c)))
+  pub no-room-exactly : (encoding c room ≡ refused 28) ↔ ((isScalar c ≡ true) × (length room < length (encode c)))
   no-room-exactly = (
     λ e. by-case
         (λ s. absurd (differ (encoding-not c room s) e (omega arith)))

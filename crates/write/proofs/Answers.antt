@@ -2,14 +2,17 @@
 -- enough. The text is as long as it was measured, and the version, the spaces and the lengths are those of its names and its length.
 use Prim.Native.Nat.{ℕ, _+_, _^_, _<_, _≤_}
 use native.Mathlib.Omega.{arith}
-use mathlib.Core.Path.{_≡_, refl, sym, ap, _∙_, subst}
+use mathlib.Core.Path.{_≡_, sym, ap, _∙_, subst}
 use mathlib.Core.Bool.{Bool, true, false}
 use mathlib.Core.List.{List, [], _∷_, _++_}
 use borrow.Author.Tests.{lt-ltb, le-ltb}
 use lib.ListN.{length, drop}
 use lib.Seq.{sets-eq}
 use mathlib.Core.Logic.{⊎-elim}
-use Rattle.counts.specs.Outcome.{Outcome, gives, refused}
+use Rattle.counts.specs.Outcome.{gives, refused}
+use Rattle.counts.specs.Front.{atFront}
+use Rattle.counts.specs.Owes.{roomed}
+use Rattle.counts.proofs.Owes.{owes-refused, owes-same, roomed-whole, roomed-short}
 use Rattle.counts.specs.Number.{capped}
 use Rattle.counts.proofs.Sides.{lt-or-ge}
 use Rattle.refusal.specs.Numbers.{numberOf}
@@ -28,7 +31,7 @@ use Rattle.record.specs.Layout.{headerLayout}
 use Rattle.record.specs.Padding.{isAscii, spacesAfter, versionFor}
 use Rattle.record.specs.Within.{within}
 use Rattle.record.specs.File.{bareText, version, text, textLength, fileBy, fileOf, headerLength}
-use Rattle.record.specs.Writing.{writing, placed}
+use Rattle.record.specs.Writing.{writing}
 use Rattle.record.proofs.RoundTrips.{file-whole}
 use Rattle.check_record.specs.Checked.{checkedRecord}
 use Rattle.check_record.specs.Valid.{made, Valid}
@@ -42,12 +45,12 @@ use Rattle.write_padding.specs.declared.PaddingPlan.{PaddingPlan}
 use Rattle.write_padding.specs.Plan.{planned}
 use Rattle.header_prefix.specs.Answer.{versionIs}
 use Rattle.write_padding.proofs.Plans.{chosen-back, told-long, told-fits}
-use Rattle.write.specs.Writes.{headerWritten, headerPlaced, WritesHeader, WritesRecord}
+use Rattle.write.specs.Writes.{headerWritten, WritesHeader, WritesRecord}
 use Rattle.write.proofs.Ascii.{text-ascii}
 
 -- ---- 7, 4, 28, and the bytes, of a record within the limits
 refused-by : (r : Record) (room : List ℕ) (why : Refusal) → writing r room ≡ refused (numberOf why) → WritesRecord r room (BytesAnswer.Refused why) room
-refused-by r room why e = record { answered = sym e; room-after = ap (λ (o : Outcome ℕ). placed o r room) (sym e) }
+refused-by r room why e = owes-same _ _ room _ _ (sym e) (owes-refused (numberOf why) room)
 
 module _ (r : Record) (room : List ℕ) (limits : limited r ≡ gives r) where
   seven : within (valueOf (headerLayout r)) 32 ≡ false → writing r room ≡ refused 7
@@ -60,18 +63,18 @@ module _ (r : Record) (room : List ℕ) (limits : limited r ≡ gives r) where
     four l = rw (writing, limits, near, lt-ltb most-text (textLength r) l)
 
     module _ (few : textLength r ≤ most-text) where
-      twenty-eight : length room < headerLength r → writing r room ≡ refused 28
+      fits-is : writing r room ≡ roomed 28 room (fileOf r)
       unfolding writing
-      twenty-eight l = rw (writing, limits, near, le-ltb most-text (textLength r) few, lt-ltb (length room) (headerLength r) l)
+      fits-is = rw (writing, limits, near, le-ltb most-text (textLength r) few)
 
-      writing-all : headerLength r ≤ length room → (n : ℕ) (out : List ℕ) → n ≡ headerLength r → out ≡ fileOf r ++ drop (headerLength r) room
+      twenty-eight : length room < headerLength r → writing r room ≡ refused 28
+      twenty-eight l = fits-is ∙ roomed-short 28 room (fileOf r) (omega (arith, file-whole r))
+
+      writing-all : headerLength r ≤ length room → (n : ℕ) (out : List ℕ) → n ≡ headerLength r → out ≡ atFront (fileOf r) room
           → WritesRecord r room (BytesAnswer.Is (record { 0 = n })) out
-      unfolding writing
       writing-all l n out z e =
-          record { answered = ap gives z ∙ sym all; room-after = e ∙ ap (λ (o : Outcome ℕ). placed o r room) (sym all) }
-        where
-          all : writing r room ≡ gives (headerLength r)
-          all = rw (writing, limits, near, le-ltb most-text (textLength r) few, le-ltb (length room) (headerLength r) l)
+          let len = file-whole r in
+          owes-same _ _ room _ _ (sym (fits-is ∙ roomed-whole 28 room (fileOf r) (omega arith))) (record { answered = ap gives (z ∙ sym len); room-after = e })
 
 -- ---- the plan is the record's
 record Fits (x : Record) (p : PaddingPlan) : Type 0 where
@@ -98,11 +101,11 @@ bytes-are x p f = rw (f .version-is, f .text-is, f .spaces-is)
 
 placed-whole : (x : Record) (p : PaddingPlan) → Fits x p → (room : List ℕ) → headerLength x ≤ length room → (out : List ℕ) (q : ℕ)
     → Emits (λ z. fileBy (versionIs (p .version)) (p .text) (print (headerLayout x) (spaces (p .spaces) (10 ∷ z)))) room 0 out q
-    → out ≡ fileOf x ++ drop (headerLength x) room
+    → out ≡ atFront (fileOf x) room
 placed-whole x p f room l out q h =
     let e = bytes-are x p f in
     let len = file-whole x in
-    let z : 0 + length (fileOf x) ≡ headerLength x = omega arith in
+    let z : 0 + length (fileOf x) ≡ length (fileOf x) = omega arith in
     h .stored [] ∙ rw e (sets-eq (fileOf x) room 0 (omega arith) ∙ ap (λ (i : ℕ). fileOf x ++ drop i room) z)
 
 -- ---- a record whose text can be printed
@@ -177,12 +180,12 @@ module _ (t ns s : List ℕ) (o : Order) (x : Record) (h : printable t ns s o �
 -- ---- a caller's record
 module _ (t ns s : List ℕ) (o : Order) (room : List ℕ) where
   header-by : (x : Record) → checkedRecord t ns s o ≡ gives x → (w : BytesAnswer) (out : List ℕ) → WritesRecord x room w out → WritesHeader t ns s o room w out
-  unfolding headerWritten headerPlaced
-  header-by x e w out h = record { answered = rw (headerWritten, e) (h .answered); room-after = rw (headerPlaced, e) (h .room-after) }
+  unfolding headerWritten
+  header-by x e w out h = rw (headerWritten, e) h
 
   no-record : (why : Refusal) → checkedRecord t ns s o ≡ refused (numberOf why) → WritesHeader t ns s o room (BytesAnswer.Refused why) room
-  unfolding headerWritten headerPlaced
-  no-record why e = record { answered = sym (rw (headerWritten, e)); room-after = sym (rw (headerPlaced, e)) }
+  unfolding headerWritten
+  no-record why e = rw (headerWritten, e) (owes-refused (numberOf why) room)
 
   -- what is not printed is not written
   pub header-refused : (why : Refusal) → printable t ns s o ≡ refused (numberOf why) → WritesHeader t ns s o room (BytesAnswer.Refused why) room

@@ -1,3 +1,4 @@
+pub mod UnderLevels
 pub mod Listing
 pub mod Nesting
 pub mod Views

@@ -15,7 +15,8 @@ use Rattle.dtype.proofs.Flat.{some-entry, flat-length}
 use Rattle.dtype.proofs.Stands.{stands-entry, stands-below, stands-after}
 use Rattle.record.specs.Layout.{descrLayout}
 use Rattle.table_entry.proofs.Entry.{level-inside}
-use Rattle.write_depth.specs.Listed.{Listed, ListedIn, innermostOf, Innermost, Under}
+use Rattle.write_depth.specs.Listed.{Listed, ListedIn, Under}
+use Rattle.write_depth.proofs.UnderLevels.{innermostOf, Innermost}
 
 pub next-entry : (e : ℕ) → suc e ≡ e + 1
 next-entry e = omega arith

@@ -16,7 +16,8 @@ use Rattle.dtype.specs.Agrees.{entryAt}
 use Rattle.dtype.proofs.Flat.{some-entry}
 use Rattle.record.specs.Layout.{dimensionRow, shapeLayout, levelsOf, fieldLayout, descrLayout, fieldRow}
 use Rattle.record.specs.Within.{within, allWithin}
-use Rattle.write_depth.specs.Listed.{Listed, ListedIn, innermostOf, Innermost}
+use Rattle.write_depth.specs.Listed.{Listed, ListedIn}
+use Rattle.write_depth.proofs.UnderLevels.{innermostOf, Innermost}
 use Rattle.write_depth.proofs.Listing.{listed-entry, listed-room, listed-fields, listed-first, listed-later, innermost-descr, under-record}
 
 -- ---- `within`

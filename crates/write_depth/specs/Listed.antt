@@ -1,11 +1,10 @@
 -- A dtype that is listed in a table from some entry on, and the type under its array levels. Document 01, "The record": "The dtype table is listed depth first, left
 -- to right, parent first".
-use Prim.Native.Nat.{ℕ, _+_, _*_, _<_, _≤_}
+use Prim.Native.Nat.{ℕ, _*_, _<_, _≤_}
 use mathlib.Core.Path.{_≡_}
 use mathlib.Core.List.{List}
 use lib.ListN.{drop}
-use Rattle.dtype.specs.Dtype.{Dtype, Fields, plain, array, record-of}
-use Rattle.dtype.specs.Entries.{levels}
+use Rattle.dtype.specs.Dtype.{Dtype, Fields}
 use Rattle.dtype.specs.Flat.{entry-width, flat, flats}
 use Rattle.dtype.specs.Agrees.{entryAt}
 
@@ -21,17 +20,6 @@ pub record ListedIn (t : List ℕ) (e : ℕ) (fs : Fields) : Type 0 where
   pub up : ℕ
   pub rest : List ℕ
   pub is : drop (entry-width * e) t ≡ flats fs e up rest
-
--- the type under the array levels that a dtype begins with
-abbrev pub innermostOf : Dtype → Dtype
-innermostOf (plain t) = plain t
-innermostOf (array n d) = innermostOf d
-innermostOf (record-of fs) = record-of fs
-
--- where d is listed from entry e on, that type is listed from entry r on, one entry further for each level
-pub record Innermost (t : List ℕ) (e : ℕ) (d : Dtype) (r : ℕ) : Type 0 where
-  pub listed : Listed t r (innermostOf d)
-  pub passed : r ≡ e + levels d
 
 -- of any table: r is the first entry from e on whose kind is not 1, an array's
 pub record Under (t : List ℕ) (e r : ℕ) : Type 0 where

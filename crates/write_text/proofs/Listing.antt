@@ -12,7 +12,8 @@ use Rattle.dtype.specs.Agrees.{entryAt}
 use Rattle.dtype.proofs.Flat.{some-entry}
 use Rattle.record.specs.Layout.{levelsOf}
 use Rattle.check_table.specs.Reading.{untyped}
-use Rattle.write_depth.specs.Listed.{Listed, innermostOf}
+use Rattle.write_depth.specs.Listed.{Listed}
+use Rattle.write_depth.proofs.UnderLevels.{innermostOf}
 use Rattle.write_depth.proofs.Listing.{listed-entry, listed-room, listed-inner, kind-at}
 use Rattle.write_pieces.specs.Pieces.{levelsFrom}
 use Rattle.write_pieces.proofs.Levels.{levels-more, levels-none}

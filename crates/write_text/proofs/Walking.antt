@@ -28,7 +28,8 @@ use Rattle.check_table.specs.Reading.{untyped}
 use Rattle.table_entry.specs.EntryType.{typeOf}
 use Rattle.table_entry.proofs.Types.{type-of-written}
 use Rattle.write_text.specs.declared.inner.WalkEnd.{WalkEnd}
-use Rattle.write_depth.specs.Listed.{Listed, innermostOf, Innermost}
+use Rattle.write_depth.specs.Listed.{Listed}
+use Rattle.write_depth.proofs.UnderLevels.{innermostOf, Innermost}
 use Rattle.write_depth.proofs.Listing.{listed-entry, listed-room, listed-fields, listed-first, listed-later, innermost-descr, under-record}
 use Rattle.write_pieces.specs.Pieces.{typePiece, levelsAt, subText}
 use Rattle.write_text.specs.Walk.{ListedNamed, ListedNamedIn, Walked}

@@ -1,6 +1,4 @@
 -- A whole file is one that is held and is not longer.
-use Rattle.header.specs.Reads.{lent}
-use Rattle.header.proofs.File.{whole-read}
 use borrow.Author.Needs.{needs}
 use Rattle.header.proofs.read.Statement.{statement}
 use Rattle.header.proofs.read.Tie as tie
@@ -18,9 +16,7 @@ same-length-3 : tie.Need-same-length-3
 same-length-3 c = search needs
 
 returns : tie.Need-returns
-returns c =
-    let a = c .before .before .before .before .before .before .before .before .before .before .before .before .before .before .args in
-    whole-read (a .file .now) (lent (a .table .now) (a .names .now) (a .shape .now)) (c .before .before .before .before .before .before .read-held .result) _ (c .before .before .before .before .before .before .read-held .ensures)
+returns c = c .before .before .before .before .before .before .read-held .ensures
 
 pub read-spec : {M : Type 1} → statement M
 read-spec = tie.close (tie.spec read-held-requires same-length same-length-2 same-length-3 returns)

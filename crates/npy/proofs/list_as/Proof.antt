@@ -1,10 +1,9 @@
 -- The order, and then the answer of it; a number that names no order is its refusal's number.
-use Rattle.check_record.specs.Checked.{checkedRecord}
 use Rattle.header_prefix.specs.Answer.{versionIs}
-use Rattle.list_record.specs.Answer.{listed, roomBy}
+use Rattle.list_record.specs.Answer.{listed}
 use Rattle.counts.proofs.OneOutcome.{told}
 use Rattle.npy_codes.specs.Given.{orderGiven}
-use Rattle.npy_codes.proofs.Named.{retold, then-told, none-told, then-left, none-left}
+use Rattle.npy.proofs.Putting.{then-put, none-put}
 use borrow.Author.Needs.{needs}
 use Rattle.npy.proofs.list_as.Statement.{statement}
 use Rattle.npy.proofs.list_as.Tie as tie
@@ -34,13 +33,13 @@ returns : tie.Need-returns
 returns c =
     let a = c .before .before .before .before .before .before .before .before .before .before .before .before .before .before .args in
     let is = told orderGiven (c .before .before .before .before .before .before .before .before .before .order-for .ensures) (c .before .before .before .before .before .before .before .o .given .1) in
-    record { told = then-told (λ o. listed (versionIs (a .version)) (a .start) (a .table .now) (a .names .now) (a .shape .now) o (a .out .now)) is (retold (c .before .before .before .before .list .ensures .answered) (c .tell-bytes .ensures)); room-after = then-left (λ o. roomBy (checkedRecord (a .table .now) (a .names .now) (a .shape .now) o) (versionIs (a .version)) (a .start) (a .out .now)) (a .out .now) is (c .before .before .before .before .list .ensures .after) }
+    then-put (λ o. listed (versionIs (a .version)) (a .start) (a .table .now) (a .names .now) (a .shape .now) o (a .out .now)) is (c .before .before .before .before .list .ensures) (c .tell-bytes .ensures)
 
 returns-2 : tie.Need-returns-2
 returns-2 c =
     let a = c .before .before .before .before .before .before .before .before .before .args in
     let none = told orderGiven (c .before .before .before .before .order-for .ensures) (c .before .before .why .given .1) in
-    record { told = none-told (λ o. listed (versionIs (a .version)) (a .start) (a .table .now) (a .names .now) (a .shape .now) o (a .out .now)) none (c .number .ensures); room-after = none-left (λ o. roomBy (checkedRecord (a .table .now) (a .names .now) (a .shape .now) o) (versionIs (a .version)) (a .start) (a .out .now)) (a .out .now) none }
+    none-put (λ o. listed (versionIs (a .version)) (a .start) (a .table .now) (a .names .now) (a .shape .now) o (a .out .now)) none (c .number .ensures)
 
 pub list-as-spec : {M : Type 1} → statement M
 list-as-spec =

@@ -1,8 +1,8 @@
 -- The type, and then the answer of it; numbers that no type has are the refusal's number.
-use Rattle.type_str.specs.Text.{typePrinted, typePlaced}
+use Rattle.type_str.specs.Text.{typePrinted}
 use Rattle.counts.proofs.OneOutcome.{told}
 use Rattle.type_str.specs.Answer as typed
-use Rattle.npy_codes.proofs.Named.{retold, then-told, none-told, then-left, none-left}
+use Rattle.npy.proofs.Putting.{then-put, none-put}
 use borrow.Author.Needs.{needs}
 use Rattle.npy.proofs.npy_type_print.Statement.{statement}
 use Rattle.npy.proofs.npy_type_print.Tie as tie
@@ -32,13 +32,13 @@ returns : tie.Need-returns
 returns c =
     let a = c .before .before .before .before .before .before .before .before .before .before .before .args in
     let is = told typed.answer (c .before .before .before .before .before .before .before .before .before .type-for .ensures) (c .before .before .before .before .before .before .before .t .given .1) in
-    record { told = then-told (λ t. typePrinted t (a .out .now)) is (retold (c .before .before .before .before .print .ensures .answered) (c .tell-bytes .ensures)); room-after = then-left (λ t. typePlaced t (a .out .now)) (a .out .now) is (c .before .before .before .before .print .ensures .room-after) }
+    then-put (λ t. typePrinted t (a .out .now)) is (c .before .before .before .before .print .ensures) (c .tell-bytes .ensures)
 
 returns-2 : tie.Need-returns-2
 returns-2 c =
     let a = c .before .before .before .before .before .before .args in
     let none = told typed.answer (c .before .before .before .before .type-for .ensures) (c .before .before .why .given .1) in
-    record { told = none-told (λ t. typePrinted t (a .out .now)) none (c .number .ensures); room-after = none-left (λ t. typePlaced t (a .out .now)) (a .out .now) none }
+    none-put (λ t. typePrinted t (a .out .now)) none (c .number .ensures)
 
 pub npy-type-print-spec : {M : Type 1} → statement M
 npy-type-print-spec =

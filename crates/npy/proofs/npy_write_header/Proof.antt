@@ -1,8 +1,8 @@
 -- The order, and then the answer of it; a number that names no order is its refusal's number.
-use Rattle.write.specs.Writes.{headerWritten, headerPlaced}
+use Rattle.write.specs.Writes.{headerWritten}
 use Rattle.counts.proofs.OneOutcome.{told}
 use Rattle.npy_codes.specs.Given.{orderGiven}
-use Rattle.npy_codes.proofs.Named.{retold, then-told, none-told, then-left, none-left}
+use Rattle.npy.proofs.Putting.{then-put, none-put}
 use borrow.Author.Needs.{needs}
 use Rattle.npy.proofs.npy_write_header.Statement.{statement}
 use Rattle.npy.proofs.npy_write_header.Tie as tie
@@ -32,13 +32,13 @@ returns : tie.Need-returns
 returns c =
     let a = c .before .before .before .before .before .before .before .before .before .before .before .before .before .before .args in
     let is = told orderGiven (c .before .before .before .before .before .before .before .before .before .order-for .ensures) (c .before .before .before .before .before .before .before .o .given .1) in
-    record { told = then-told (λ o. headerWritten (a .table .now) (a .names .now) (a .shape .now) o (a .out .now)) is (retold (c .before .before .before .before .write-header .ensures .answered) (c .tell-bytes .ensures)); room-after = then-left (λ o. headerPlaced (a .table .now) (a .names .now) (a .shape .now) o (a .out .now)) (a .out .now) is (c .before .before .before .before .write-header .ensures .room-after) }
+    then-put (λ o. headerWritten (a .table .now) (a .names .now) (a .shape .now) o (a .out .now)) is (c .before .before .before .before .write-header .ensures) (c .tell-bytes .ensures)
 
 returns-2 : tie.Need-returns-2
 returns-2 c =
     let a = c .before .before .before .before .before .before .before .before .before .args in
     let none = told orderGiven (c .before .before .before .before .order-for .ensures) (c .before .before .why .given .1) in
-    record { told = none-told (λ o. headerWritten (a .table .now) (a .names .now) (a .shape .now) o (a .out .now)) none (c .number .ensures); room-after = none-left (λ o. headerPlaced (a .table .now) (a .names .now) (a .shape .now) o (a .out .now)) (a .out .now) none }
+    none-put (λ o. headerWritten (a .table .now) (a .names .now) (a .shape .now) o (a .out .now)) none (c .number .ensures)
 
 pub npy-write-header-spec : {M : Type 1} → statement M
 npy-write-header-spec =

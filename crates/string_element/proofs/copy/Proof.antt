@@ -1,7 +1,8 @@
 -- `string_element::copy` meets its contract: the bytes are written where they have room.
 use mathlib.Core.Path.{refl}
 use mathlib.Core.List.{append-nil}
-use Rattle.string_value.proofs.Places.{owes-short, owes-emitted}
+use Rattle.counts.proofs.Owes.{owes-short}
+use Rattle.emit.proofs.Texts.{owes-emitted}
 use borrow.Author.Needs.{needs}
 use Rattle.string_element.proofs.copy.Statement.{statement}
 use Rattle.string_element.proofs.copy.Tie as tie

@@ -3,7 +3,9 @@ use mathlib.Core.Path.{sym}
 use mathlib.Core.List.{append-nil}
 use native.Mathlib.Omega.{arith}
 use Rattle.string_value.specs.Runs.{zeroFilled}
-use Rattle.string_value.proofs.Places.{length-filled, owes-short, owes-emitted}
+use Rattle.counts.proofs.Owes.{owes-short}
+use Rattle.emit.proofs.Texts.{owes-emitted}
+use Rattle.string_value.proofs.Places.{length-filled}
 use borrow.Author.Needs.{needs}
 use Rattle.string_element.proofs.place_bytes.Statement.{statement}
 use Rattle.string_element.proofs.place_bytes.Tie as tie

@@ -1,7 +1,9 @@
 -- `string_element::place_points` meets its contract: a filled value is four bytes long for each code point of its size, and more than 2^64-1 bytes have no room.
 use mathlib.Core.Path.{refl, sym, _∙_}
 use native.Mathlib.Omega.{arith}
-use Rattle.string_value.proofs.Places.{length-filled-points, owes-short, owes-emitted}
+use Rattle.counts.proofs.Owes.{owes-short}
+use Rattle.emit.proofs.Texts.{owes-emitted}
+use Rattle.string_value.proofs.Places.{length-filled-points}
 use Rattle.string_value.proofs.Ways.{bytes-over, bytes-is}
 use borrow.Author.Needs.{needs}
 use Rattle.string_element.proofs.place_points.Statement.{statement}

@@ -6,10 +6,10 @@ use native.Mathlib.Omega.{arith}
 use lib.ListN.{take}
 use lib.Seq.{length-take-le}
 use borrow.Author.Tests.{not-true, not-false}
-use Rattle.string_value.specs.Rooms.{roomed}
+use Rattle.counts.specs.Owes.{roomed}
 use Rattle.string_value.specs.declared.StringKind.{StringKind}
 use Rattle.string_value.proofs.Trims.{trim-take, trim-length}
-use Rattle.string_value.proofs.Places.{owes-refused, owes-same}
+use Rattle.counts.proofs.Owes.{owes-refused, owes-same}
 use Rattle.string_value.proofs.Ways.{read-bytes-none, read-bytes-by}
 use borrow.Author.Needs.{needs}
 use Rattle.string_element.proofs.read_bytes.Statement.{statement}

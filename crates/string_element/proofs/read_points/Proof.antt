@@ -6,7 +6,7 @@ use Rattle.counts.proofs.OneOutcome.{told}
 use Rattle.refusal.specs.Answers.{pointsAnswer}
 use Rattle.type_letters.specs.Classes.{isUnicode}
 use Rattle.type_str.specs.Text.{isType}
-use Rattle.string_value.proofs.Places.{owes-refused, owes-same}
+use Rattle.counts.proofs.Owes.{owes-refused, owes-same}
 use Rattle.string_value.proofs.Ways.{read-points-none, read-points-other, read-points-bad, read-points-short, read-points-inside, read-points-whole}
 use borrow.Author.Needs.{needs}
 use Rattle.string_element.proofs.read_points.Statement.{statement}

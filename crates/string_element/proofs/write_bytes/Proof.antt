@@ -2,7 +2,7 @@
 use mathlib.Core.Path.{sym, _∙_}
 use borrow.Author.Tests.{not-true, not-false}
 use Rattle.string_value.specs.declared.StringKind.{StringKind}
-use Rattle.string_value.proofs.Places.{owes-refused, owes-same}
+use Rattle.counts.proofs.Owes.{owes-refused, owes-same}
 use Rattle.string_value.proofs.Ways.{write-bytes-none, write-bytes-by, bytes-none, bytes-long, bytes-fit, raw-other, raw-fit}
 use borrow.Author.Needs.{needs}
 use Rattle.string_element.proofs.write_bytes.Statement.{statement}

@@ -1,7 +1,7 @@
 -- `string_element::write_points` meets its contract: 27, 26, 29, 30, and then the room.
 use mathlib.Core.Path.{sym, _∙_}
 use borrow.Author.Tests.{not-true, not-false}
-use Rattle.string_value.proofs.Places.{owes-refused, owes-same}
+use Rattle.counts.proofs.Owes.{owes-refused, owes-same}
 use Rattle.string_value.proofs.Ways.{write-points-none, write-points-other, write-points-by, points-bad, points-long, points-fit}
 use borrow.Author.Needs.{needs}
 use Rattle.string_element.proofs.write_points.Statement.{statement}

@@ -27,7 +27,7 @@ same-length : tie.Need-same-length
 same-length c = search needs
 
 returns : tie.Need-returns
-returns c = header-measured _ _ _ _ _ _ (omega arith) _ _ _ (c .before .before .before .before .before .bare .given .1) (c .before .before .before .before .before .before .before .before .put-text .ensures) _ _ (c .before .before .write-record .ensures)
+returns c = header-measured _ _ _ _ _ _ (omega arith) _ _ _ (c .before .before .before .before .before .bare .given .1) (c .before .before .before .before .before .before .before .before .put-text .ensures) (c .before .before .write-record .result) _ (c .before .before .write-record .ensures)
 
 returns-2 : tie.Need-returns-2
 returns-2 c = header-refused _ _ _ _ _ (c .before .why .given .0 .0) (told-refused _ _ _ _ _ _ (ap answer (c .before .why .given .1)) (c .before .before .before .before .put-text .ensures))

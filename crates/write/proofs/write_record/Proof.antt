@@ -31,7 +31,7 @@ returns-2 : tie.Need-returns-2
 returns-2 c = λ x e m. record-written _ _ _ _ x e _ _ m _ (c .before .before .before .before .before .before .before .before .before .is-ascii .ensures) _ (told answer (c .before .before .before .before .before .before .before .before .plan-for .ensures) (c .before .before .before .before .before .before .plan .given .1)) (c .before .before .before .before .if1 .left) _ _ (c .before .before .put-header .ensures)
 
 returns-3 : tie.Need-returns-3
-returns-3 c = λ x e m. record-4 _ _ _ _ x e _ _ m _ (c .before .before .before .before .is-ascii .ensures) _ (told answer (c .before .before .before .plan-for .ensures) (c .before .why .given .1))
+returns-3 c = λ x e m. record-4 _ _ _ _ x e _ _ m _ (c .before .before .before .before .is-ascii .ensures) (c .before .why .given .0 .0) (told answer (c .before .before .before .plan-for .ensures) (c .before .why .given .1))
 
 pub write-record-spec : {M : Type 1} → statement M
 write-record-spec =
