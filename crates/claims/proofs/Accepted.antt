@@ -9,18 +9,19 @@ use borrow.Author.Tests.{le-ltb}
 use Rattle.counts.specs.Outcome.{Outcome, gives, then, each, unless, afterwards}
 use Rattle.counts.proofs.Owes.{roomed-whole}
 use Rattle.counts.proofs.Holds.{each-back}
+use Rattle.counts.specs.AllBytes.{AllBytes}
 use Rattle.counts.proofs.AllBytes.{bytes-append}
 use Rattle.dtype.specs.declared.Order.{Order}
 use Rattle.dtype.specs.Limits.{limited}
 use Rattle.dtype.specs.Record.{Record, table, names}
 use Rattle.record.specs.Version as version
-use Rattle.record.specs.Rooms.{roomsOf, holding}
+use Rattle.record.specs.Rooms.{roomsOf, holding, Lent}
 use Rattle.record.specs.Header as header
 use Rattle.record.specs.File.{fileOf, headerLength}
 use Rattle.record.specs.Writing.{writing}
 use Rattle.record.specs.Sound.{Small}
 use Rattle.record.proofs.Sound.{Sound}
-use Rattle.record.proofs.RoundTrips.{headerFor, file-all-bytes, written-read}
+use Rattle.record.proofs.RoundTrips.{text-readable, headerFor, file-all-bytes, written-read}
 use Rattle.check_record.specs.declared.Summary.{Summary}
 use Rattle.check_record.specs.Answer.{summary}
 use Rattle.check_record.specs.Checked.{checkedRecord}
@@ -31,19 +32,24 @@ use Rattle.header_prefix.specs.Answer.{versionIs}
 use Rattle.judge.specs.Judged.{reading}
 use Rattle.judge.proofs.Top.{reading-keeps}
 use Rattle.header.specs.declared.Header.{Header}
+use Rattle.header.specs.declared.RecordInfo.{RecordInfo}
 use Rattle.header.specs.declared.HeaderRead.{HeaderRead}
 use Rattle.header.specs.Reads.{lent, infoOf, HeaderInfo, headerInfo}
 use Rattle.npy_codes.specs.Values.{summaryValues}
 use Rattle.npy_codes.proofs.Named.{retold}
 use Rattle.claims.specs.Doors.{Door, in-rattle, in-c}
-use Rattle.claims.specs.Accepted.{Some-file, Printable, Accepts, Accepts-exactly}
-use Rattle.read_back.proofs.Accepted.{valid-sound}
-use Rattle.read_back.proofs.Rooms.{stands-by}
+use Rattle.claims.specs.Accepted.{Some-file, Printable, Accepted-as, Accepts, Accepts-exactly}
+use Rattle.read_back.proofs.Accepted.{valid-sound, sound-checked}
+use Rattle.read_back.specs.Rooms.{Holds}
+use Rattle.read_back.proofs.Rooms.{stands-by, checked-fronts}
 use Rattle.claims.proofs.Roomy.{roomy-fits}
 use Rattle.claims.proofs.Doors.{Fails, rattle-fails, c-fails, c-returned, succeeded}
-use Rattle.claims.proofs.Found.{order-back, read-was, in-rooms-checked}
+use Rattle.claims.proofs.Found.{told-value, order-back, read-was, in-rooms-checked}
+use Rattle.claims.specs.Exact.{In-text}
+use Rattle.claims.proofs.Exact.{in-text-read, fitted-in-text}
 use Rattle.claims.proofs.Limits.{valid-limits}
-use Rattle.claims.proofs.Numbers.{each-numbered, record-checked-numbered}
+use Rattle.record.proofs.Numbers.{each-numbered}
+use Rattle.claims.proofs.Numbers.{record-checked-numbered, text-numbered}
 use Rattle.claims.proofs.Readings.{read-tied}
 
 -- ---- what was read is accepted
@@ -81,39 +87,52 @@ told-eq : {v w : version.Version} (r : Record) → v ≡ w
     → _≡_ {A = HeaderInfo} (record { version = v; info = infoOf r; data-start = headerLength r }) (record { version = w; info = infoOf r; data-start = headerLength r })
 told-eq r e = cc
 
-own-file : (r : Record) → Sound r → limited r ≡ gives r → Printable r → Some-file (table (r .dtype)) (names (r .dtype)) (r .shape) (r .order)
+own-file : (r : Record) → Sound r → limited r ≡ gives r → Printable r
+    → (f : Some-file (table (r .dtype)) (names (r .dtype)) (r .shape) (r .order)) × AllBytes (f .file)
 own-file r sound limits p =
     let l = lent (table (r .dtype)) (names (r .dtype)) (r .shape) in
     let fits = roomy-fits r l (record { table-fits = omega arith; names-fit = omega arith; shape-fits = omega arith }) in
     let given : header.heldBy reading false (fileOf r ++ []) l ≡ gives (headerFor r) =
-    written-read reading reading-keeps r sound (fileOf r) (fileOf r) (writing-own r limits p) [] (roomsOf l) ∙ ap (λ b. unless b 23 (gives (headerFor r))) fits in
-    record {
-      file = fileOf r ++ [];
-      bytes = bytes-append (fileOf r) [] (file-all-bytes r sound) tt;
-      before = l;
-      after = holding r l;
-      result = HeaderRead.Read (answered r);
-      reads =
-          read-tied (fileOf r ++ []) l (HeaderRead.Read (answered r)) (holding r l)
-          (record {
-            answered = ap gives (told-eq r (declared-is (headerFor r .version))) ∙ sym (ap (each headerInfo) given);
-            after = sym (ap (λ (o : Outcome header.Header). afterwards header.holdingHeader o l) given);
-          });
-      header = headerInfo (headerFor r);
-      is = ap gives (told-eq r (declared-is (headerFor r .version)));
-      holds = stands-by r l (holding r l) (infoOf r) refl refl;
-    }
+    written-read reading reading-keeps r sound (fileOf r) (fileOf r) (writing-own r limits p) [] (roomsOf l) ∙ ap (λ b. unless b 23 (gives (headerFor r))) fits in (
+      record {
+        file = fileOf r ++ [];
+        before = l;
+        after = holding r l;
+        result = HeaderRead.Read (answered r);
+        reads =
+            read-tied (fileOf r ++ []) l (HeaderRead.Read (answered r)) (holding r l)
+            (record {
+              answered = ap gives (told-eq r (declared-is (headerFor r .version))) ∙ sym (ap (each headerInfo) given);
+              after = sym (ap (λ (o : Outcome header.Header). afterwards header.holdingHeader o l) given);
+            });
+        header = headerInfo (headerFor r);
+        is = ap gives (told-eq r (declared-is (headerFor r .version)));
+        holds = stands-by r l (holding r l) (infoOf r) refl refl;
+      },
+      bytes-append (fileOf r) [] (file-all-bytes r sound) tt,
+    )
 
-file-moved : (t t′ ns ns′ s : List ℕ) (o : Order) → t ≡ t′ → ns ≡ ns′ → Some-file t′ ns′ s o → Some-file t ns s o
+file-moved : (t t′ ns ns′ s : List ℕ) (o : Order) → t ≡ t′ → ns ≡ ns′ → (f : Some-file t′ ns′ s o) × AllBytes (f .file) → (f : Some-file t ns s o) × AllBytes (f .file)
 file-moved t t′ ns ns′ s o et en f = rw (et, en) f
 
-only-read : (t ns s : List ℕ) (o : Order) → Small t → Small s → (r : Record) → checkedRecord t ns s o ≡ gives r
-    → (r : Record) × (t ≡ table (r .dtype)) × (ns ≡ names (r .dtype)) × (s ≡ r .shape) × (o ≡ r .order) × (Printable r → Some-file t ns s o)
+only-read : (t ns s : List ℕ) (o : Order) → Small t → Small s → (r : Record) → checkedRecord t ns s o ≡ gives r → (r : Record) × Accepted-as t ns s o r
 only-read t ns s o small-t small-s r e =
     let (d, is, v) = accepts-valid t ns s o r e in
     let sound : Sound (made d s o) = valid-sound t ns s o d v small-t small-s in
-    let limits : limited (made d s o) ≡ gives (made d s o) = subst (λ (x : Record). limited x ≡ gives x) is (valid-limits t ns s o r e) in
-    (made d s o, v .table-is, v .names-are, refl, refl, λ p. file-moved t (table d) ns (names d) s o (v .table-is) (v .names-are) (own-file (made d s o) sound limits p))
+    let limits : limited (made d s o) ≡ gives (made d s o) = subst (λ (x : Record). limited x ≡ gives x) is (valid-limits t ns s o r e) in (
+      made d s o,
+      record {
+        table-is = v .table-is;
+        names-are = v .names-are;
+        shape-is = refl;
+        order-is = refl;
+        typed = v .typed;
+        well-named = v .well-named;
+        no-array = v .no-array;
+        limits = limits;
+        from-file = λ p. file-moved t (table d) ns (names d) s o (v .table-is) (v .names-are) (own-file (made d s o) sound limits p);
+      },
+    )
 
 -- ---- for either door
 given-success : {B R : Type 0} (door : Door B R) (o : Outcome B) (y : R) → y ≡ door .returned o → (b : B) → o ≡ gives b → ((b : B) → door .success (door .returned (gives b)) ≡ true)
@@ -133,6 +152,15 @@ accepts-by door t ns s o y small-t small-s is fails always =
           only-read t ns s o small-t small-s r accepted;
     }
 
+-- ---- a text by itself
+text-holds : (text : List ℕ) (l l′ : Lent) (r : Record) (i : RecordInfo) → header.textBy reading text l ≡ gives r → i ≡ infoOf r → l′ ≡ holding r l
+    → (r : Record) × In-text text r × Holds r i l′
+text-holds text l l′ r i e is held =
+    let says = fitted-in-text text l r e .0 in
+    let w = text-readable reading reading-keeps text r (in-text-read text r says) in
+    let parts = stands-by r l l′ i is held in
+    (r, says, record { stands = parts; accepted = checked-fronts r i l′ parts (sound-checked r (w .sound) (w .limits)) })
+
 pub accepts-exactly : Accepts-exactly
 accepts-exactly =
     record {
@@ -141,4 +169,12 @@ accepts-exactly =
           accepts-by (in-c summaryValues said) t ns s o (r, said′) (h .small-table) (h .small-shape)
           (c-returned (retold (ap (λ (g : Outcome Order). then g (λ o. each summary (checkedRecord t ns s o))) (order-back o)) (h .answered)))
           (c-fails summaryValues said _ (each-numbered summary _ (record-checked-numbered t ns s o))) (λ b. refl);
+      read-text = λ text l l′ x i h e.
+          let (r, given-is, same) = each-back infoOf (header.textBy reading text l) i (sym (h .answered reading reading-keeps) ∙ e) in
+          text-holds text l l′ r i given-is (sym same) (h .after reading reading-keeps ∙ ap (λ (o : Outcome Record). afterwards holding o l) given-is);
+      npy-read-text = λ text l l′ said said′ h.
+          let o = header.textBy reading text l in
+          let (i, e, v) = told-value (each infoOf o) (each-numbered infoOf o (text-numbered reading text l)) (h .answered reading reading-keeps) in
+          let (r, given-is, same) = each-back infoOf o i e in
+          (i, v, text-holds text l l′ r i given-is (sym same) (h .after reading reading-keeps ∙ ap (λ (o : Outcome Record). afterwards holding o l) given-is));
     }

@@ -36,31 +36,8 @@ use Rattle.npy_codes.specs.Values.{typeValues, textValues, headerValues, summar
 use Rattle.npy.specs.Calls.{Puts}
 use Rattle.claims.specs.Beyond.{Same-rest}
 use Rattle.claims.specs.Codes.{Coded, Zero-answers, Rest-in-C}
-use Rattle.claims.proofs.Numbers.{
-  Numbered,
-  then-numbered,
-  each-numbered,
-  type-numbered,
-  held-header-numbered,
-  text-numbered,
-  for-numbered,
-  version-for-numbered,
-  type-for-numbered,
-  record-checked-numbered,
-  header-written-numbered,
-  listed-numbered,
-  type-printed-numbered,
-  count-numbered,
-  strides-numbered,
-  item-numbered,
-  place-numbered,
-  read-bytes-numbered,
-  read-points-numbered,
-  write-bytes-numbered,
-  write-points-numbered,
-  element-bytes-numbered,
-  element-points-numbered,
-}
+use Rattle.record.proofs.Numbers.{Numbered, then-numbered, each-numbered, type-numbered}
+use Rattle.claims.proofs.Numbers.{held-header-numbered, text-numbered, for-numbered, version-for-numbered, type-for-numbered, record-checked-numbered, header-written-numbered, listed-numbered, type-printed-numbered, count-numbered, strides-numbered, item-numbered, place-numbered, read-bytes-numbered, read-points-numbered, write-bytes-numbered, write-points-numbered, element-bytes-numbered, element-points-numbered}
 use Rattle.claims.proofs.Refusals.{strides-left}
 use Rattle.claims.proofs.Beyond.{holding-rest, strides-rest}
 
@@ -205,6 +182,11 @@ rest-in-c =
       npy-write-header = λ t ns s order room count r room′ n c. spared _ room count r room′ n (c .writes);
       npy-list = λ version start t ns s order room count r room′ n c. spared _ room count r room′ n c;
       npy-type-print = λ order letter size units room count r room′ n c. spared _ room count r room′ n c;
-      puts = λ put room count r room′ n c. spared put room count r room′ n c;
+      npy-element-bytes = λ file start t ns s order x p room count r room′ n c. spared _ room count r room′ n c;
+      npy-element-points = λ file start t ns s order x p room count r room′ n c. spared _ room count r room′ n c;
+      npy-read-bytes = λ run order letter size units room count r room′ n c. spared _ room count r room′ n c;
+      npy-read-points = λ run order letter size units room count r room′ n c. spared _ room count r room′ n c;
+      npy-write-bytes = λ order letter size units value room count r room′ n c. spared _ room count r room′ n c;
+      npy-write-points = λ order letter size units value room count r room′ n c. spared _ room count r room′ n c;
       npy-strides = λ s order room count r room′ count′ c. ap (drop (length s)) (c .room-after) ∙ strides-given s room (orderFor order);
     }

@@ -12,7 +12,7 @@ use Rattle.counts.proofs.OneOutcome.{pair-of}
 use Rattle.npy_codes.specs.Codes.{Tells}
 use Rattle.claims.specs.Doors.{Door, in-rattle, in-c}
 use Rattle.claims.specs.Exact.{Exactly}
-use Rattle.claims.proofs.Numbers.{Numbered}
+use Rattle.record.proofs.Numbers.{Numbered}
 
 -- a refusal is no success
 abbrev pub Fails : {B R : Type 0} → Door B R → Outcome B → Type 0

@@ -8,7 +8,7 @@ use mathlib.Core.List.{List}
 use lib.Dec.{ltb}
 use lib.ListN.{length}
 use borrow.Author.Tests.{le-ltb, ltb-false, not-false}
-use Rattle.counts.specs.Outcome.{Outcome, gives, then, each, afterwards}
+use Rattle.counts.specs.Outcome.{Outcome, gives, then, each, afterwards, unless}
 use Rattle.counts.specs.Front.{atFront}
 use Rattle.counts.proofs.Apart.{refused-gives, gives-apart}
 use Rattle.counts.proofs.Holds.{unless-back, then-back, each-back}
@@ -19,6 +19,7 @@ use Rattle.literal_grammar.proofs.Kept.{one-outcome-at}
 use Rattle.utf8.specs.Decode.{utf8}
 use Rattle.utf8.proofs.Outcomes.{accepted-exactly}
 use Rattle.type_str.specs.declared.TypeStr.{TypeStr}
+use Rattle.type_str.specs.Text.{isType}
 use Rattle.dtype.specs.declared.Order.{Order}
 use Rattle.dtype.specs.Entries.{hasObject}
 use Rattle.dtype.specs.Limits.{limited}
@@ -45,11 +46,12 @@ use Rattle.place.specs.Place as place
 use Rattle.place.proofs.Placing.{place-given}
 use Rattle.counts.specs.Owes.{roomed}
 use Rattle.counts.proofs.Owes.{roomed-whole}
+use Rattle.string_value.specs.Rooms.{readBytes, readPoints, writeBytes, writePoints}
 use Rattle.element.specs.Bytes.{runBytes}
 use Rattle.element.specs.Element.{elementBytes, elementPoints}
 use Rattle.element.proofs.Typed.{bytes-after, points-after}
 use Rattle.npy_codes.specs.Codes.{alone}
-use Rattle.npy_codes.specs.Numbers.{orderFor}
+use Rattle.npy_codes.specs.Numbers.{orderFor, typeFor}
 use Rattle.npy_codes.specs.Values.{textValues, headerValues, runValues}
 use Rattle.npy.specs.Calls.{Puts}
 use Rattle.claims.specs.Doors.{Door, in-rattle, in-c}
@@ -68,23 +70,16 @@ use Rattle.claims.specs.Exact.{
   bytes-within,
   points-within,
   Takes-exactly,
-  In-order,
+  Alone,
+  bytes-out,
+  points-out,
+  By-number,
   Exact,
   Exact-in-C,
 }
 use Rattle.claims.proofs.Doors.{Fails, rattle-fails, c-fails, c-returned, exactly-by}
-use Rattle.claims.proofs.Numbers.{
-  Numbered,
-  each-numbered,
-  then-numbered,
-  for-numbered,
-  held-header-numbered,
-  text-numbered,
-  header-written-numbered,
-  place-numbered,
-  element-bytes-numbered,
-  element-points-numbered,
-}
+use Rattle.record.proofs.Numbers.{Numbered, each-numbered, then-numbered}
+use Rattle.claims.proofs.Numbers.{for-numbered, held-header-numbered, text-numbered, header-written-numbered, place-numbered, element-bytes-numbered, type-for-numbered, read-bytes-numbered, read-points-numbered, write-bytes-numbered, write-points-numbered, element-points-numbered}
 use Rattle.claims.proofs.Roomy.{roomy-fits, fits-roomy}
 use Rattle.claims.proofs.Limits.{valid-limits}
 
@@ -129,7 +124,7 @@ header-made : (h : header.Header) (v : Version) (n : ℕ) → h .version ≡ v �
 header-made h v n e f = rw (sym e, sym f) refl
 
 module _ (longer : Bool) (file : List ℕ) (l : Lent) where
-  in-file-read : (h : header.Header) → In-file file h → Fits l (h .says) → heldInto longer file l ≡ gives h
+  pub in-file-read : (h : header.Header) → In-file file h → Fits l (h .says) → heldInto longer file l ≡ gives h
   unfolding header.stored
   in-file-read h s fits =
       let p = s .front in
@@ -139,7 +134,7 @@ module _ (longer : Bool) (file : List ℕ) (l : Lent) where
       let small = roomy-fits (h .says) l fits in
       simp (s .begins, e, r, small, m)
 
-  read-in-file : (h : header.Header) → heldInto longer file l ≡ gives h → In-file file h × Fits l (h .says)
+  pub read-in-file : (h : header.Header) → heldInto longer file l ≡ gives h → In-file file h × Fits l (h .says)
   unfolding header.stored
   read-in-file h e =
       let (p, begins, of-text) = then-back (prefix file) _ h e in
@@ -171,7 +166,7 @@ module _ (text : List ℕ) (l : Lent) where
   in-text-fitted : (r : Record) → In-text text r → Fits l r → header.textBy reading text l ≡ gives r
   in-text-fitted r s fits = let e = in-text-read text r s in let small = roomy-fits r l fits in simp (e, small)
 
-  fitted-in-text : (r : Record) → header.textBy reading text l ≡ gives r → In-text text r × Fits l r
+  pub fitted-in-text : (r : Record) → header.textBy reading text l ≡ gives r → In-text text r × Fits l r
   fitted-in-text r e =
       let (q, is, of-room) = then-back (header.recordIn reading text) _ r e in
       let (fits, same) = unless-back (tooSmall (roomsOf l) (needs q)) 23 _ r of-room in
@@ -258,18 +253,53 @@ takes-exactly door Due room y room′ whole is held fails due back =
     (λ c d. let e = due c d in (ap (each length) e, held ∙ ap (λ (o : Outcome (List ℕ)). afterwards atFront o room) e))
     (λ n e. let (c, given-is, _) = each-back length whole n e in (c, back c given-is))
 
--- ---- from C, where the order's number comes first
-module _ {A B : Type 0} (order : ℕ) (next : Order → Outcome B) where
-  in-order : {Due : Order → A → Type 0} (value : A → B) → ((o : Order) (a : A) → Due o a → next o ≡ gives (value a)) → (a : A) → In-order order Due a
-      → then (orderFor order) next ≡ gives (value a)
-  in-order value due a d = ap (λ g. then g next) (d .1) ∙ due (d .0) a (d .2)
+-- ---- an element by itself
+module _ (k : TypeStr) (given : Outcome (List ℕ)) (n : ℕ) (room : List ℕ) where
+  alone-put : (content : List ℕ) → Alone k given room content → unless (not (isType k)) 27 (then given (roomed n room)) ≡ gives content
+  unfolding roomed
+  alone-put content a = rw (a .typed, a .is, roomed, le-ltb _ _ (a .fits))
 
-  order-in : {Due : Order → A → Type 0} → ((o : Order) (b : B) → next o ≡ gives b → (a : A) × Due o a) → (b : B) → then (orderFor order) next ≡ gives b
-      → (a : A) × In-order order Due a
-  order-in back b e =
-      let (o, named, given-is) = then-back (orderFor order) next b e in
-      let (a, d) = back o b given-is in
-      (a, (o, named, d))
+  put-alone : (content : List ℕ) → unless (not (isType k)) 27 (then given (roomed n room)) ≡ gives content → Alone k given room content
+  unfolding roomed
+  put-alone content e =
+      let (typed, of-type) = unless-back (not (isType k)) 27 _ content e in
+      let (c, is-content, kept) = then-back given _ content of-type in
+      let (fits, is) = unless-back (ltb (length room) (length c)) n (gives c) content kept in
+      let same : c ≡ content = gives-apart is in
+      record {
+        typed = not-false (isType k) typed;
+        is = is-content ∙ ap gives same;
+        fits = subst (λ (y : List ℕ). length y ≤ length room) same (ltb-false _ _ fits);
+      }
+
+read-bytes-put : (k : TypeStr) (run room : List ℕ) → readBytes k run room ≡ unless (not (isType k)) 27 (then (bytes-within k run) (roomed 23 room))
+unfolding readBytes
+read-bytes-put k run room = refl
+
+read-points-put : (k : TypeStr) (run room : List ℕ) → readPoints k run room ≡ unless (not (isType k)) 27 (then (points-within k run) (roomed 23 room))
+unfolding readPoints
+read-points-put k run room = refl
+
+write-bytes-put : (k : TypeStr) (value room : List ℕ) → writeBytes k value room ≡ unless (not (isType k)) 27 (then (bytes-out k value) (roomed 28 room))
+unfolding writeBytes
+write-bytes-put k value room = refl
+
+write-points-put : (k : TypeStr) (value room : List ℕ) → writePoints k value room ≡ unless (not (isType k)) 27 (then (points-out k value) (roomed 28 room))
+unfolding writePoints
+write-points-put k value room = refl
+
+-- ---- from C, where the numbers of an order or a type come first
+module _ {N A B : Type 0} (named : Outcome N) (next : N → Outcome B) where
+  by-number : {Due : N → A → Type 0} (value : A → B) → ((n : N) (a : A) → Due n a → next n ≡ gives (value a)) → (a : A) → By-number named Due a
+      → then named next ≡ gives (value a)
+  by-number value due a d = ap (λ (g : Outcome N). then g next) (d .1) ∙ due (d .0) a (d .2)
+
+  number-by : {Due : N → A → Type 0} → ((n : N) (b : B) → next n ≡ gives b → (a : A) × Due n a) → (b : B) → then named next ≡ gives b
+      → (a : A) × By-number named Due a
+  number-by back b e =
+      let (n, named-is, given-is) = then-back named next b e in
+      let (a, d) = back n b given-is in
+      (a, (n, named-is, d))
 
 pub exact : Exact
 exact =
@@ -294,6 +324,18 @@ exact =
           let is = points-after file start t ns s o x p out in
           takes-exactly in-rattle (Element points-within at file out) out _ out′ (elementPoints file start t ns s o x p out) (h .answered) (h .room-after) (rattle-fails _)
           (λ c d. is ∙ element-put points-within at file out c d) (λ c e. put-element points-within at file out c (sym is ∙ e));
+      read-bytes = λ run k out y out′ h.
+          takes-exactly in-rattle (Alone k (bytes-within k run) out) out _ out′ (readBytes k run out) (h .answered) (h .room-after) (rattle-fails _)
+          (λ c d. read-bytes-put k run out ∙ alone-put k (bytes-within k run) 23 out c d) (λ c e. put-alone k (bytes-within k run) 23 out c (sym (read-bytes-put k run out) ∙ e));
+      read-points = λ run k out y out′ h.
+          takes-exactly in-rattle (Alone k (points-within k run) out) out _ out′ (readPoints k run out) (h .answered) (h .room-after) (rattle-fails _)
+          (λ c d. read-points-put k run out ∙ alone-put k (points-within k run) 23 out c d) (λ c e. put-alone k (points-within k run) 23 out c (sym (read-points-put k run out) ∙ e));
+      write-bytes = λ k value out y out′ h.
+          takes-exactly in-rattle (Alone k (bytes-out k value) out) out _ out′ (writeBytes k value out) (h .answered) (h .room-after) (rattle-fails _)
+          (λ c d. write-bytes-put k value out ∙ alone-put k (bytes-out k value) 28 out c d) (λ c e. put-alone k (bytes-out k value) 28 out c (sym (write-bytes-put k value out) ∙ e));
+      write-points = λ k value out y out′ h.
+          takes-exactly in-rattle (Alone k (points-out k value) out) out _ out′ (writePoints k value out) (h .answered) (h .room-after) (rattle-fails _)
+          (λ c d. write-points-put k value out ∙ alone-put k (points-out k value) 28 out c d) (λ c e. put-alone k (points-out k value) 28 out c (sym (write-points-put k value out) ∙ e));
     }
 
 -- the numbers of what is asked of an order
@@ -301,15 +343,30 @@ after-order : {B : Type 0} (order : ℕ) (next : Order → Outcome B) (values : 
     → Fails (in-c values said) (then (orderFor order) next)
 after-order order next values said h = c-fails values said _ (then-numbered (orderFor order) next (for-numbered order) h)
 
-module _ (within : TypeStr → List ℕ → Outcome (List ℕ)) (file out : List ℕ) (order : ℕ) (next : Order → Outcome (List ℕ)) (at : Order → Outcome Run)
-    (is : (o : Order) → next o ≡ put within (at o) file out) (numbered : (o : Order) → Numbered (next o)) where
-  takes-in-c : (count : List ℕ) (r : ℕ) (out′ count′ : List ℕ) → Puts (then (orderFor order) next) out count r out′ count′
-      → Takes-exactly (in-c alone count) (In-order order (λ o. Element within (at o) file out)) out (r, count′) out′
-  takes-in-c count r out′ count′ h =
-      takes-exactly (in-c alone count) _ out (r, count′) out′ (then (orderFor order) next) (c-returned (h .told)) (h .room-after)
-      (c-fails alone count _ (each-numbered length _ (then-numbered (orderFor order) next (for-numbered order) numbered)))
-      (λ c d. in-order order next (λ c. c) (λ o c d. is o ∙ element-put within (at o) file out c d) c d)
-      (λ c e. let g = then-back (orderFor order) next c e in (g .0, g .1, put-element within (at (g .0)) file out c (sym (is (g .0)) ∙ g .2)))
+takes-in-c : {N : Type 0} (named : Outcome N) (next : N → Outcome (List ℕ)) (Due : N → List ℕ → Type 0) (out : List ℕ) → Numbered named → ((n : N) → Numbered (next n))
+    → ((n : N) (c : List ℕ) → Due n c → next n ≡ gives c) → ((n : N) (c : List ℕ) → next n ≡ gives c → Due n c) → (count : List ℕ) (r : ℕ) (out′ count′ : List ℕ)
+    → Puts (then named next) out count r out′ count′ → Takes-exactly (in-c alone count) (By-number named Due) out (r, count′) out′
+takes-in-c named next Due out first numbered due back count r out′ count′ h =
+    takes-exactly (in-c alone count) (By-number named Due) out (r, count′) out′ (then named next) (c-returned (h .told)) (h .room-after)
+    (c-fails alone count _ (each-numbered length _ (then-numbered named next first numbered)))
+    (by-number named next (λ c. c) due)
+    (λ c e. let g = then-back named next c e in (g .0, g .1, back (g .0) c (g .2)))
+
+module _ (file : List ℕ) (start : ℕ) (t ns s : List ℕ) (x p out : List ℕ) (o : Order) where
+  abbrev at : Outcome Run
+  at = place.placeOf (length file) start t ns s o x p
+
+  bytes-due : (c : List ℕ) → Element bytes-within at file out c → elementBytes file start t ns s o x p out ≡ gives c
+  bytes-due c d = bytes-after file start t ns s o x p out ∙ element-put bytes-within at file out c d
+
+  due-bytes : (c : List ℕ) → elementBytes file start t ns s o x p out ≡ gives c → Element bytes-within at file out c
+  due-bytes c e = put-element bytes-within at file out c (sym (bytes-after file start t ns s o x p out) ∙ e)
+
+  points-due : (c : List ℕ) → Element points-within at file out c → elementPoints file start t ns s o x p out ≡ gives c
+  points-due c d = points-after file start t ns s o x p out ∙ element-put points-within at file out c d
+
+  due-points : (c : List ℕ) → elementPoints file start t ns s o x p out ≡ gives c → Element points-within at file out c
+  due-points c e = put-element points-within at file out c (sym (points-after file start t ns s o x p out) ∙ e)
 
 pub exact-in-c : Exact-in-C
 exact-in-c =
@@ -321,20 +378,36 @@ exact-in-c =
           reads-text-exactly text l (in-c textValues said) (r, said′) l′ (c-returned (h .answered reading reading-keeps)) (h .after reading reading-keeps)
           (c-fails textValues said _ (each-numbered infoOf _ (text-numbered reading text l)));
       npy-write-header = λ t ns s order out count r out′ count′ h.
-          writes-exactly (in-c alone count) (In-order order (λ o. Writable t ns s o out)) out (r, count′) out′ (then (orderFor order) (λ o. headerWritten t ns s o out))
+          writes-exactly (in-c alone count) (By-number (orderFor order) (λ o. Writable t ns s o out)) out (r, count′) out′ (then (orderFor order) (λ o. headerWritten t ns s o out))
           (c-returned (h .writes .told)) (h .writes .room-after)
           (c-fails alone count _ (each-numbered length _ (then-numbered (orderFor order) (λ o. headerWritten t ns s o out) (for-numbered order) (λ o. header-written-numbered t ns s o out))))
-          (in-order order (λ o. headerWritten t ns s o out) fileOf (λ o. writable-writes t ns s o out))
-          (order-in order (λ o. headerWritten t ns s o out) (λ o. writes-writable t ns s o out));
+          (by-number (orderFor order) (λ o. headerWritten t ns s o out) fileOf (λ o. writable-writes t ns s o out))
+          (number-by (orderFor order) (λ o. headerWritten t ns s o out) (λ o. writes-writable t ns s o out));
       npy-place = λ file start t ns s order x p run r run′ h.
-          exactly-by (in-c runValues run) (In-order order (λ o a. Named file start t ns s o x p (a .0) (a .1))) (λ a. place.runFrom (place start (a .0) x p) (a .1)) (λ a m. m) tt
+          exactly-by (in-c runValues run) (By-number (orderFor order) (λ o a. Named file start t ns s o x p (a .0) (a .1))) (λ a. place.runFrom (place start (a .0) x p) (a .1)) (λ a m. m) tt
           (r, run′) tt _ (c-returned h) (after-order order (λ o. place.placeOf file start t ns s o x p) runValues run (λ o. place-numbered file start t ns s o x p))
-          (λ a d. (in-order order (λ o. place.placeOf file start t ns s o x p) (λ a. place.runFrom (place start (a .0) x p) (a .1)) (λ o. named-place file start t ns s o x p) a d, refl))
-          (order-in order (λ o. place.placeOf file start t ns s o x p) (λ o. place-named file start t ns s o x p));
+          (λ a d. (by-number (orderFor order) (λ o. place.placeOf file start t ns s o x p) (λ a. place.runFrom (place start (a .0) x p) (a .1)) (λ o. named-place file start t ns s o x p) a d, refl))
+          (number-by (orderFor order) (λ o. place.placeOf file start t ns s o x p) (λ o. place-named file start t ns s o x p));
       npy-element-bytes = λ file start t ns s order x p out count r out′ count′ h.
-          takes-in-c bytes-within file out order (λ o. elementBytes file start t ns s o x p out) (λ o. place.placeOf (length file) start t ns s o x p)
-          (λ o. bytes-after file start t ns s o x p out) (λ o. element-bytes-numbered file start t ns s o x p out) count r out′ count′ h;
+          takes-in-c (orderFor order) (λ o. elementBytes file start t ns s o x p out) _ out (for-numbered order) (λ o. element-bytes-numbered file start t ns s o x p out)
+          (bytes-due file start t ns s x p out) (due-bytes file start t ns s x p out) count r out′ count′ h;
       npy-element-points = λ file start t ns s order x p out count r out′ count′ h.
-          takes-in-c points-within file out order (λ o. elementPoints file start t ns s o x p out) (λ o. place.placeOf (length file) start t ns s o x p)
-          (λ o. points-after file start t ns s o x p out) (λ o. element-points-numbered file start t ns s o x p out) count r out′ count′ h;
+          takes-in-c (orderFor order) (λ o. elementPoints file start t ns s o x p out) _ out (for-numbered order) (λ o. element-points-numbered file start t ns s o x p out)
+          (points-due file start t ns s x p out) (due-points file start t ns s x p out) count r out′ count′ h;
+      npy-read-bytes = λ run order letter size units out count r out′ count′ h.
+          takes-in-c (typeFor order letter size units) (λ k. readBytes k run out) _ out (type-for-numbered order letter size units) (λ k. read-bytes-numbered k run out)
+          (λ k c d. read-bytes-put k run out ∙ alone-put k (bytes-within k run) 23 out c d)
+          (λ k c e. put-alone k (bytes-within k run) 23 out c (sym (read-bytes-put k run out) ∙ e)) count r out′ count′ h;
+      npy-read-points = λ run order letter size units out count r out′ count′ h.
+          takes-in-c (typeFor order letter size units) (λ k. readPoints k run out) _ out (type-for-numbered order letter size units) (λ k. read-points-numbered k run out)
+          (λ k c d. read-points-put k run out ∙ alone-put k (points-within k run) 23 out c d)
+          (λ k c e. put-alone k (points-within k run) 23 out c (sym (read-points-put k run out) ∙ e)) count r out′ count′ h;
+      npy-write-bytes = λ order letter size units value out count r out′ count′ h.
+          takes-in-c (typeFor order letter size units) (λ k. writeBytes k value out) _ out (type-for-numbered order letter size units) (λ k. write-bytes-numbered k value out)
+          (λ k c d. write-bytes-put k value out ∙ alone-put k (bytes-out k value) 28 out c d)
+          (λ k c e. put-alone k (bytes-out k value) 28 out c (sym (write-bytes-put k value out) ∙ e)) count r out′ count′ h;
+      npy-write-points = λ order letter size units value out count r out′ count′ h.
+          takes-in-c (typeFor order letter size units) (λ k. writePoints k value out) _ out (type-for-numbered order letter size units) (λ k. write-points-numbered k value out)
+          (λ k c d. write-points-put k value out ∙ alone-put k (points-out k value) 28 out c d)
+          (λ k c e. put-alone k (points-out k value) 28 out c (sym (write-points-put k value out) ∙ e)) count r out′ count′ h;
     }

@@ -28,7 +28,8 @@ use Rattle.npy_codes.specs.Numbers.{orderNumber, orderFor}
 use Rattle.npy_codes.specs.Values.{headerValues}
 use Rattle.claims.specs.Functions.{Read}
 use Rattle.claims.specs.InC.{Npy-read}
-use Rattle.claims.proofs.Numbers.{Numbered, each-numbered, held-header-numbered}
+use Rattle.record.proofs.Numbers.{Numbered, each-numbered}
+use Rattle.claims.proofs.Numbers.{held-header-numbered}
 
 -- ---- 0 in C is a value
 pub told-value : {A : Type 0} {values : A → List ℕ} {said said′ : List ℕ} (o : Outcome A) → Numbered o → Tells values o said 0 said′ → (a : A) × (o ≡ gives a) × (said′ ≡ values a)

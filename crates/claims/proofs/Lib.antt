@@ -7,11 +7,14 @@ pub mod Doors
 pub mod Limits
 pub mod Exact
 pub mod Found
+pub mod WasRead
 pub mod RoundTrips
 pub mod Places
 pub mod Held
+pub mod Program
 pub mod Accepted
 pub mod Refusals
 pub mod Beyond
 pub mod Edges
 pub mod Codes
+pub mod Outcomes

@@ -1,25 +1,19 @@
--- The numbers of all refusals are document 01's, 1 to 30: along the composition of each definition, by one law for each way of composing outcomes.
-use Prim.Native.Nat.{ℕ, zero, suc, _+_, _^_}
-use mathlib.Core.Path.{_≡_, refl}
-use mathlib.Core.Bool.{Bool, true, false, cond, not, _&&_, _||_}
+-- The numbers of all refusals are document 01's, 1 to 30: along the composition of each definition, by one law for each way of composing outcomes. Those of reading a file are
+-- record/proofs/Numbers.antt.
+use Prim.Native.Nat.{ℕ, zero, suc, _+_}
+use mathlib.Core.Path.{refl}
+use mathlib.Core.Bool.{Bool, true, false, not, _&&_}
 use mathlib.Core.List.{List, [], _∷_}
-use mathlib.Core.Option.{Option, none, some}
 use lib.Dec.{leb, ltb, eqb}
-use lib.ListN.{length, getD, take, drop}
+use lib.ListN.{length}
 use Rattle.counts.specs.Outcome.{Outcome, gives, refused, then, each, unless}
 use Rattle.counts.specs.Same.{same}
 use Rattle.utf8_scalar.specs.Scalar.{isScalar}
-use Rattle.utf8.specs.Decode.{unlessIll, firstIll, utf8}
-use Rattle.decimal.specs.Decimal.{digitsOf, afterDigits, decimal}
-use Rattle.type_letters.specs.Orders.{orders, orderByte, orderOf}
-use Rattle.type_letters.specs.Letters.{letters, letterByte, letterOf}
-use Rattle.type_letters.specs.Spelling.{firstOf}
+use Rattle.type_letters.specs.Orders.{orderOf}
+use Rattle.type_letters.specs.Letters.{letterOf}
 use Rattle.type_letters.specs.declared.Endianness.{Endianness}
-use Rattle.type_letters.specs.declared.TypeChar.{TypeChar}
-use Rattle.type_units.specs.Units.{units, unitText, unitsOf}
-use Rattle.type_str.specs.Rules.{allows}
+use Rattle.type_units.specs.Units.{units}
 use Rattle.type_str.specs.declared.TypeStr.{TypeStr}
-use Rattle.type_str.specs.TypeString.{sizeStands, sized, sizedBy, syntax, lacksOrder, misplacesUnits, validated, checked, typeString}
 use Rattle.type_str.specs.Text.{isType, typeText, typePrinted}
 use Rattle.dtype.specs.declared.Order.{Order}
 use Rattle.dtype.specs.declared.Order.the-variants.{C, Fortran}
@@ -27,21 +21,14 @@ use Rattle.dtype.specs.Dtype.{Dtype, Fields, plain, array, record-of, end-of-fi
 use Rattle.dtype.specs.Entries.{hasObject}
 use Rattle.dtype.specs.Shape.{product, inRange, item}
 use Rattle.dtype.specs.Record.{Record, table, names, unflat, tableOf}
-use Rattle.dtype.specs.Limits.{over, overDimensions, overLevels, overEntries, overSize, overShape, limited}
+use Rattle.dtype.specs.Limits.{overDimensions, overShape, limited}
 use Rattle.dtype.specs.Places.{dataBytes, place}
 use Rattle.dtype.specs.Paths.{plainAt, plainOf}
 use Rattle.shape.specs.Count.{itemCount, stridesCount}
-use Rattle.literal_grammar.specs.Value.{Value, Values, Items, string, integer, True, False, None, list, tuple, dict, end-of-values, value-then, end-of-items, item-then}
 use Rattle.literal_grammar.specs.Print.{valueOf}
-use Rattle.literal_grammar.specs.Promise.{Got, got, fault, deep}
-use Rattle.record.specs.Parts.{stringOr, membersOr, itemsOr}
-use Rattle.record.specs.Dict.{isThe, allStrings, lastOf, needed, key-order, key-shape, key-descr}
-use Rattle.record.specs.Dimensions.{signed, dimension, dimensions, subShape, ranked, shapeOf}
-use Rattle.record.specs.Descr.{arrays, twoOrThree, perhaps, descrOf, fieldsOf, fieldOf, namedOf, typedOf}
-use Rattle.record.specs.FromValue as from-value
-use Rattle.record.specs.Version.{Version, one-zero, two-zero, three-zero, versionOf, lengthWidth, textStart}
-use Rattle.record.specs.Prefix.{magic, most-text, Prefix, dataStart, lengthRead, prefix, textHeld}
-use Rattle.record.specs.Rooms.{Rooms, needs, tooSmall, Lent, roomsOf}
+use Rattle.record.specs.Version.{Version, versionOf}
+use Rattle.record.specs.Prefix.{most-text, Prefix, prefix, textHeld}
+use Rattle.record.specs.Rooms.{needs, tooSmall, Lent, roomsOf}
 use Rattle.record.specs.Header as header
 use Rattle.record.specs.Layout.{headerLayout}
 use Rattle.record.specs.Within.{within}
@@ -52,7 +39,7 @@ use Rattle.check_table.specs.Reading.{unread, readDtype}
 use Rattle.check_record.specs.Checked.{checkedRecord}
 use Rattle.place_item.specs.Item.{itemOf}
 use Rattle.place.specs.Place.{runFrom, placed, placeOf}
-use Rattle.number_bytes.specs.Numbers.{little, inOrder}
+use Rattle.number_bytes.specs.Numbers.{inOrder}
 use Rattle.string_value.specs.declared.StringKind.{StringKind}
 use Rattle.string_value.specs.Elements.{kindOf, trimmed, bytesIn, scalar, points, pointsIn}
 use Rattle.string_value.specs.Runs.{zeroFilled, bytesOut, allScalars, pointBytes, pointsOut}
@@ -65,263 +52,7 @@ use Rattle.write.specs.Writes.{headerWritten}
 use Rattle.list_text.specs.Listing.{listing}
 use Rattle.list_record.specs.Answer.{listed}
 use Rattle.npy_codes.specs.Numbers.{orderFor, typeFor}
-
-abbrev pub Number : ℕ → Type 0
-Number n = (leb 1 n ≡ true) × (leb n 30 ≡ true)
-
-abbrev pub NumberedBy : {A : Type 0} → Outcome A → Type 0
-NumberedBy (gives a) = Unit {0}
-NumberedBy (refused n) = Number n
-
-pub record Numbered {A : Type 0} (o : Outcome A) : Type 0 where
-  pub so : NumberedBy o
-
--- ---- the ways of composing
-module _ {A : Type 0} where
-  an-answer : (a : A) → Numbered (gives a)
-  an-answer a = record { so = tt }
-
-  a-number : {n : ℕ} → Number n → Numbered {A = A} (refused n)
-  a-number h = record { so = h }
-
-  cond-numbered : (b : Bool) {x y : Outcome A} → Numbered x → Numbered y → Numbered (cond b x y)
-  cond-numbered true h k = h
-  cond-numbered false h k = k
-
-  unless-numbered : (b : Bool) (n : ℕ) {x : Outcome A} → Number n → Numbered x → Numbered (unless b n x)
-  unless-numbered true n e h = a-number e
-  unless-numbered false n e h = h
-
-module _ {A B : Type 0} where
-  pub then-numbered : (x : Outcome A) (f : A → Outcome B) → Numbered x → ((a : A) → Numbered (f a)) → Numbered (then x f)
-  then-numbered (gives a) f h k = k a
-  then-numbered (refused n) f h k = a-number (h .so)
-
-  pub each-numbered : (f : A → B) (x : Outcome A) → Numbered x → Numbered (each f x)
-  each-numbered f (gives a) h = an-answer (f a)
-  each-numbered f (refused n) h = a-number (h .so)
-
--- ---- type strings
-first-numbered : {A : Type 0} (test : A → Bool) (xs : List A) → Numbered (firstOf test xs)
-first-numbered test [] = a-number (refl, refl)
-first-numbered test (a ∷ more) = cond-numbered (test a) (an-answer a) (first-numbered test more)
-
-byte-order-numbered : (b : ℕ) → Numbered (orderOf b)
-unfolding orderOf
-byte-order-numbered b = first-numbered (λ o. eqb b (orderByte o)) orders
-
-letter-numbered : (b : ℕ) → Numbered (letterOf b)
-unfolding letterOf
-letter-numbered b = first-numbered (λ l. eqb b (letterByte l)) letters
-
-units-numbered : (text : List ℕ) → Numbered (unitsOf text)
-unfolding unitsOf
-units-numbered text = first-numbered (λ u. same text (unitText u [])) units
-
-sized-numbered : (o : Endianness) (l : TypeChar) (digits rest : List ℕ) → Numbered (sized o l digits rest)
-unfolding sized
-sized-numbered o l digits rest =
-    unless-numbered (not (sizeStands l digits)) 15 (refl, refl)
-    (each-numbered (λ units. record { order = o; letter = l; size = decimal digits; units = units }) (unitsOf rest) (units-numbered rest))
-
-syntax-numbered : (text : List ℕ) → Numbered (syntax text)
-unfolding syntax
-syntax-numbered [] = a-number (refl, refl)
-syntax-numbered (o ∷ []) = a-number (refl, refl)
-syntax-numbered (o ∷ l ∷ s) =
-    then-numbered (orderOf o) (λ a. then (letterOf l) (λ b. sizedBy a b s)) (byte-order-numbered o)
-    (λ a. then-numbered (letterOf l) (λ b. sizedBy a b s) (letter-numbered l) (λ b. sized-numbered a b (digitsOf s) (afterDigits s)))
-
-checked-numbered : (t : TypeStr) → Numbered (checked t)
-unfolding checked validated
-checked-numbered t =
-    unless-numbered (leb (2 ^ 64) (t .size)) 16 (refl, refl)
-    (unless-numbered (lacksOrder t) 17 (refl, refl)
-    (unless-numbered (not (allows (t .letter) (t .size))) 18 (refl, refl) (unless-numbered (misplacesUnits t) 19 (refl, refl) (an-answer t))))
-
-pub type-numbered : (text : List ℕ) → Numbered (typeString text)
-unfolding typeString
-type-numbered text = then-numbered (syntax text) checked (syntax-numbered text) checked-numbered
-
--- ---- the record of a value
-string-numbered : (n : ℕ) (v : Value) → Number n → Numbered (stringOr n v)
-string-numbered n (string w) h = an-answer w
-string-numbered n (integer minus i) h = a-number h
-string-numbered n True h = a-number h
-string-numbered n False h = a-number h
-string-numbered n None h = a-number h
-string-numbered n (list vs) h = a-number h
-string-numbered n (tuple vs) h = a-number h
-string-numbered n (dict es) h = a-number h
-
-members-numbered : (n : ℕ) (v : Value) → Number n → Numbered (membersOr n v)
-members-numbered n (string w) h = a-number h
-members-numbered n (integer minus i) h = a-number h
-members-numbered n True h = a-number h
-members-numbered n False h = a-number h
-members-numbered n None h = a-number h
-members-numbered n (list vs) h = an-answer vs
-members-numbered n (tuple vs) h = an-answer vs
-members-numbered n (dict es) h = a-number h
-
-items-numbered : (n : ℕ) (v : Value) → Number n → Numbered (itemsOr n v)
-items-numbered n (string w) h = a-number h
-items-numbered n (integer minus i) h = a-number h
-items-numbered n True h = a-number h
-items-numbered n False h = a-number h
-items-numbered n None h = a-number h
-items-numbered n (list vs) h = a-number h
-items-numbered n (tuple vs) h = a-number h
-items-numbered n (dict es) h = an-answer es
-
-last-numbered : (w : List ℕ) (was : Outcome Value) (es : Items) → Numbered was → Numbered (lastOf w was es)
-last-numbered w was end-of-items h = h
-last-numbered w was (item-then key v es) h =
-    last-numbered w (cond (isThe w (stringOr 8 key)) (gives v) was) es (cond-numbered (isThe w (stringOr 8 key)) (an-answer v) h)
-
-needed-numbered : (w : List ℕ) (es : Items) → Numbered (needed w es)
-needed-numbered w es = last-numbered w (refused 9) es (a-number (refl, refl))
-
-signed-numbered : (minus : Bool) (n : ℕ) → Numbered (signed minus n)
-signed-numbered true zero = an-answer 0
-signed-numbered true (suc n) = a-number (refl, refl)
-signed-numbered false n = unless-numbered (over n) 12 (refl, refl) (an-answer n)
-
-dimension-numbered : (v : Value) → Numbered (dimension v)
-dimension-numbered (string w) = a-number (refl, refl)
-dimension-numbered (integer minus n) = signed-numbered minus n
-dimension-numbered True = a-number (refl, refl)
-dimension-numbered False = a-number (refl, refl)
-dimension-numbered None = a-number (refl, refl)
-dimension-numbered (list vs) = a-number (refl, refl)
-dimension-numbered (tuple vs) = a-number (refl, refl)
-dimension-numbered (dict es) = a-number (refl, refl)
-
-dimensions-numbered : (vs : Values) → Numbered (dimensions vs)
-dimensions-numbered end-of-values = an-answer []
-dimensions-numbered (value-then v vs) =
-    then-numbered (dimension v) (λ n. each (λ ns. n ∷ ns) (dimensions vs)) (dimension-numbered v)
-    (λ n. each-numbered (λ ns. n ∷ ns) (dimensions vs) (dimensions-numbered vs))
-
-sub-shape-numbered : (v : Value) → Numbered (subShape v)
-sub-shape-numbered v = then-numbered (membersOr 11 v) dimensions (members-numbered 11 v (refl, refl)) dimensions-numbered
-
-shape-numbered : (v : Value) → Numbered (shapeOf v)
-shape-numbered v = then-numbered (subShape v) ranked (sub-shape-numbered v) (λ s. unless-numbered (overDimensions s) 13 (refl, refl) (an-answer s))
-
-perhaps-numbered : (vs : Values) → Numbered (perhaps vs)
-perhaps-numbered end-of-values = an-answer []
-perhaps-numbered (value-then v vs) = sub-shape-numbered v
-
-mutual
-  descr-numbered : (v : Value) → Numbered (descrOf v)
-  descr-numbered (string w) = each-numbered plain (typeString w) (type-numbered w)
-  descr-numbered (integer minus n) = a-number (refl, refl)
-  descr-numbered True = a-number (refl, refl)
-  descr-numbered False = a-number (refl, refl)
-  descr-numbered None = a-number (refl, refl)
-  descr-numbered (list vs) = each-numbered record-of (fieldsOf vs) (fields-numbered vs)
-  descr-numbered (tuple vs) = a-number (refl, refl)
-  descr-numbered (dict es) = a-number (refl, refl)
-
-  fields-numbered : (vs : Values) → Numbered (fieldsOf vs)
-  fields-numbered end-of-values = an-answer end-of-fields
-  fields-numbered (value-then v vs) =
-      then-numbered (fieldOf v) (λ f. each (field-then (f .name) (f .type)) (fieldsOf vs)) (field-numbered v)
-      (λ f. each-numbered (field-then (f .name) (f .type)) (fieldsOf vs) (fields-numbered vs))
-
-  field-numbered : (v : Value) → Numbered (fieldOf v)
-  field-numbered (string w) = a-number (refl, refl)
-  field-numbered (integer minus n) = a-number (refl, refl)
-  field-numbered True = a-number (refl, refl)
-  field-numbered False = a-number (refl, refl)
-  field-numbered None = a-number (refl, refl)
-  field-numbered (list vs) = unless-numbered (not (twoOrThree vs)) 14 (refl, refl) (named-numbered vs)
-  field-numbered (tuple vs) = unless-numbered (not (twoOrThree vs)) 14 (refl, refl) (named-numbered vs)
-  field-numbered (dict es) = a-number (refl, refl)
-
-  named-numbered : (vs : Values) → Numbered (namedOf vs)
-  named-numbered end-of-values = a-number (refl, refl)
-  named-numbered (value-then v vs) =
-      then-numbered (stringOr 14 v) (λ w. each (λ d. record { name = w; type = d }) (typedOf vs)) (string-numbered 14 v (refl, refl))
-      (λ w. each-numbered (λ d. record { name = w; type = d }) (typedOf vs) (typed-numbered vs))
-
-  typed-numbered : (vs : Values) → Numbered (typedOf vs)
-  typed-numbered end-of-values = a-number (refl, refl)
-  typed-numbered (value-then v vs) =
-      then-numbered (descrOf v) (λ d. each (λ ns. arrays ns d) (perhaps vs)) (descr-numbered v)
-      (λ d. each-numbered (λ ns. arrays ns d) (perhaps vs) (perhaps-numbered vs))
-
-order-numbered : (v : Value) → Numbered (from-value.declaredOrder v)
-order-numbered (string w) = a-number (refl, refl)
-order-numbered (integer minus n) = a-number (refl, refl)
-order-numbered True = an-answer Fortran
-order-numbered False = an-answer C
-order-numbered None = a-number (refl, refl)
-order-numbered (list vs) = a-number (refl, refl)
-order-numbered (tuple vs) = a-number (refl, refl)
-order-numbered (dict es) = a-number (refl, refl)
-
-limited-numbered : (r : Record) → Numbered (limited r)
-unfolding limited
-limited-numbered r =
-    unless-numbered (overDimensions (r .shape) || overLevels (r .dtype)) 13 (refl, refl)
-    (unless-numbered (overEntries (r .dtype)) 20 (refl, refl)
-    (unless-numbered (overSize (r .dtype)) 21 (refl, refl) (unless-numbered (overShape (r .order) (r .shape)) 22 (refl, refl) (an-answer r))))
-
-from-numbered : (es : Items) → Numbered (from-value.recordFrom es)
-unfolding from-value.recordFrom
-from-numbered es =
-    then-numbered (then (needed key-order es) from-value.declaredOrder) _ (then-numbered (needed key-order es) from-value.declaredOrder (needed-numbered key-order es) order-numbered)
-    (λ o. then-numbered (then (needed key-shape es) shapeOf) _ (then-numbered (needed key-shape es) shapeOf (needed-numbered key-shape es) shape-numbered)
-    (λ s. then-numbered (then (needed key-descr es) descrOf) _ (then-numbered (needed key-descr es) descrOf (needed-numbered key-descr es) descr-numbered) (λ d. limited-numbered (record { dtype = d; shape = s; order = o }))))
-
-record-numbered : (v : Value) → Numbered (from-value.recordOf v)
-unfolding from-value.recordOf
-record-numbered v = then-numbered (itemsOr 8 v) _ (items-numbered 8 v (refl, refl)) (λ es. unless-numbered (not (allStrings es)) 8 (refl, refl) (from-numbered es))
-
--- ---- a text and a file
-ill-numbered : (at : Option ℕ) → Numbered (unlessIll at)
-ill-numbered none = an-answer tt
-ill-numbered (some at) = a-number (refl, refl)
-
-value-numbered : (g : Got ℕ Value) → Numbered (header.valueRead g)
-value-numbered (got v p) = an-answer v
-value-numbered (fault p) = a-number (refl, refl)
-value-numbered (deep p) = a-number (refl, refl)
-
-in-numbered : (reading : header.Reading) (text : List ℕ) → Numbered (header.recordIn reading text)
-unfolding header.recordIn
-in-numbered reading text =
-    then-numbered (utf8 text) _ (ill-numbered (firstIll text))
-    (λ u. then-numbered (header.valueRead (reading text)) from-value.recordOf (value-numbered (reading text)) record-numbered)
-
-version-numbered : (a b : ℕ) → Numbered (versionOf a b)
-version-numbered a b =
-    cond-numbered (eqb a 1 && eqb b 0) (an-answer one-zero)
-    (cond-numbered (eqb a 2 && eqb b 0) (an-answer two-zero) (cond-numbered (eqb a 3 && eqb b 0) (an-answer three-zero) (a-number (refl, refl))))
-
-length-numbered : (v : Version) (file : List ℕ) → Numbered (lengthRead v file)
-length-numbered v file =
-    let n = little (take (lengthWidth v) (drop 8 file)) in
-    unless-numbered (ltb (length file) (textStart v)) 3 (refl, refl)
-    (unless-numbered (ltb most-text n) 4 (refl, refl) (an-answer (record { version = v; text-length = n })))
-
-prefix-numbered : (file : List ℕ) → Numbered (prefix file)
-unfolding prefix
-prefix-numbered file =
-    unless-numbered (ltb (length file) 8 || not (same (take 6 file) magic)) 1 (refl, refl)
-    (then-numbered (versionOf (getD file 6 0) (getD file 7 0)) (λ v. lengthRead v file) (version-numbered (getD file 6 0) (getD file 7 0)) (λ v. length-numbered v file))
-
-stored-numbered : (rooms : Rooms) (p : Prefix) (r : Record) → Numbered (header.stored rooms p r)
-unfolding header.stored
-stored-numbered rooms p r =
-    unless-numbered (tooSmall rooms (needs r)) 23 (refl, refl) (an-answer (record { version = p .version; says = r; data-start = dataStart p }))
-
--- the text, or the number of one that is missing
-part-numbered : (n : ℕ) (p : Prefix) (file : List ℕ) → Number n
-    → Numbered (unless (ltb (length file) (dataStart p)) n (gives (take (p .text-length) (drop (textStart (p .version)) file))))
-part-numbered n p file h = unless-numbered (ltb (length file) (dataStart p)) n h (an-answer (take (p .text-length) (drop (textStart (p .version)) file)))
+use Rattle.record.proofs.Numbers.{Number, Numbered, an-answer, a-number, cond-numbered, unless-numbered, then-numbered, each-numbered, type-numbered, limited-numbered, in-numbered, version-numbered, prefix-numbered, stored-numbered, part-numbered}
 
 held-numbered : (longer : Bool) (p : Prefix) (file : List ℕ) → Numbered (textHeld longer p file)
 unfolding textHeld

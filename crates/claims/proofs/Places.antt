@@ -18,9 +18,9 @@ use Rattle.dtype.specs.Entries.{hasObject}
 use Rattle.dtype.specs.PlainBytes.{plainBytes}
 use Rattle.dtype.specs.Shape.{inRange}
 use Rattle.dtype.specs.Record.{Record}
-use Rattle.dtype.specs.Paths.{plainAt, runOf, run}
+use Rattle.dtype.specs.Paths.{plainAt}
 use Rattle.dtype.specs.Places.{dataBytes, place, Ask}
-use Rattle.dtype.proofs.Runs.{Belongs, Path-to}
+use Rattle.dtype.proofs.Runs.{Belongs, Path-to, runOf, run}
 use Rattle.dtype.proofs.Items.{range-true}
 use Rattle.dtype.proofs.Paths.{path-plain}
 use Rattle.dtype.proofs.Places.{run-inside, owned, owned-once}
@@ -32,15 +32,15 @@ use Rattle.place.proofs.Placing.{place-given}
 use Rattle.place.proofs.Outcomes.{place-one}
 use Rattle.place.proofs.Walks.{path-or-none, plain-path}
 use Rattle.place_item.proofs.Sums.{range-of}
-use Rattle.read_back.specs.Rooms.{tableIn, namesIn, shapeIn}
 use Rattle.npy_codes.specs.Codes.{code, Tells}
 use Rattle.npy_codes.specs.Numbers.{orderNumber}
 use Rattle.npy_codes.specs.Values.{runValues}
 use Rattle.npy_codes.proofs.Named.{retold}
 use Rattle.claims.specs.Functions.{Place}
 use Rattle.claims.specs.InC.{Npy-place}
-use Rattle.claims.specs.Places.{Named-by, Owned, Data-owned, Data-owned-in-C}
-use Rattle.claims.proofs.Found.{told-value, order-back, read-was, npy-read-was, in-rooms, in-rooms-checked}
+use Rattle.claims.specs.Places.{Named-by, Owned, Record-owned, Record-owned-in-C, Data-owned, Data-owned-in-C}
+use Rattle.claims.proofs.WasRead.{was-read}
+use Rattle.claims.proofs.Found.{told-value, order-back, read-was, npy-read-was, in-rooms-checked}
 use Rattle.claims.proofs.Numbers.{place-numbered}
 
 -- ---- a path to a plain type, or 26
@@ -166,32 +166,34 @@ module _ (file start : ℕ) (t ns s : List ℕ) (o : Order) (room : List ℕ) wh
       }
 
 -- DEMAND 3
+pub record-owned : Record-owned
+record-owned file start t ns s o r accepted no-object long =
+    area-owned (Place file start t ns s o) Placed.At (Placed.Refused Refusal.Nowhere) (placeOf file start t ns s o) start r (place-answers file start t ns s o)
+    (by-formula file start t ns s o r accepted no-object long)
+
+pub record-owned-in-c : Record-owned-in-C
+record-owned-in-c file start t ns s o r accepted no-object long run =
+    area-owned (λ x p y. Npy-place file start t ns s (orderNumber o) x p run (y .0) (y .1)) (λ u. (0, runValues u)) (26, run) (placeOf file start t ns s o) start r
+    (npy-place-answers file start t ns s o run) (by-formula file start t ns s o r accepted no-object long)
+
 pub data-owned : Data-owned
 data-owned file l l′ x i h e =
     let w = read-was file l l′ x i h e in
-    let o = i .info .order in
     record {
-      says = w .header-is .says;
-      holds = in-rooms file l l′ i w;
-      owned = λ no-object long.
-          area-owned _ _ _ (placeOf (length file) (i .data-start) (tableIn (i .info) l′) (namesIn (i .info) l′) (shapeIn (i .info) l′) o) (i .data-start) (w .header-is .says)
-          (place-answers (length file) (i .data-start) (tableIn (i .info) l′) (namesIn (i .info) l′) (shapeIn (i .info) l′) o)
-          (by-formula (length file) (i .data-start) (tableIn (i .info) l′) (namesIn (i .info) l′) (shapeIn (i .info) l′) o (w .header-is .says) (in-rooms-checked file l l′ i w) no-object long);
+      header = w .header-is;
+      was-read = was-read file l l′ i w;
+      owned = record-owned (length file) (i .data-start) _ _ _ (i .info .order) (w .header-is .says) (in-rooms-checked file l l′ i w);
     }
 
 pub data-owned-in-c : Data-owned-in-C
 data-owned-in-c file l l′ said said′ h =
-    let (i, v, w) = npy-read-was file l l′ said said′ h in
-    let o = i .info .order in (
+    let (i, v, w) = npy-read-was file l l′ said said′ h in (
       i,
       v,
-      λ room.
+      λ run.
           record {
-            says = w .header-is .says;
-            holds = in-rooms file l l′ i w;
-            owned = λ no-object long.
-                area-owned _ _ _ (placeOf (length file) (i .data-start) (tableIn (i .info) l′) (namesIn (i .info) l′) (shapeIn (i .info) l′) o) (i .data-start) (w .header-is .says)
-                (npy-place-answers (length file) (i .data-start) (tableIn (i .info) l′) (namesIn (i .info) l′) (shapeIn (i .info) l′) o room)
-                (by-formula (length file) (i .data-start) (tableIn (i .info) l′) (namesIn (i .info) l′) (shapeIn (i .info) l′) o (w .header-is .says) (in-rooms-checked file l l′ i w) no-object long);
+            header = w .header-is;
+            was-read = was-read file l l′ i w;
+            owned = λ no-object long. record-owned-in-c (length file) (i .data-start) _ _ _ (i .info .order) (w .header-is .says) (in-rooms-checked file l l′ i w) no-object long run;
           },
     )

@@ -6,6 +6,8 @@ use mathlib.Core.Bool.{Bool, false}
 use mathlib.Core.List.{List}
 use lib.Dec.{ltb}
 use lib.ListN.{length, take}
+use Rattle.counts.specs.declared.Bytes.{Bytes}
+use Rattle.counts.specs.Front.{atFront}
 use Rattle.counts.specs.Outcome.{Outcome, each, afterwards}
 use Rattle.refusal.specs.declared.BytesAnswer.{BytesAnswer}
 use Rattle.dtype.specs.Record.{Record}
@@ -18,9 +20,10 @@ use Rattle.header.specs.declared.TextRead.{TextRead}
 use Rattle.header.specs.declared.HeaderRead.{HeaderRead}
 use Rattle.header.specs.Reads as reads
 use Rattle.list_file.specs.Report.{held-bytes, fresh, textFor, reportOf, Reports, WritesText}
+use Rattle.list_file.specs.Enough.{WritesReport}
 use Rattle.npy_codes.proofs.Named.{retold}
 use Rattle.npy.specs.Calls as npy
-use Rattle.claims.specs.Functions.{Read, Read-held, Read-text, Report}
+use Rattle.claims.specs.Functions.{Read, Read-held, Read-text, reportBy, Report, Report-whole}
 use Rattle.claims.specs.InC.{Npy-read, Npy-read-held, Npy-read-text}
 
 -- ---- the definitions with another reading
@@ -49,16 +52,23 @@ read-text-tied text l x l′ h =
       after = λ other keeps. h .after ∙ ap (λ (o : Outcome Record). afterwards holding o l) (text-same other keeps text l);
     }
 
-report-same : (other : header.Reading) → header.Keeps other → (file : List ℕ)
-    → reportOf file ≡ textFor (header.heldBy other (ltb held-bytes (length file)) (take held-bytes file) fresh)
+pub report-same : (other : header.Reading) → header.Keeps other → (file : List ℕ)
+    → reportOf file ≡ reportBy other file
 unfolding reportOf
 report-same other keeps file = ap textFor (held-same other keeps (ltb held-bytes (length file)) (take held-bytes file) fresh)
 
-text-moved : {text new out : List ℕ} {x : BytesAnswer} {out′ : List ℕ} → text ≡ new → WritesText text out x out′ → WritesText new out x out′
-text-moved e h = rw (sym e) h
+pub text-moved : {text new out : List ℕ} (x : BytesAnswer) {out′ : List ℕ} → text ≡ new → WritesText text out x out′ → WritesText new out x out′
+text-moved x e h = rw (sym e) h
 
 pub report-tied : (file out : List ℕ) (x : BytesAnswer) (out′ : List ℕ) → Reports file out x out′ → Report file out x out′
-report-tied file out x out′ h = λ other keeps. text-moved (report-same other keeps file) h
+report-tied file out x out′ h = λ other keeps. text-moved x (report-same other keeps file) h
+
+pub report-whole-tied : (file out : List ℕ) (n : Bytes) (out′ : List ℕ) → WritesReport file out n out′ → Report-whole file out n out′
+report-whole-tied file out n out′ h =
+    record {
+      answered = λ other keeps. h .answered ∙ ap length (report-same other keeps file);
+      after = λ other keeps. h .after ∙ ap (λ (text : List ℕ). atFront text out) (report-same other keeps file);
+    }
 
 -- ---- the same in C
 pub npy-read-held-tied : (longer : Bool) (file : List ℕ) (l : Lent) (said : List ℕ) (r : ℕ) (l′ : Lent) (said′ : List ℕ)

@@ -55,8 +55,10 @@ use Rattle.claims.specs.RoundTrips.{
   Read-written-in-C,
 }
 use Rattle.claims.proofs.Doors.{c-returned}
-use Rattle.claims.proofs.Found.{told-value, order-named, order-back, read-was, npy-read-was, in-rooms, by-whole, in-rooms-checked}
-use Rattle.claims.proofs.Numbers.{each-numbered, then-numbered, for-numbered, header-written-numbered}
+use Rattle.claims.proofs.Found.{told-value, order-named, order-back, read-was, npy-read-was, by-whole, in-rooms-checked}
+use Rattle.record.proofs.Numbers.{each-numbered, then-numbered}
+use Rattle.claims.proofs.Numbers.{for-numbered, header-written-numbered}
+use Rattle.claims.proofs.WasRead.{was-read}
 use Rattle.claims.proofs.Roomy.{roomy-fits, fits-roomy}
 
 -- ---- what was written is the header of the record that was accepted
@@ -203,8 +205,8 @@ read-back file l l′ x i h e =
     let given-is = by-whole file l l′ i w in
     let sound = read-readable reading reading-keeps file (roomsOf l) (w .header-is) given-is .writable .sound in
     let accepted = in-rooms-checked file l l′ i w in (
-      r,
-      in-rooms file l l′ i w,
+      w .header-is,
+      was-read file l l′ i w,
       λ out out′ v k.
           let is = ap (λ (c : Outcome Record). then c (λ r. writing r out)) accepted in
           goes-again in-rattle r out (bytesAnswer v) out′ _ (read-written reading reading-keeps file (roomsOf l) (w .header-is) given-is out .refused-only)
@@ -224,8 +226,8 @@ read-back-in-c file l l′ said said′ h =
       i,
       v,
       (
-        r,
-        in-rooms file l l′ i w,
+        w .header-is,
+        was-read file l l′ i w,
         λ out out′ count count′ c k.
             let is =
             ap (λ (g : Outcome Order). then g (λ o. headerWritten (tableIn (i .info) l′) (namesIn (i .info) l′) (shapeIn (i .info) l′) o out)) ordered

@@ -8,27 +8,31 @@ use mathlib.Core.List.{List}
 use Rattle.counts.specs.AllBytes.{AllBytes}
 use Rattle.counts.specs.Outcome.{gives}
 use Rattle.dtype.specs.declared.Order.{Order}
+use Rattle.dtype.specs.Limits.{limited}
 use Rattle.dtype.specs.Record.{Record, table, names}
 use Rattle.record.specs.File.{textLength}
 use Rattle.record.specs.Writing.{tooDeep}
 use Rattle.record.specs.Prefix.{most-text}
 use Rattle.record.specs.Rooms.{Lent}
+use Rattle.check_table.specs.Reading.{untyped, illNamed, isArray}
 use Rattle.check_record.specs.declared.Checked.{Checked}
 use Rattle.check_record.specs.declared.Summary.{Summary}
 use Rattle.check_record.specs.Answer as check-record
 use Rattle.header.specs.declared.HeaderRead.{HeaderRead}
-use Rattle.header.specs.Reads.{HeaderInfo, answer}
-use Rattle.read_back.specs.Rooms.{Fronts}
+use Rattle.header.specs.declared.RecordInfo.{RecordInfo}
+use Rattle.header.specs.declared.TextRead.{TextRead}
+use Rattle.header.specs.Reads.{HeaderInfo, answer, textAnswer}
+use Rattle.read_back.specs.Rooms.{Fronts, Holds}
 use Rattle.npy_codes.specs.Numbers.{orderNumber}
-use Rattle.npy_codes.specs.Values.{summaryValues}
+use Rattle.npy_codes.specs.Values.{textValues, summaryValues}
 use Rattle.claims.specs.Doors.{Door, in-rattle, in-c}
-use Rattle.claims.specs.Functions.{Read, Check}
-use Rattle.claims.specs.InC.{Npy-check}
+use Rattle.claims.specs.Exact.{In-text}
+use Rattle.claims.specs.Functions.{Read, Read-text, Check}
+use Rattle.claims.specs.InC.{Npy-check, Npy-read-text}
 
--- some file, made of bytes, is read as this record
+-- some file is read as this record
 pub record Some-file (t ns s : List ℕ) (o : Order) : Type 0 where
   pub file : List ℕ
-  pub bytes : AllBytes file
   pub before : Lent
   pub after : Lent
   pub result : HeaderRead
@@ -42,15 +46,31 @@ pub record Printable (r : Record) : Type 0 where
   pub shallow : tooDeep r ≡ false
   pub short : textLength r ≤ most-text
 
--- the result y of checking: a record that is read from some file is accepted; what is accepted is a record's table, names, shape and order, and, where its header is
--- printable, it is read from some file
+-- what an accepted table, names, shape and order are: those of a record whose types type strings give, whose names are UTF-8 and that is outermost no array (27), within 13,
+-- 20, 21 and 22; and, where its header is printable, some file, made of bytes, is read as it
+pub record Accepted-as (t ns s : List ℕ) (o : Order) (r : Record) : Type 0 where
+  pub table-is : t ≡ table (r .dtype)
+  pub names-are : ns ≡ names (r .dtype)
+  pub shape-is : s ≡ r .shape
+  pub order-is : o ≡ r .order
+  pub typed : untyped (r .dtype) ≡ false
+  pub well-named : illNamed (r .dtype) ≡ false
+  pub no-array : isArray (r .dtype) ≡ false
+  pub limits : limited r ≡ gives r
+  pub from-file : Printable r → (f : Some-file t ns s o) × AllBytes (f .file)
+
+-- the result y of checking: a record that is read from some file is accepted, and what is accepted is such a record
 pub record Accepts {R : Type 0} (door : Door Summary R) (t ns s : List ℕ) (o : Order) (y : R) : Type 0 where
   pub all-read : Some-file t ns s o → door .success y ≡ true
-  pub only-read : door .success y ≡ true
-      → (r : Record) × (t ≡ table (r .dtype)) × (ns ≡ names (r .dtype)) × (s ≡ r .shape) × (o ≡ r .order) × (Printable r → Some-file t ns s o)
+  pub only-read : door .success y ≡ true → (r : Record) × Accepted-as t ns s o r
 
 -- the claim, for every caller's record
 pub record Accepts-exactly : Type 0 where
   pub check : (t ns s : List ℕ) (o : Order) (x : Checked) → Check t ns s o x → Accepts in-rattle t ns s o (check-record.answer x)
   pub npy-check : (t ns s : List ℕ) (o : Order) (said : List ℕ) (r : ℕ) (said′ : List ℕ) → Npy-check t ns s (orderNumber o) said r said′
       → Accepts (in-c summaryValues said) t ns s o (r, said′)
+  -- what `header::read_text` and `npy_read_text` leave in the rooms is a text's record, and accepted
+  pub read-text : (text : List ℕ) (l l′ : Lent) (x : TextRead) (i : RecordInfo) → Read-text text l x l′ → textAnswer x ≡ gives i
+      → (r : Record) × In-text text r × Holds r i l′
+  pub npy-read-text : (text : List ℕ) (l l′ : Lent) (said said′ : List ℕ) → Npy-read-text text l said 0 l′ said′
+      → (i : RecordInfo) × (said′ ≡ textValues i) × ((r : Record) × In-text text r × Holds r i l′)

@@ -27,7 +27,6 @@ use Rattle.element.specs.Element.{elementBytes, elementPoints}
 use Rattle.npy_codes.specs.Codes.{alone}
 use Rattle.npy_codes.specs.Numbers.{orderFor, typeFor}
 use Rattle.npy_codes.specs.Values.{typeValues, textValues, headerValues, summaryValues, runValues}
-use Rattle.npy.specs.Calls.{Puts}
 use Rattle.claims.specs.Beyond.{Same-rest}
 use Rattle.claims.specs.Functions.{By-grammar}
 use Rattle.claims.specs.InC.{
@@ -122,8 +121,12 @@ pub record Rest-in-C : Type 0 where
   pub npy-write-header : (t ns s : List ℕ) (order : ℕ) (out count : List ℕ) → SparesBy (Npy-write-header t ns s order out count) out
   pub npy-list : (version start : ℕ) (t ns s : List ℕ) (order : ℕ) (out count : List ℕ) → SparesBy (Npy-list version start t ns s order out count) out
   pub npy-type-print : (order letter size units : ℕ) (out count : List ℕ) → SparesBy (Npy-type-print order letter size units out count) out
-  -- the six functions that read or write an element
-  pub puts : (put : Outcome (List ℕ)) (out count : List ℕ) → SparesBy (Puts put out count) out
+  pub npy-element-bytes : (file : List ℕ) (start : ℕ) (t ns s : List ℕ) (order : ℕ) (x p out count : List ℕ) → SparesBy (Npy-element-bytes file start t ns s order x p out count) out
+  pub npy-element-points : (file : List ℕ) (start : ℕ) (t ns s : List ℕ) (order : ℕ) (x p out count : List ℕ) → SparesBy (Npy-element-points file start t ns s order x p out count) out
+  pub npy-read-bytes : (run : List ℕ) (order letter size units : ℕ) (out count : List ℕ) → SparesBy (Npy-read-bytes run order letter size units out count) out
+  pub npy-read-points : (run : List ℕ) (order letter size units : ℕ) (out count : List ℕ) → SparesBy (Npy-read-points run order letter size units out count) out
+  pub npy-write-bytes : (order letter size units : ℕ) (value out count : List ℕ) → SparesBy (Npy-write-bytes order letter size units value out count) out
+  pub npy-write-points : (order letter size units : ℕ) (value out count : List ℕ) → SparesBy (Npy-write-points order letter size units value out count) out
   -- it writes one number for each dimension, and its value is the item count
   pub npy-strides : (s : List ℕ) (order : ℕ) (out count : List ℕ) (r : ℕ) (out′ count′ : List ℕ) → Npy-strides s order out count r out′ count′
       → drop (length s) out′ ≡ drop (length s) out

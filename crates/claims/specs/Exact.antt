@@ -1,5 +1,5 @@
 -- Demand 2, in both directions. Document 01, "What counts as an answer": "Demand 2 excludes a reader that refuses everything, one that returns a single fixed record, and a
--- writer that writes nothing: acceptance, record and bytes are all given here." Each function that reads a header, writes one, finds a place or reads an element accepts
+-- writer that writes nothing: acceptance, record and bytes are all given here." Each function that reads a header, writes one, finds a place, reads an element or writes one accepts
 -- exactly the inputs that document 01 accepts, and returns exactly their record, bytes, place or element. What a text gives is said by the grammar. With which number
 -- any other input is refused is said by the function's predicate (Functions.antt, InC.antt).
 use Prim.Native.Nat.{ℕ, _+_, _≤_}
@@ -17,6 +17,7 @@ use Rattle.literal_grammar.specs.Nesting.{most-open}
 use Rattle.literal_grammar.specs.Promise.{GivesIn}
 use Rattle.utf8.specs.Utf8.{WellFormed}
 use Rattle.type_str.specs.declared.TypeStr.{TypeStr}
+use Rattle.type_str.specs.Text.{isType}
 use Rattle.dtype.specs.declared.Order.{Order}
 use Rattle.dtype.specs.Entries.{hasObject}
 use Rattle.dtype.specs.Shape.{inRange}
@@ -32,6 +33,7 @@ use Rattle.record.specs.Writing.{tooDeep}
 use Rattle.check_record.specs.Checked.{checkedRecord}
 use Rattle.header.specs.declared.TextRead.{TextRead}
 use Rattle.header.specs.declared.HeaderRead.{HeaderRead}
+use Rattle.read_back.specs.Rooms.{Holds}
 use Rattle.header.specs.declared.RecordInfo.{RecordInfo}
 use Rattle.header.specs.Reads.{HeaderInfo, infoOf, headerInfo, answer, textAnswer}
 use Rattle.place_area.specs.declared.Run.{Run}
@@ -39,14 +41,26 @@ use Rattle.place.specs.declared.Placed.{Placed}
 use Rattle.place.specs.Answer as place-answer
 use Rattle.place.specs.Place.{runFrom, placeOf}
 use Rattle.string_value.specs.Elements.{kindOf, bytesIn, pointsIn}
+use Rattle.string_value.specs.Runs.{bytesOut, pointsOut}
 use Rattle.element.specs.Bytes.{runBytes}
 use Rattle.npy_codes.specs.Codes.{alone}
-use Rattle.npy_codes.specs.Numbers.{orderFor}
+use Rattle.npy_codes.specs.Numbers.{orderFor, typeFor}
 use Rattle.npy_codes.specs.Values.{textValues, headerValues, runValues}
 use Rattle.claims.specs.Doors.{Door, in-rattle, in-c}
 use Rattle.claims.specs.Roomy.{Roomy}
-use Rattle.claims.specs.Functions.{Read-held, Read-text, Write-header, Place, Element-bytes, Element-points}
-use Rattle.claims.specs.InC.{Npy-read-held, Npy-read-text, Npy-write-header, Npy-place, Npy-element-bytes, Npy-element-points}
+use Rattle.claims.specs.Functions.{Read-held, Read-text, Write-header, Place, Element-bytes, Element-points, Read-bytes, Read-points, Write-bytes, Write-points}
+use Rattle.claims.specs.InC.{
+  Npy-read-held,
+  Npy-read-text,
+  Npy-write-header,
+  Npy-place,
+  Npy-element-bytes,
+  Npy-element-points,
+  Npy-read-bytes,
+  Npy-read-points,
+  Npy-write-bytes,
+  Npy-write-points,
+}
 
 -- a call that returned y and left `after`: it succeeded exactly where some a is due, and then it returned a's value and stored a
 pub record Exactly {A B M R : Type 0} (door : Door B R) (Due : A → Type 0) (value : A → B) (store : A → M → M) (before : M) (y : R) (after : M) : Type 0 where
@@ -70,6 +84,12 @@ pub record In-file (file : List ℕ) (h : Header) : Type 0 where
   pub says : In-text text (h .says)
   pub version-is : h .version ≡ front .version
   pub data-starts : h .data-start ≡ dataStart front
+
+-- a header was read with the values i: the file begins with it, the rooms hold its record, and the check accepts that
+pub record Was-read (file : List ℕ) (i : HeaderInfo) (l′ : Lent) (h : Header) : Type 0 where
+  pub begins : In-file file h
+  pub values : i ≡ headerInfo h
+  pub holds : Holds (h .says) (i .info) l′
 
 -- the rooms are large enough for a record
 abbrev pub Fits : Lent → Record → Type 0
@@ -123,13 +143,26 @@ bytes-within k = bytesIn (kindOf (k .letter))
 abbrev pub points-within : TypeStr → List ℕ → Outcome (List ℕ)
 points-within k = pointsIn (kindOf (k .letter)) (k .order)
 
--- an element is read exactly there, and what is written is exactly the content
+-- an element by itself: its type k is one that readings give, the definition gives its content, or its run, and that fits the room
+pub record Alone (k : TypeStr) (given : Outcome (List ℕ)) (room content : List ℕ) : Type 0 where
+  pub typed : isType k ≡ true
+  pub is : given ≡ gives content
+  pub fits : length content ≤ length room
+
+-- how a value becomes the run of an element S or V, and of an element U
+abbrev pub bytes-out : TypeStr → List ℕ → Outcome (List ℕ)
+bytes-out k = bytesOut (kindOf (k .letter)) (k .size)
+
+abbrev pub points-out : TypeStr → List ℕ → Outcome (List ℕ)
+points-out k = pointsOut (kindOf (k .letter)) (k .order) (k .size)
+
+-- an element is read, or its run written, exactly there, and what goes to the room is exactly the content
 abbrev pub Takes-exactly : {R : Type 0} → Door ℕ R → (Due : List ℕ → Type 0) (room : List ℕ) (y : R) (room′ : List ℕ) → Type 0
 Takes-exactly door Due = Exactly door Due length atFront
 
--- ---- from C an order is given by a number, which has to name one
-abbrev pub In-order : {A : Type 0} → (order : ℕ) → (Order → A → Type 0) → A → Type 0
-In-order order Due a = (o : Order) × (orderFor order ≡ gives o) × Due o a
+-- ---- from C an order and a type are given by numbers, which have to name one
+abbrev pub By-number : {N A : Type 0} → (named : Outcome N) → (N → A → Type 0) → A → Type 0
+By-number {N} named Due a = (n : N) × (named ≡ gives n) × Due n a
 
 -- the claim, of every call
 pub record Exact : Type 0 where
@@ -146,6 +179,15 @@ pub record Exact : Type 0 where
   pub element-points : (file : List ℕ) (start : ℕ) (t ns s : List ℕ) (o : Order) (x p out : List ℕ) (y : PointsAnswer) (out′ : List ℕ)
       → Element-points file start t ns s o x p out y out′
       → Takes-exactly in-rattle (Element points-within (placeOf (length file) start t ns s o x p) file out) out (pointsAnswer y) out′
+  -- `string_element::read_bytes`, `read_points`, `write_bytes`, `write_points`
+  pub read-bytes : (run : List ℕ) (k : TypeStr) (out : List ℕ) (y : BytesAnswer) (out′ : List ℕ) → Read-bytes run k out y out′
+      → Takes-exactly in-rattle (Alone k (bytes-within k run) out) out (bytesAnswer y) out′
+  pub read-points : (run : List ℕ) (k : TypeStr) (out : List ℕ) (y : PointsAnswer) (out′ : List ℕ) → Read-points run k out y out′
+      → Takes-exactly in-rattle (Alone k (points-within k run) out) out (pointsAnswer y) out′
+  pub write-bytes : (k : TypeStr) (value out : List ℕ) (y : BytesAnswer) (out′ : List ℕ) → Write-bytes k value out y out′
+      → Takes-exactly in-rattle (Alone k (bytes-out k value) out) out (bytesAnswer y) out′
+  pub write-points : (k : TypeStr) (value out : List ℕ) (y : BytesAnswer) (out′ : List ℕ) → Write-points k value out y out′
+      → Takes-exactly in-rattle (Alone k (points-out k value) out) out (bytesAnswer y) out′
 
 -- the same of the functions of the C interface
 pub record Exact-in-C : Type 0 where
@@ -155,12 +197,24 @@ pub record Exact-in-C : Type 0 where
   pub npy-read-text : (text : List ℕ) (l : Lent) (said : List ℕ) (r : ℕ) (l′ : Lent) (said′ : List ℕ) → Npy-read-text text l said r l′ said′
       → Reads-text-exactly (in-c textValues said) text l (r, said′) l′
   pub npy-write-header : (t ns s : List ℕ) (order : ℕ) (out count : List ℕ) (r : ℕ) (out′ count′ : List ℕ) → Npy-write-header t ns s order out count r out′ count′
-      → Writes-exactly (in-c alone count) (In-order order (λ o. Writable t ns s o out)) out (r, count′) out′
+      → Writes-exactly (in-c alone count) (By-number (orderFor order) (λ o. Writable t ns s o out)) out (r, count′) out′
   pub npy-place : (file start : ℕ) (t ns s : List ℕ) (order : ℕ) (x p run : List ℕ) (r : ℕ) (run′ : List ℕ) → Npy-place file start t ns s order x p run r run′
-      → Places-exactly (in-c runValues run) (In-order order (λ o a. Named file start t ns s o x p (a .0) (a .1))) start x p (r, run′)
+      → Places-exactly (in-c runValues run) (By-number (orderFor order) (λ o a. Named file start t ns s o x p (a .0) (a .1))) start x p (r, run′)
   pub npy-element-bytes : (file : List ℕ) (start : ℕ) (t ns s : List ℕ) (order : ℕ) (x p out count : List ℕ) (r : ℕ) (out′ count′ : List ℕ)
       → Npy-element-bytes file start t ns s order x p out count r out′ count′
-      → Takes-exactly (in-c alone count) (In-order order (λ o. Element bytes-within (placeOf (length file) start t ns s o x p) file out)) out (r, count′) out′
+      → Takes-exactly (in-c alone count) (By-number (orderFor order) (λ o. Element bytes-within (placeOf (length file) start t ns s o x p) file out)) out (r, count′) out′
   pub npy-element-points : (file : List ℕ) (start : ℕ) (t ns s : List ℕ) (order : ℕ) (x p out count : List ℕ) (r : ℕ) (out′ count′ : List ℕ)
       → Npy-element-points file start t ns s order x p out count r out′ count′
-      → Takes-exactly (in-c alone count) (In-order order (λ o. Element points-within (placeOf (length file) start t ns s o x p) file out)) out (r, count′) out′
+      → Takes-exactly (in-c alone count) (By-number (orderFor order) (λ o. Element points-within (placeOf (length file) start t ns s o x p) file out)) out (r, count′) out′
+  pub npy-read-bytes : (run : List ℕ) (order letter size units : ℕ) (out count : List ℕ) (r : ℕ) (out′ count′ : List ℕ)
+      → Npy-read-bytes run order letter size units out count r out′ count′
+      → Takes-exactly (in-c alone count) (By-number (typeFor order letter size units) (λ k. Alone k (bytes-within k run) out)) out (r, count′) out′
+  pub npy-read-points : (run : List ℕ) (order letter size units : ℕ) (out count : List ℕ) (r : ℕ) (out′ count′ : List ℕ)
+      → Npy-read-points run order letter size units out count r out′ count′
+      → Takes-exactly (in-c alone count) (By-number (typeFor order letter size units) (λ k. Alone k (points-within k run) out)) out (r, count′) out′
+  pub npy-write-bytes : (order letter size units : ℕ) (value out count : List ℕ) (r : ℕ) (out′ count′ : List ℕ)
+      → Npy-write-bytes order letter size units value out count r out′ count′
+      → Takes-exactly (in-c alone count) (By-number (typeFor order letter size units) (λ k. Alone k (bytes-out k value) out)) out (r, count′) out′
+  pub npy-write-points : (order letter size units : ℕ) (value out count : List ℕ) (r : ℕ) (out′ count′ : List ℕ)
+      → Npy-write-points order letter size units value out count r out′ count′
+      → Takes-exactly (in-c alone count) (By-number (typeFor order letter size units) (λ k. Alone k (points-out k value) out)) out (r, count′) out′

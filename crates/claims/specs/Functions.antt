@@ -1,6 +1,6 @@
 -- One predicate for each function of the Rattle crates that a customer calls: what a call has returned, and what all that was lent then holds. The claims speak of these
 -- predicates, and src/lib.rt has for each of them a function that calls the customer's function with the same arguments and promises the predicate; so the checker holds
--- each claim to the function that it speaks of. t, ns, s and o are a caller's table, names, shape and order, x an index, p a path, l the three lent rooms of a reader,
+-- each claim to the function that it speaks of. t, ns, s and o are a caller's table, names, shape and order, p a path, l the three lent rooms of a reader,
 -- `room` or `out` one lent room; primed names are what was lent, after the call. The readers' predicates mention no reader: they hold with every reading of
 -- texts that keeps the grammar's promise (`Keeps`, record/specs/Header.antt), and Grammar.antt claims that there is one.
 use Prim.Native.Nat.{ℕ}
@@ -9,6 +9,8 @@ use mathlib.Core.Bool.{Bool, false}
 use mathlib.Core.List.{List}
 use lib.Dec.{ltb}
 use lib.ListN.{length, take}
+use Rattle.counts.specs.declared.Bytes.{Bytes}
+use Rattle.counts.specs.Front.{atFront}
 use Rattle.counts.specs.Outcome.{each, afterwards}
 use Rattle.counts.specs.Owes.{Owes}
 use Rattle.refusal.specs.declared.ItemsAnswer.{ItemsAnswer}
@@ -62,9 +64,18 @@ pub record Read-text (text : List ℕ) (l : Lent) (x : TextRead) (l′ : Lent) :
   pub answered : By-grammar (λ reading. header.textAnswer x ≡ each header.infoOf (textBy reading text l))
   pub after : By-grammar (λ reading. l′ ≡ afterwards holding (textBy reading text l) l)
 
+-- what is printed of a file, by any reading of texts
+abbrev pub reportBy : Reading → (file : List ℕ) → List ℕ
+reportBy reading file = textFor (heldBy reading (ltb held-bytes (length file)) (take held-bytes file) fresh)
+
 -- `list_file::report`
 abbrev pub Report : (file out : List ℕ) (x : BytesAnswer) (out′ : List ℕ) → Type 0
-Report file out x out′ = By-grammar (λ reading. WritesText (textFor (heldBy reading (ltb held-bytes (length file)) (take held-bytes file) fresh)) out x out′)
+Report file out x out′ = By-grammar (λ reading. WritesText (reportBy reading file) out x out′)
+
+-- `list_file::report_whole`: the same with room for every text, so with no refusal
+pub record Report-whole (file out : List ℕ) (n : Bytes) (out′ : List ℕ) : Type 0 where
+  pub answered : By-grammar (λ reading. n .0 ≡ length (reportBy reading file))
+  pub after : By-grammar (λ reading. out′ ≡ atFront (reportBy reading file) out)
 
 -- ---- a caller's record; the numbers of its table and shape are below 2^64, as every u64 is
 -- `check_record::check`

@@ -1,6 +1,6 @@
 -- One predicate for each function of the C interface (include/npy.h, crate npy), as Functions.antt has them for the Rattle crates: the number r that a call has returned,
--- and what all that was lent then holds. src/lib.rt ties each to its function. An order, a version and a type are given by numbers; said, count, item and run are the
--- numbers lent for the values; primed names are what was lent, after the call.
+-- and what all that was lent then holds. src/lib.rt ties each to its function. An order, a version and a type are given by numbers; said, count, item and the run of `npy_place` are
+-- the numbers lent for the values; primed names are what was lent, after the call.
 use Prim.Native.Nat.{ℕ}
 use mathlib.Core.Path.{_≡_}
 use mathlib.Core.Bool.{Bool, false}

@@ -8,7 +8,9 @@ pub mod Places
 pub mod Refusals
 pub mod Accepted
 pub mod Held
+pub mod Program
 pub mod Beyond
 pub mod Codes
 pub mod Edges
 pub mod Grammar
+pub mod Outcomes

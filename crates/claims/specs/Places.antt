@@ -1,5 +1,5 @@
 -- Demand 3, of `header::read` and `place::place`, and of `npy_read` and `npy_place`. Document 01, "What counts as an answer": "Demand 3 speaks of the record of demand 2, so an
--- empty table can't satisfy it, and a walk correct only for item 0 or the first field leaves bytes without an owner." After a file was read the rooms hold its record. If
+-- empty table can't satisfy it, and a walk correct only for item 0 or the first field leaves bytes without an owner." After a file was read the rooms hold its record, and the check accepts it. If
 -- that has no `O` and the file is at least as long as data start + count times item size, each index in range with each path to a plain type is answered with the run of
 -- that type's bytes at "data start + item size times the sum of index times stride + the offset inside the item" (`place`, dtype/specs/Places.antt), inside the data
 -- area; all else with 26; and each byte of the data area belongs to exactly one index, path and byte of the run that is returned for them.
@@ -11,21 +11,25 @@ use lib.ListN.{length}
 use Rattle.refusal.specs.declared.Refusal.{Refusal}
 use Rattle.counts.specs.Outcome.{gives}
 use Rattle.type_str.specs.declared.TypeStr.{TypeStr}
+use Rattle.dtype.specs.declared.Order.{Order}
 use Rattle.dtype.specs.Entries.{hasObject}
 use Rattle.dtype.specs.Shape.{inRange}
-use Rattle.dtype.specs.Record.{Record, table, names}
+use Rattle.dtype.specs.Record.{Record}
 use Rattle.dtype.specs.PlainBytes.{plainBytes}
 use Rattle.dtype.specs.Paths.{plainAt}
 use Rattle.dtype.specs.Places.{dataBytes, place, Ask}
 use Rattle.record.specs.Rooms.{Lent}
+use Rattle.record.specs.Header.{Header}
+use Rattle.check_record.specs.Checked.{checkedRecord}
 use Rattle.place_area.specs.declared.Run.{Run}
 use Rattle.place.specs.declared.Placed.{Placed}
 use Rattle.place.specs.Place.{runFrom}
 use Rattle.header.specs.declared.HeaderRead.{HeaderRead}
 use Rattle.header.specs.Reads.{HeaderInfo, answer}
-use Rattle.read_back.specs.Rooms.{tableIn, namesIn, shapeIn, Fronts}
+use Rattle.read_back.specs.Rooms.{tableIn, namesIn, shapeIn}
 use Rattle.npy_codes.specs.Numbers.{orderNumber}
 use Rattle.npy_codes.specs.Values.{headerValues, runValues}
+use Rattle.claims.specs.Exact.{Was-read}
 use Rattle.claims.specs.Functions.{Read, Place}
 use Rattle.claims.specs.InC.{Npy-read, Npy-place}
 
@@ -52,13 +56,26 @@ module _ {Y : Type 0} (Call : (x p : List ℕ) → Y → Type 0) (at : Run → Y
     pub each-byte : (b : ℕ) → b < dataBytes r → (a : Ask) × Named-by (start + b) a
     pub once : (b : ℕ) (a a′ : Ask) → Named-by b a → Named-by b a′ → a ≡ a′
 
--- after a header was read whose values are i: the rooms hold a record, and its data area, if it has no `O` and the file is long enough, is owned
-pub record Data-owned-by (file : List ℕ) (i : HeaderInfo) (l′ : Lent) (Area : (start : ℕ) → Record → Type 0) : Type 0 where
-  pub says : Record
-  pub holds : Fronts (table (says .dtype)) (names (says .dtype)) (says .shape) (says .order) (i .info) l′
-  pub owned : hasObject (says .dtype) ≡ false → i .data-start + dataBytes says ≤ length file → Area (i .data-start) says
+-- the first claim, of every caller's record that the check accepts, whoever made it, and every file that holds its data
+abbrev pub Record-owned : Type 0
+Record-owned =
+    (file start : ℕ) (t ns s : List ℕ) (o : Order) (r : Record) → checkedRecord t ns s o ≡ gives r → hasObject (r .dtype) ≡ false → start + dataBytes r ≤ file
+    → Owned (Place file start t ns s o) Placed.At (Placed.Refused Refusal.Nowhere) start r
 
--- the claim, for every file that is read
+-- the same in C: 0 and the run's values, or 26 and the values' room `run` as it was
+abbrev pub Record-owned-in-C : Type 0
+Record-owned-in-C =
+    (file start : ℕ) (t ns s : List ℕ) (o : Order) (r : Record) → checkedRecord t ns s o ≡ gives r → hasObject (r .dtype) ≡ false → start + dataBytes r ≤ file
+    → (run : List ℕ)
+    → Owned {Y = ℕ × List ℕ} (λ x p y. Npy-place file start t ns s (orderNumber o) x p run (y .0) (y .1)) (λ u. (0, runValues u)) (26, run) start r
+
+-- after a header was read whose values are i: the rooms hold the record of the file's header, and its data area, if it has no `O` and the file is long enough, is owned
+pub record Data-owned-by (file : List ℕ) (i : HeaderInfo) (l′ : Lent) (Area : (start : ℕ) → Record → Type 0) : Type 0 where
+  pub header : Header
+  pub was-read : Was-read file i l′ header
+  pub owned : hasObject (header .says .dtype) ≡ false → i .data-start + dataBytes (header .says) ≤ length file → Area (i .data-start) (header .says)
+
+-- the second claim, for every file that is read
 abbrev pub Data-owned : Type 0
 Data-owned =
     (file : List ℕ) (l l′ : Lent) (x : HeaderRead) (i : HeaderInfo) → Read file l x l′ → answer x ≡ gives i
@@ -66,7 +83,7 @@ Data-owned =
     (Owned (Place (length file) (i .data-start) (tableIn (i .info) l′) (namesIn (i .info) l′) (shapeIn (i .info) l′) (i .info .order))
     Placed.At (Placed.Refused Refusal.Nowhere))
 
--- the same in C: 0 and the run's values, or 26 and the values' room `run` as it was
+-- the same in C
 abbrev pub Data-owned-in-C : Type 0
 Data-owned-in-C =
     (file : List ℕ) (l l′ : Lent) (said said′ : List ℕ) → Npy-read file l said 0 l′ said′

@@ -14,6 +14,7 @@ use Rattle.dtype.specs.declared.Order.{Order}
 use Rattle.dtype.specs.Record.{Record, table, names}
 use Rattle.record.specs.Prefix.{most-text}
 use Rattle.record.specs.Rooms.{Lent}
+use Rattle.record.specs.Header.{Header}
 use Rattle.record.specs.File.{textLength, headerLength}
 use Rattle.header.specs.declared.HeaderRead.{HeaderRead}
 use Rattle.header.specs.Reads.{HeaderInfo, answer}
@@ -23,6 +24,7 @@ use Rattle.npy_codes.specs.Numbers.{orderNumber}
 use Rattle.npy_codes.specs.Values.{headerValues}
 use Rattle.claims.specs.Doors.{Door, in-rattle, in-c}
 use Rattle.claims.specs.Roomy.{Roomy}
+use Rattle.claims.specs.Exact.{Was-read}
 use Rattle.claims.specs.Functions.{Read, Write-header}
 use Rattle.claims.specs.InC.{Npy-read, Npy-write-header}
 
@@ -68,20 +70,24 @@ pub record Goes-again {R : Type 0} (door : Door ℕ R) (r : Record) (out : List 
   pub no-room : textLength r ≤ most-text → length out < headerLength r → (w ≡ door .returned (refused 28)) × (out′ ≡ out)
   pub written : textLength r ≤ most-text → headerLength r ≤ length out → (w ≡ door .returned (gives (headerLength r))) × Again (take (headerLength r) out′)
 
--- the second claim: the rooms hold a record, and it goes again
+-- reading the bytes gives the record r
+abbrev pub Same-record : ((bytes t ns s : List ℕ) → Order → Type 0) → Record → (bytes : List ℕ) → Type 0
+Same-record Back r bytes = Back bytes (table (r .dtype)) (names (r .dtype)) (r .shape) (r .order)
+
+-- the second claim: the rooms hold the record of the file's header, and it goes again
 abbrev pub Read-written : Type 0
 Read-written =
     (file : List ℕ) (l l′ : Lent) (x : HeaderRead) (i : HeaderInfo) → Read file l x l′ → answer x ≡ gives i
-    → (r : Record) × Fronts (table (r .dtype)) (names (r .dtype)) (r .shape) (r .order) (i .info) l′
+    → (h : Header) × Was-read file i l′ h
     × ((out out′ : List ℕ) (w : BytesAnswer) → Write-header (tableIn (i .info) l′) (namesIn (i .info) l′) (shapeIn (i .info) l′) (i .info .order) out w out′
-    → Goes-again in-rattle r out (bytesAnswer w) out′ (λ bytes. Read-back bytes (table (r .dtype)) (names (r .dtype)) (r .shape) (r .order)))
+    → Goes-again in-rattle (h .says) out (bytesAnswer w) out′ (Same-record Read-back (h .says)))
 
 -- the same in C
 abbrev pub Read-written-in-C : Type 0
 Read-written-in-C =
     (file : List ℕ) (l l′ : Lent) (said said′ : List ℕ) → Npy-read file l said 0 l′ said′
     → (i : HeaderInfo) × (said′ ≡ headerValues i)
-    × ((r : Record) × Fronts (table (r .dtype)) (names (r .dtype)) (r .shape) (r .order) (i .info) l′
+    × ((h : Header) × Was-read file i l′ h
     × ((out out′ count count′ : List ℕ) (w : ℕ)
     → Npy-write-header (tableIn (i .info) l′) (namesIn (i .info) l′) (shapeIn (i .info) l′) (orderNumber (i .info .order)) out count w out′ count′
-    → Goes-again (in-c alone count) r out (w, count′) out′ (λ bytes. Npy-read-back bytes (table (r .dtype)) (names (r .dtype)) (r .shape) (r .order))))
+    → Goes-again (in-c alone count) (h .says) out (w, count′) out′ (Same-record Npy-read-back (h .says))))

@@ -8,6 +8,7 @@ use dtype::Order;
 use header::HeaderRead;
 use header::TextRead;
 use header_prefix::Version;
+use list_file::ROOM;
 use place::Placed;
 use refusal::BytesAnswer;
 use refusal::ItemsAnswer;
@@ -16,7 +17,7 @@ use type_str::TypeRead;
 use type_str::TypeStr;
 ghost use Rattle.header_prefix.specs.Answer.{versionIs};
 ghost use Rattle.header.specs.Reads.{lent};
-ghost use Rattle.claims.specs.Functions.{Read, Read-held, Read-text, Report, Check, Write-header, List-record, Count, Strides, Item-number, Place, Element-bytes, Element-points, Read-bytes, Read-points, Write-bytes, Write-points, Type-read, Type-print, Encode};
+ghost use Rattle.claims.specs.Functions.{Read, Read-held, Read-text, Report, Report-whole, Check, Write-header, List-record, Count, Strides, Item-number, Place, Element-bytes, Element-points, Read-bytes, Read-points, Write-bytes, Write-points, Type-read, Type-print, Encode};
 ghost use Rattle.claims.specs.InC.{Npy-read, Npy-read-held, Npy-read-text, Npy-check, Npy-write-header, Npy-list, Npy-count, Npy-strides, Npy-item-number, Npy-place, Npy-element-bytes, Npy-element-points, Npy-read-bytes, Npy-read-points, Npy-write-bytes, Npy-write-points, Npy-type-read, Npy-type-print};
 
 // ---- the Rattle functions
@@ -49,6 +50,12 @@ fn list_file_report(file: &[u8], out: &mut [u8]) -> BytesAnswer
     ensures { λ r. ⌜ Report (now (file .entry)) (now (out .entry)) r (now (out .exit)) ⌝ }
 {
     list_file::report(file, out)
+}
+
+fn list_file_report_whole(file: &[u8], out: &mut [u8; ROOM]) -> Bytes
+    ensures { λ r. ⌜ Report-whole (now (file .entry)) (now (out .entry)) r (now (out .exit)) ⌝ }
+{
+    list_file::report_whole(file, out)
 }
 
 fn check_record_check(table: &[u64], names: &[u8], shape: &[u64], order: Order) -> Checked

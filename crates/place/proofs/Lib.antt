@@ -1,4 +1,3 @@
 pub mod Walks
 pub mod Placing
-pub mod Demand
 pub mod Outcomes

@@ -13,7 +13,7 @@ same-length c = search needs
 returns : tie.Need-returns
 returns c =
     let a = c .before .before .before .before .before .before .args in
-    report-tied (a .file .now) (a .out .now) _ _ (c .before .before .report .ensures)
+    report-tied (a .file .now) (a .out .now) (c .before .before .report .result) _ (c .before .before .report .ensures)
 
 pub list-file-report-spec : {M : Type 1} → statement M
 list-file-report-spec = tie.close (tie.spec report-requires same-length returns)
