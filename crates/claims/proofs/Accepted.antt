@@ -41,7 +41,7 @@ use Rattle.claims.specs.Doors.{Door, in-rattle, in-c}
 use Rattle.claims.specs.Accepted.{Some-file, Printable, Accepted-as, Accepts, Accepts-exactly}
 use Rattle.read_back.proofs.Accepted.{valid-sound, sound-checked}
 use Rattle.read_back.specs.Rooms.{Holds}
-use Rattle.read_back.proofs.Rooms.{stands-by, checked-fronts}
+use Rattle.read_back.proofs.Rooms.{fronts-by, checked-fronts}
 use Rattle.claims.proofs.Roomy.{roomy-fits}
 use Rattle.claims.proofs.Doors.{Fails, rattle-fails, c-fails, c-returned, succeeded}
 use Rattle.claims.proofs.Found.{told-value, order-back, read-was, in-rooms-checked}
@@ -107,7 +107,7 @@ own-file r sound limits p =
             });
         header = headerInfo (headerFor r);
         is = ap gives (told-eq r (declared-is (headerFor r .version)));
-        holds = stands-by r l (holding r l) (infoOf r) refl refl;
+        holds = fronts-by r l (holding r l) (infoOf r) refl refl;
       },
       bytes-append (fileOf r) [] (file-all-bytes r sound) tt,
     )
@@ -158,8 +158,8 @@ text-holds : (text : List ℕ) (l l′ : Lent) (r : Record) (i : RecordInfo) →
 text-holds text l l′ r i e is held =
     let says = fitted-in-text text l r e .0 in
     let w = text-readable reading reading-keeps text r (in-text-read text r says) in
-    let parts = stands-by r l l′ i is held in
-    (r, says, record { stands = parts; accepted = checked-fronts r i l′ parts (sound-checked r (w .sound) (w .limits)) })
+    let parts = fronts-by r l l′ i is held in
+    (r, says, record { fronts = parts; accepted = checked-fronts r i l′ parts (sound-checked r (w .sound) (w .limits)) })
 
 pub accepts-exactly : Accepts-exactly
 accepts-exactly =

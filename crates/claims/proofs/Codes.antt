@@ -35,7 +35,7 @@ use Rattle.npy_codes.specs.Numbers.{orderFor, typeFor}
 use Rattle.npy_codes.specs.Values.{typeValues, textValues, headerValues, summaryValues, runValues}
 use Rattle.npy.specs.Calls.{Puts}
 use Rattle.claims.specs.Beyond.{Same-rest}
-use Rattle.claims.specs.Codes.{Coded, Zero-answers, Rest-in-C}
+use Rattle.claims.specs.Codes.{Coded, Zero-answers, Refused-alone, Alone-in-C, Rest-in-C}
 use Rattle.record.proofs.Numbers.{Numbered, then-numbered, each-numbered, type-numbered}
 use Rattle.claims.proofs.Numbers.{held-header-numbered, text-numbered, for-numbered, version-for-numbered, type-for-numbered, record-checked-numbered, header-written-numbered, listed-numbered, type-printed-numbered, count-numbered, strides-numbered, item-numbered, place-numbered, read-bytes-numbered, read-points-numbered, write-bytes-numbered, write-points-numbered, element-bytes-numbered, element-points-numbered}
 use Rattle.claims.proofs.Refusals.{strides-left}
@@ -69,7 +69,7 @@ beside values o l l′ said said′ r h t k = coded values o h t (λ n e s. pair
 puts-coded : (put : Outcome (List ℕ)) (room count : List ℕ) (r : ℕ) (room′ count′ : List ℕ) → Numbered put → Puts put room count r room′ count′
     → Coded {M = List ℕ × List ℕ} alone (each length put) (room, count) r (room′, count′) count′
 puts-coded put room count r room′ count′ h c =
-    beside alone (each length put) room room′ count count′ r (each-numbered length put h) (c .told)
+    beside alone (each length put) room room′ count count′ r (each-numbered length put h) (c .answered)
     (λ n e. c .room-after ∙ afterwards-refused atFront length room put n e)
 
 strides-kept : (s room : List ℕ) (given : Outcome Order) (n : ℕ) → then given (λ o. shape.stridesCount o s (length room)) ≡ refused n
@@ -99,7 +99,7 @@ zero-answers =
           told-coded alone _ count r x (then-numbered (orderFor order) (λ o. shape.itemCount o s) (for-numbered order) (λ o. count-numbered o s)) c;
       npy-strides = λ s order room count r new told c.
           beside alone _ room new count told r
-          (then-numbered (orderFor order) (λ o. shape.stridesCount o s (length room)) (for-numbered order) (λ o. strides-numbered o s (length room))) (c .told)
+          (then-numbered (orderFor order) (λ o. shape.stridesCount o s (length room)) (for-numbered order) (λ o. strides-numbered o s (length room))) (c .answered)
           (λ n e. c .room-after ∙ strides-kept s room (orderFor order) n e);
       npy-item-number = λ s order index item r x c.
           told-coded alone _ item r x (then-numbered (orderFor order) (λ o. itemOf o s index) (for-numbered order) (λ o. item-numbered o s index)) c;
@@ -126,6 +126,31 @@ zero-answers =
       npy-type-print = λ order letter size units room count r new told c.
           puts-coded _ room count r new told
           (then-numbered (typeFor order letter size units) (λ t. typePrinted t room) (type-for-numbered order letter size units) (λ t. type-printed-numbered t room)) c;
+    }
+
+coded-alone : {A M : Type 0} {values : A → List ℕ} {o : Outcome A} {before after : M} {r : ℕ} {said : List ℕ} → Coded values o before r after said → Refused-alone before r after
+coded-alone c h = let w = c .other h in (w .from-one, w .to-thirty, w .unchanged)
+
+pub alone-in-c : Alone-in-C
+alone-in-c =
+    record {
+      npy-read-held = λ longer file l said r room′ said′ h. coded-alone (zero-answers .npy-read-held longer file l said reading reading-keeps r room′ said′ h);
+      npy-read-text = λ text l said r room′ said′ h. coded-alone (zero-answers .npy-read-text text l said reading reading-keeps r room′ said′ h);
+      npy-check = λ t ns s order said r said′ h. coded-alone (zero-answers .npy-check t ns s order said r said′ h);
+      npy-write-header = λ t ns s order out count r room′ said′ h. coded-alone (zero-answers .npy-write-header t ns s order out count r room′ said′ h);
+      npy-list = λ version start t ns s order out count r room′ said′ h. coded-alone (zero-answers .npy-list version start t ns s order out count r room′ said′ h);
+      npy-count = λ s order count r said′ h. coded-alone (zero-answers .npy-count s order count r said′ h);
+      npy-strides = λ s order out count r room′ said′ h. coded-alone (zero-answers .npy-strides s order out count r room′ said′ h);
+      npy-item-number = λ s order x item r said′ h. coded-alone (zero-answers .npy-item-number s order x item r said′ h);
+      npy-place = λ file start t ns s order x p run r said′ h. coded-alone (zero-answers .npy-place file start t ns s order x p run r said′ h);
+      npy-element-bytes = λ file start t ns s order x p out count r room′ said′ h. coded-alone (zero-answers .npy-element-bytes file start t ns s order x p out count r room′ said′ h);
+      npy-element-points = λ file start t ns s order x p out count r room′ said′ h. coded-alone (zero-answers .npy-element-points file start t ns s order x p out count r room′ said′ h);
+      npy-read-bytes = λ run order letter size units out count r room′ said′ h. coded-alone (zero-answers .npy-read-bytes run order letter size units out count r room′ said′ h);
+      npy-read-points = λ run order letter size units out count r room′ said′ h. coded-alone (zero-answers .npy-read-points run order letter size units out count r room′ said′ h);
+      npy-write-bytes = λ order letter size units value out count r room′ said′ h. coded-alone (zero-answers .npy-write-bytes order letter size units value out count r room′ said′ h);
+      npy-write-points = λ order letter size units value out count r room′ said′ h. coded-alone (zero-answers .npy-write-points order letter size units value out count r room′ said′ h);
+      npy-type-read = λ text said r said′ h. coded-alone (zero-answers .npy-type-read text said r said′ h);
+      npy-type-print = λ order letter size units out count r room′ said′ h. coded-alone (zero-answers .npy-type-print order letter size units out count r room′ said′ h);
     }
 
 -- ---- what was not needed
@@ -161,7 +186,7 @@ spares (refused j) room room′ count n h k e = ap (drop n) (k j refl)
 spared : (put : Outcome (List ℕ)) (room count : List ℕ) (r : ℕ) (room′ : List ℕ) (n : ℕ) → Puts put room count r room′ (n ∷ []) → drop n room′ ≡ drop n room
 spared put room count r room′ n c =
     spares (each length put) room room′ count n (λ m e. owes-rest put room (each length put) room′ m (record { answered = refl; room-after = c .room-after }) e)
-    (λ k e. c .room-after ∙ afterwards-refused atFront length room put k e) (c .told .after)
+    (λ k e. c .room-after ∙ afterwards-refused atFront length room put k e) (c .answered .after)
 
 strides-behind : (o : Order) (s out : List ℕ) (c : Outcome ℕ) → drop (length s) (afterwards (λ n. atFront (strides o s)) c out) ≡ drop (length s) out
 strides-behind o s out (gives n) = strides-rest o s out n (gives n) refl

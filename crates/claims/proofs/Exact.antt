@@ -347,7 +347,7 @@ takes-in-c : {N : Type 0} (named : Outcome N) (next : N → Outcome (List ℕ)) 
     → ((n : N) (c : List ℕ) → Due n c → next n ≡ gives c) → ((n : N) (c : List ℕ) → next n ≡ gives c → Due n c) → (count : List ℕ) (r : ℕ) (out′ count′ : List ℕ)
     → Puts (then named next) out count r out′ count′ → Takes-exactly (in-c alone count) (By-number named Due) out (r, count′) out′
 takes-in-c named next Due out first numbered due back count r out′ count′ h =
-    takes-exactly (in-c alone count) (By-number named Due) out (r, count′) out′ (then named next) (c-returned (h .told)) (h .room-after)
+    takes-exactly (in-c alone count) (By-number named Due) out (r, count′) out′ (then named next) (c-returned (h .answered)) (h .room-after)
     (c-fails alone count _ (each-numbered length _ (then-numbered named next first numbered)))
     (by-number named next (λ c. c) due)
     (λ c e. let g = then-back named next c e in (g .0, g .1, back (g .0) c (g .2)))
@@ -379,7 +379,7 @@ exact-in-c =
           (c-fails textValues said _ (each-numbered infoOf _ (text-numbered reading text l)));
       npy-write-header = λ t ns s order out count r out′ count′ h.
           writes-exactly (in-c alone count) (By-number (orderFor order) (λ o. Writable t ns s o out)) out (r, count′) out′ (then (orderFor order) (λ o. headerWritten t ns s o out))
-          (c-returned (h .writes .told)) (h .writes .room-after)
+          (c-returned (h .writes .answered)) (h .writes .room-after)
           (c-fails alone count _ (each-numbered length _ (then-numbered (orderFor order) (λ o. headerWritten t ns s o out) (for-numbered order) (λ o. header-written-numbered t ns s o out))))
           (by-number (orderFor order) (λ o. headerWritten t ns s o out) fileOf (λ o. writable-writes t ns s o out))
           (number-by (orderFor order) (λ o. headerWritten t ns s o out) (λ o. writes-writable t ns s o out));

@@ -21,7 +21,7 @@ use Rattle.judge.proofs.Top.{reading-keeps}
 use Rattle.header.specs.declared.HeaderRead.{HeaderRead}
 use Rattle.header.specs.Reads.{HeaderInfo, headerInfo, answer, heldInto}
 use Rattle.read_back.specs.Rooms.{tableIn, namesIn, shapeIn, Fronts}
-use Rattle.read_back.proofs.Rooms.{stands-by, checked-fronts}
+use Rattle.read_back.proofs.Rooms.{fronts-by, checked-fronts}
 use Rattle.read_back.proofs.Accepted.{read-checked}
 use Rattle.npy_codes.specs.Codes.{Tells}
 use Rattle.npy_codes.specs.Numbers.{orderNumber, orderFor}
@@ -86,7 +86,7 @@ module _ (file : List ℕ) (l l′ : Lent) (i : HeaderInfo) (w : Was-read file l
   says = w .header-is .says
 
   pub in-rooms : Fronts (table (says .dtype)) (names (says .dtype)) (says .shape) (says .order) (i .info) l′
-  in-rooms = stands-by says l l′ (i .info) (ap (λ (t : HeaderInfo). t .info) (w .values)) (w .held)
+  in-rooms = fronts-by says l l′ (i .info) (ap (λ (t : HeaderInfo). t .info) (w .values)) (w .held)
 
   pub by-whole : header.heldBy reading false file l ≡ gives (w .header-is)
   by-whole = w .given

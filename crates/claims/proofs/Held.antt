@@ -86,7 +86,7 @@ held-enough =
                 let same = front-within k file twelve longer ends l in
                 npy-read-held-tied false file l said r l′ said′
                 (record {
-                  told = retold (ap (each headerInfo) same) (h .answered reading reading-keeps);
+                  answered = retold (ap (each headerInfo) same) (h .answered reading reading-keeps);
                   rooms = h .after reading reading-keeps ∙ ap (λ (o : Outcome header.Header). afterwards header.holdingHeader o l) same;
                 });
             past = λ p e ends.

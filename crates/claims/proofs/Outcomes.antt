@@ -34,8 +34,8 @@ held-one longer file l x y p q =
 
 npy-held-one : (longer : Bool) (file : List ℕ) (l : Lent) (said : List ℕ) → Beside-both (Npy-read-held longer file l said)
 npy-held-one longer file l said x y p q =
-    npy.npy-read-held-one longer file l said x y (record { told = p .answered reading reading-keeps; rooms = p .after reading reading-keeps })
-    (record { told = q .answered reading reading-keeps; rooms = q .after reading reading-keeps })
+    npy.npy-read-held-one longer file l said x y (record { answered = p .answered reading reading-keeps; rooms = p .after reading reading-keeps })
+    (record { answered = q .answered reading reading-keeps; rooms = q .after reading reading-keeps })
 
 pub one-outcome : One-outcome
 one-outcome =
@@ -77,8 +77,8 @@ one-outcome-in-c =
       npy-read = npy-held-one false;
       npy-read-held = npy-held-one;
       npy-read-text = λ text l said x y p q.
-          npy.npy-read-text-one text l said x y (record { told = p .answered reading reading-keeps; rooms = p .after reading reading-keeps })
-          (record { told = q .answered reading reading-keeps; rooms = q .after reading reading-keeps });
+          npy.npy-read-text-one text l said x y (record { answered = p .answered reading reading-keeps; rooms = p .after reading reading-keeps })
+          (record { answered = q .answered reading reading-keeps; rooms = q .after reading reading-keeps });
       npy-check = λ t ns s order said x y p q. npy.told-one _ _ said x y (p .answered) (q .answered);
       npy-write-header = λ t ns s order out count x y p q. npy.npy-write-header-one t ns s order out count x y (p .writes) (q .writes);
       npy-list = λ version start t ns s order out count. npy.npy-list-one version start t ns s order out count;

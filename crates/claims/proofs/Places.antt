@@ -32,6 +32,7 @@ use Rattle.place.proofs.Placing.{place-given}
 use Rattle.place.proofs.Outcomes.{place-one}
 use Rattle.place.proofs.Walks.{path-or-none, plain-path}
 use Rattle.place_item.proofs.Sums.{range-of}
+use Rattle.header.specs.Reads.{infoOf, headerInfo}
 use Rattle.npy_codes.specs.Codes.{code, Tells}
 use Rattle.npy_codes.specs.Numbers.{orderNumber}
 use Rattle.npy_codes.specs.Values.{runValues}
@@ -39,8 +40,8 @@ use Rattle.npy_codes.proofs.Named.{retold}
 use Rattle.claims.specs.Functions.{Place}
 use Rattle.claims.specs.InC.{Npy-place}
 use Rattle.claims.specs.Places.{Named-by, Owned, Record-owned, Record-owned-in-C, Data-owned, Data-owned-in-C}
-use Rattle.claims.proofs.WasRead.{was-read}
-use Rattle.claims.proofs.Found.{told-value, order-back, read-was, npy-read-was, in-rooms-checked}
+use Rattle.claims.proofs.WasRead.{values-one, holds-own}
+use Rattle.claims.proofs.Found.{told-value, order-back, read-was, npy-read-was}
 use Rattle.claims.proofs.Numbers.{place-numbered}
 
 -- ---- a path to a plain type, or 26
@@ -177,23 +178,20 @@ record-owned-in-c file start t ns s o r accepted no-object long run =
     (npy-place-answers file start t ns s o run) (by-formula file start t ns s o r accepted no-object long)
 
 pub data-owned : Data-owned
-data-owned file l l′ x i h e =
-    let w = read-was file l l′ x i h e in
+data-owned file l l′ x h c e held =
+    let w = read-was file l l′ x (headerInfo h) c e in
+    let own = holds-own file l l′ (headerInfo h) w h refl held in
     record {
-      header = w .header-is;
-      was-read = was-read file l l′ i w;
-      owned = record-owned (length file) (i .data-start) _ _ _ (i .info .order) (w .header-is .says) (in-rooms-checked file l l′ i w);
+      holds = own;
+      owned = record-owned (length file) (h .data-start) _ _ _ (infoOf (h .says) .order) (h .says) (own .accepted);
     }
 
 pub data-owned-in-c : Data-owned-in-C
-data-owned-in-c file l l′ said said′ h =
-    let (i, v, w) = npy-read-was file l l′ said said′ h in (
-      i,
-      v,
-      λ run.
-          record {
-            header = w .header-is;
-            was-read = was-read file l l′ i w;
-            owned = λ no-object long. record-owned-in-c (length file) (i .data-start) _ _ _ (i .info .order) (w .header-is .says) (in-rooms-checked file l l′ i w) no-object long run;
-          },
-    )
+data-owned-in-c file l l′ said said′ h c e held run =
+    let (i, v, w) = npy-read-was file l l′ said said′ c in
+    let info-is = values-one i (headerInfo h) (sym v ∙ e) .0 in
+    let own = holds-own file l l′ i w h info-is held in
+    record {
+      holds = own;
+      owned = λ no-object long. record-owned-in-c (length file) (h .data-start) _ _ _ (infoOf (h .says) .order) (h .says) (own .accepted) no-object long run;
+    }

@@ -75,7 +75,7 @@ pub npy-read-held-tied : (longer : Bool) (file : List ℕ) (l : Lent) (said : Li
     → npy.ReadsHeld longer file l said r l′ said′ → Npy-read-held longer file l said r l′ said′
 npy-read-held-tied longer file l said r l′ said′ h =
     record {
-      answered = λ other keeps. retold (ap (each reads.headerInfo) (held-same other keeps longer file l)) (h .told);
+      answered = λ other keeps. retold (ap (each reads.headerInfo) (held-same other keeps longer file l)) (h .answered);
       after = λ other keeps. h .rooms ∙ ap (λ (o : Outcome header.Header). afterwards header.holdingHeader o l) (held-same other keeps longer file l);
     }
 
@@ -86,6 +86,6 @@ pub npy-read-text-tied : (text : List ℕ) (l : Lent) (said : List ℕ) (r : ℕ
     → npy.ReadsText text l said r l′ said′ → Npy-read-text text l said r l′ said′
 npy-read-text-tied text l said r l′ said′ h =
     record {
-      answered = λ other keeps. retold (ap (each reads.infoOf) (text-same other keeps text l)) (h .told);
+      answered = λ other keeps. retold (ap (each reads.infoOf) (text-same other keeps text l)) (h .answered);
       after = λ other keeps. h .rooms ∙ ap (λ (o : Outcome Record). afterwards holding o l) (text-same other keeps text l);
     }

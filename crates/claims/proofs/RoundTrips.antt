@@ -34,11 +34,11 @@ use Rattle.check_record.specs.Checked.{checkedRecord}
 use Rattle.check_record.proofs.Accepts.{accepts-valid}
 use Rattle.judge.specs.Judged.{reading}
 use Rattle.judge.proofs.Top.{reading-keeps}
-use Rattle.header.specs.Reads.{HeaderInfo, headerInfo, answer, heldInto}
+use Rattle.header.specs.Reads.{HeaderInfo, headerInfo, answer, heldInto, infoOf}
 use Rattle.write.specs.Writes.{headerWritten}
 use Rattle.read_back.specs.Rooms.{tableIn, namesIn, shapeIn}
 use Rattle.read_back.proofs.Accepted.{valid-sound}
-use Rattle.read_back.proofs.Rooms.{stands-by}
+use Rattle.read_back.proofs.Rooms.{fronts-by}
 use Rattle.npy_codes.specs.Codes.{alone}
 use Rattle.npy_codes.specs.Numbers.{orderFor}
 use Rattle.npy_codes.specs.Values.{headerValues}
@@ -55,10 +55,10 @@ use Rattle.claims.specs.RoundTrips.{
   Read-written-in-C,
 }
 use Rattle.claims.proofs.Doors.{c-returned}
-use Rattle.claims.proofs.Found.{told-value, order-named, order-back, read-was, npy-read-was, by-whole, in-rooms-checked}
+use Rattle.claims.proofs.Found.{told-value, order-named, order-back, Was-read, read-was, npy-read-was, by-whole}
 use Rattle.record.proofs.Numbers.{each-numbered, then-numbered}
 use Rattle.claims.proofs.Numbers.{for-numbered, header-written-numbered}
-use Rattle.claims.proofs.WasRead.{was-read}
+use Rattle.claims.proofs.WasRead.{values-one, says-is, holds-own}
 use Rattle.claims.proofs.Roomy.{roomy-fits, fits-roomy}
 
 -- ---- what was written is the header of the record that was accepted
@@ -93,7 +93,7 @@ module _ {R : Type 0} (door : Door HeaderInfo R) (r : Record) (l l′ : Lent) (y
                   header = headerInfo (headerFor r);
                   is = a ∙ ap (λ (q : Outcome header.Header). door .returned (each headerInfo q)) k;
                   starts = sym (file-whole r);
-                  holds = stands-by r l l′ (headerInfo (headerFor r) .info) refl (b ∙ ap (λ (q : Outcome header.Header). afterwards header.holdingHeader q l) k);
+                  holds = fronts-by r l l′ (headerInfo (headerFor r) .info) refl (b ∙ ap (λ (q : Outcome header.Header). afterwards header.holdingHeader q l) k);
                 };
             no-room = λ h. absurd (h (fits-roomy r l fits));
           }
@@ -165,7 +165,7 @@ pub written-back-in-c : Written-read-in-C
 written-back-in-c t ns s order out out′ count n h =
     let put = then (orderFor order) (λ o. headerWritten t ns s o out) in
     let numbered = then-numbered (orderFor order) (λ o. headerWritten t ns s o out) (for-numbered order) (λ o. header-written-numbered t ns s o out) in
-    let (m, e, v) = told-value (each length put) (each-numbered length put numbered) (h .writes .told) in
+    let (m, e, v) = told-value (each length put) (each-numbered length put numbered) (h .writes .answered) in
     let (bytes, is, len) = each-back length put m e in
     let (o, named, written-is) = then-back (orderFor order) (λ o. headerWritten t ns s o out) bytes is in
     let same : m ≡ n = cc in
@@ -196,44 +196,37 @@ goes-again door r out w out′ Again only is after again =
           );
     }
 
+-- the writer's outcome for a record that was read
+writes-so : (file : List ℕ) (l l′ : Lent) (i : HeaderInfo) (w : Was-read file l l′ i) (r : Record) → w .header-is .says ≡ r
+    → Sound r × ((out : List ℕ) → writing r out ≡ unless (ltb most-text (textLength r)) 4 (roomed 28 out (fileOf r)))
+writes-so file l l′ i w r e =
+    let given-is = by-whole file l l′ i w in
+    subst (λ (r : Record). Sound r × ((out : List ℕ) → writing r out ≡ unless (ltb most-text (textLength r)) 4 (roomed 28 out (fileOf r)))) e (
+      read-readable reading reading-keeps file (roomsOf l) (w .header-is) given-is .writable .sound,
+      λ out. read-written reading reading-keeps file (roomsOf l) (w .header-is) given-is out .refused-only,
+    )
+
 -- WHAT WAS READ CAN BE WRITTEN, 4 AND 28 ASIDE, AND COMES BACK
 pub read-back : Read-written
 unfolding headerWritten
-read-back file l l′ x i h e =
-    let w = read-was file l l′ x i h e in
-    let r = w .header-is .says in
-    let given-is = by-whole file l l′ i w in
-    let sound = read-readable reading reading-keeps file (roomsOf l) (w .header-is) given-is .writable .sound in
-    let accepted = in-rooms-checked file l l′ i w in (
-      w .header-is,
-      was-read file l l′ i w,
-      λ out out′ v k.
-          let is = ap (λ (c : Outcome Record). then c (λ r. writing r out)) accepted in
-          goes-again in-rattle r out (bytesAnswer v) out′ _ (read-written reading reading-keeps file (roomsOf l) (w .header-is) given-is out .refused-only)
-          (k .writes .answered ∙ ap (each length) is) (k .writes .room-after ∙ ap (λ (o : Outcome (List ℕ)). afterwards atFront o out) is)
-          (λ e. sound-back r sound out e),
-    )
+read-back file l l′ x h c e held out out′ v k =
+    let w = read-was file l l′ x (headerInfo h) c e in
+    let own = holds-own file l l′ (headerInfo h) w h refl held in
+    let (sound, only) = writes-so file l l′ (headerInfo h) w (h .says) (says-is file l l′ (headerInfo h) w h refl held) in
+    let is = ap (λ (c : Outcome Record). then c (λ r. writing r out)) (own .accepted) in
+    goes-again in-rattle (h .says) out (bytesAnswer v) out′ _ (only out) (k .writes .answered ∙ ap (each length) is)
+    (k .writes .room-after ∙ ap (λ (o : Outcome (List ℕ)). afterwards atFront o out) is) (λ e. sound-back (h .says) sound out e)
 
 pub read-back-in-c : Read-written-in-C
 unfolding headerWritten
-read-back-in-c file l l′ said said′ h =
-    let (i, v, w) = npy-read-was file l l′ said said′ h in
-    let r = w .header-is .says in
-    let given-is = by-whole file l l′ i w in
-    let sound = read-readable reading reading-keeps file (roomsOf l) (w .header-is) given-is .writable .sound in
-    let accepted = in-rooms-checked file l l′ i w in
-    let ordered = order-back (i .info .order) in (
-      i,
-      v,
-      (
-        w .header-is,
-        was-read file l l′ i w,
-        λ out out′ count count′ c k.
-            let is =
-            ap (λ (g : Outcome Order). then g (λ o. headerWritten (tableIn (i .info) l′) (namesIn (i .info) l′) (shapeIn (i .info) l′) o out)) ordered
-            ∙ ap (λ (c : Outcome Record). then c (λ r. writing r out)) accepted in
-            goes-again (in-c alone count) r out (c, count′) out′ _ (read-written reading reading-keeps file (roomsOf l) (w .header-is) given-is out .refused-only)
-            (c-returned (retold (ap (each length) is) (k .writes .told))) (k .writes .room-after ∙ ap (λ (o : Outcome (List ℕ)). afterwards atFront o out) is)
-            (λ e. npy-sound-back r sound out e),
-      ),
-    )
+read-back-in-c file l l′ said said′ h c e held out out′ count count′ v k =
+    let (i, values, w) = npy-read-was file l l′ said said′ c in
+    let info-is = values-one i (headerInfo h) (sym values ∙ e) .0 in
+    let own = holds-own file l l′ i w h info-is held in
+    let (sound, only) = writes-so file l l′ i w (h .says) (says-is file l l′ i w h info-is held) in
+    let n = infoOf (h .says) in
+    let is =
+    ap (λ (g : Outcome Order). then g (λ o. headerWritten (tableIn n l′) (namesIn n l′) (shapeIn n l′) o out)) (order-back (n .order))
+    ∙ ap (λ (c : Outcome Record). then c (λ r. writing r out)) (own .accepted) in
+    goes-again (in-c alone count) (h .says) out (v, count′) out′ _ (only out) (c-returned (retold (ap (each length) is) (k .writes .answered)))
+    (k .writes .room-after ∙ ap (λ (o : Outcome (List ℕ)). afterwards atFront o out) is) (λ e. npy-sound-back (h .says) sound out e)

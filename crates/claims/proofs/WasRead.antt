@@ -1,17 +1,58 @@
--- What was read is the header that the file begins with, and the rooms hold its record, which the check accepts (`Was-read`, specs/Exact.antt).
+-- A reading's values and rooms determine the header: if they are those of h, then h has the record and the data start of the header that the file gave. The rooms hold that
+-- record, and the check accepts it.
 use Prim.Native.Nat.{ℕ}
-use mathlib.Core.Bool.{false}
+use mathlib.Core.Path.{_≡_, refl, sym, ap, subst, _∙_}
 use mathlib.Core.List.{List}
-use Rattle.record.specs.Rooms.{Lent}
-use Rattle.header.specs.Reads.{HeaderInfo}
-use Rattle.claims.specs.Exact as exact
-use Rattle.claims.proofs.Exact.{read-in-file}
-use Rattle.claims.proofs.Found.{Was-read, in-rooms, in-rooms-checked}
+use lib.ListN.{getD}
+use Rattle.counts.specs.Outcome.{gives}
+use Rattle.counts.proofs.Apart.{gives-apart}
+use Rattle.dtype.specs.declared.Order.{Order}
+use Rattle.dtype.specs.Record.{Record}
+use Rattle.dtype.proofs.Record.{parts-equal}
+use Rattle.record.specs.Rooms.{Lent, holding}
+use Rattle.record.specs.Header.{Header}
+use Rattle.header.specs.declared.RecordInfo.{RecordInfo}
+use Rattle.header.specs.Reads.{HeaderInfo, infoOf, headerInfo}
+use Rattle.read_back.specs.Rooms.{Holds}
+use Rattle.read_back.proofs.Rooms.{fronts-by}
+use Rattle.npy_codes.specs.Numbers.{orderNumber, orderFor}
+use Rattle.npy_codes.specs.Values.{headerValues}
+use Rattle.claims.proofs.Found.{order-back, Was-read, in-rooms, in-rooms-checked}
 
-pub was-read : (file : List ℕ) (l l′ : Lent) (i : HeaderInfo) (w : Was-read file l l′ i) → exact.Was-read file i l′ (w .header-is)
-was-read file l l′ i w =
-    record {
-      begins = read-in-file false file l (w .header-is) (w .given) .0;
-      values = w .values;
-      holds = record { stands = in-rooms file l l′ i w; accepted = in-rooms-checked file l l′ i w };
-    }
+-- ---- the values in C determine all but the version
+order-number-one : (o p : Order) → orderNumber o ≡ orderNumber p → o ≡ p
+order-number-one o p e = gives-apart (sym (order-back o) ∙ ap orderFor e ∙ order-back p)
+
+info-eq : {o o′ : Order} {r r′ e e′ n n′ : ℕ} → o ≡ o′ → r ≡ r′ → e ≡ e′ → n ≡ n′
+    → _≡_ {A = RecordInfo} (record { order = o; rank = r; entries = e; names = n }) (record { order = o′; rank = r′; entries = e′; names = n′ })
+info-eq a b c d = cc
+
+pub values-one : (i k : HeaderInfo) → headerValues i ≡ headerValues k → (i .info ≡ k .info) × (i .data-start ≡ k .data-start)
+values-one i k e = (
+  info-eq (order-number-one (i .info .order) (k .info .order) (ap (λ (l : List ℕ). getD l 1 0) e)) (ap (λ (l : List ℕ). getD l 2 0) e) (ap (λ (l : List ℕ). getD l 3 0) e)
+      (ap (λ (l : List ℕ). getD l 4 0) e),
+  ap (λ (l : List ℕ). getD l 5 0) e,
+)
+
+-- ---- lengths and rooms determine the record
+says-one : (r q : Record) (l l′ : Lent) → infoOf r ≡ infoOf q → l′ ≡ holding r l → l′ ≡ holding q l → r ≡ q
+says-one r q l l′ e a b =
+    let f = fronts-by r l l′ (infoOf r) refl a in
+    let g = fronts-by q l l′ (infoOf r) e b in
+    parts-equal r q
+    (record {
+      tables = sym (f .table-is) ∙ g .table-is;
+      all-names = sym (f .names-are) ∙ g .names-are;
+      shapes = sym (f .shape-is) ∙ g .shape-is;
+      orders = sym (f .order-is) ∙ g .order-is;
+    })
+
+module _ (file : List ℕ) (l l′ : Lent) (i : HeaderInfo) (w : Was-read file l l′ i) (h : Header) (info-is : i .info ≡ infoOf (h .says)) (held : l′ ≡ holding (h .says) l) where
+  pub says-is : w .header-is .says ≡ h .says
+  says-is = says-one (w .header-is .says) (h .says) l l′ (sym (ap (λ (t : HeaderInfo). t .info) (w .values)) ∙ info-is) (w .held) held
+
+  -- the rooms hold the record of h
+  pub holds-own : Holds (h .says) (infoOf (h .says)) l′
+  holds-own =
+      let f : Holds (w .header-is .says) (i .info) l′ = record { fronts = in-rooms file l l′ i w; accepted = in-rooms-checked file l l′ i w } in
+      subst (λ (t : RecordInfo). Holds (h .says) t l′) info-is (subst (λ (r : Record). Holds r (i .info) l′) says-is f)

@@ -109,6 +109,37 @@ pub record Zero-answers : Type 0 where
   pub npy-type-print : (order letter size units : ℕ) (out count : List ℕ)
       → CodedPuts (then (typeFor order letter size units) (λ k. typePrinted k out)) (Npy-type-print order letter size units out count) out count
 
+-- demand 1 by itself, whatever the definitions say: a number other than 0 is one of the thirty, and all lent memory is as it was
+abbrev pub Refused-alone : {M : Type 0} → (before : M) (r : ℕ) (after : M) → Type 0
+Refused-alone before r after = (r ≡ 0 → ⊥) → (1 ≤ r) × (r ≤ 30) × (after ≡ before)
+
+-- of a function that is lent only numbers for its values, and of one that is lent rooms besides
+abbrev pub AloneValues : (Call : ℕ → List ℕ → Type 0) → (said : List ℕ) → Type 0
+AloneValues Call said = (r : ℕ) (said′ : List ℕ) → Call r said′ → Refused-alone said r said′
+
+abbrev pub AloneBeside : {M : Type 0} → (Call : ℕ → M → List ℕ → Type 0) → (room : M) (said : List ℕ) → Type 0
+AloneBeside {M} Call room said = (r : ℕ) (room′ : M) (said′ : List ℕ) → Call r room′ said′ → Refused-alone {M = M × List ℕ} (room, said) r (room′, said′)
+
+-- the claim
+pub record Alone-in-C : Type 0 where
+  pub npy-read-held : (longer : Bool) (file : List ℕ) (l : Lent) (said : List ℕ) → AloneBeside (Npy-read-held longer file l said) l said
+  pub npy-read-text : (text : List ℕ) (l : Lent) (said : List ℕ) → AloneBeside (Npy-read-text text l said) l said
+  pub npy-check : (t ns s : List ℕ) (order : ℕ) (said : List ℕ) → AloneValues (Npy-check t ns s order said) said
+  pub npy-write-header : (t ns s : List ℕ) (order : ℕ) (out count : List ℕ) → AloneBeside (Npy-write-header t ns s order out count) out count
+  pub npy-list : (version start : ℕ) (t ns s : List ℕ) (order : ℕ) (out count : List ℕ) → AloneBeside (Npy-list version start t ns s order out count) out count
+  pub npy-count : (s : List ℕ) (order : ℕ) (count : List ℕ) → AloneValues (Npy-count s order count) count
+  pub npy-strides : (s : List ℕ) (order : ℕ) (out count : List ℕ) → AloneBeside (Npy-strides s order out count) out count
+  pub npy-item-number : (s : List ℕ) (order : ℕ) (x item : List ℕ) → AloneValues (Npy-item-number s order x item) item
+  pub npy-place : (file start : ℕ) (t ns s : List ℕ) (order : ℕ) (x p run : List ℕ) → AloneValues (Npy-place file start t ns s order x p run) run
+  pub npy-element-bytes : (file : List ℕ) (start : ℕ) (t ns s : List ℕ) (order : ℕ) (x p out count : List ℕ) → AloneBeside (Npy-element-bytes file start t ns s order x p out count) out count
+  pub npy-element-points : (file : List ℕ) (start : ℕ) (t ns s : List ℕ) (order : ℕ) (x p out count : List ℕ) → AloneBeside (Npy-element-points file start t ns s order x p out count) out count
+  pub npy-read-bytes : (run : List ℕ) (order letter size units : ℕ) (out count : List ℕ) → AloneBeside (Npy-read-bytes run order letter size units out count) out count
+  pub npy-read-points : (run : List ℕ) (order letter size units : ℕ) (out count : List ℕ) → AloneBeside (Npy-read-points run order letter size units out count) out count
+  pub npy-write-bytes : (order letter size units : ℕ) (value out count : List ℕ) → AloneBeside (Npy-write-bytes order letter size units value out count) out count
+  pub npy-write-points : (order letter size units : ℕ) (value out count : List ℕ) → AloneBeside (Npy-write-points order letter size units value out count) out count
+  pub npy-type-read : (text said : List ℕ) → AloneValues (Npy-type-read text said) said
+  pub npy-type-print : (order letter size units : ℕ) (out count : List ℕ) → AloneBeside (Npy-type-print order letter size units out count) out count
+
 -- "room beyond what was needed is left as it was": if the count holds n afterwards, the room after the first n is unchanged
 abbrev pub SparesBy : (Call : ℕ → List ℕ → List ℕ → Type 0) → (room : List ℕ) → Type 0
 SparesBy Call room = (r : ℕ) (room′ : List ℕ) (n : ℕ) → Call r room′ (n ∷ []) → drop n room′ ≡ drop n room

@@ -33,7 +33,6 @@ use Rattle.record.specs.Writing.{tooDeep}
 use Rattle.check_record.specs.Checked.{checkedRecord}
 use Rattle.header.specs.declared.TextRead.{TextRead}
 use Rattle.header.specs.declared.HeaderRead.{HeaderRead}
-use Rattle.read_back.specs.Rooms.{Holds}
 use Rattle.header.specs.declared.RecordInfo.{RecordInfo}
 use Rattle.header.specs.Reads.{HeaderInfo, infoOf, headerInfo, answer, textAnswer}
 use Rattle.place_area.specs.declared.Run.{Run}
@@ -84,12 +83,6 @@ pub record In-file (file : List ℕ) (h : Header) : Type 0 where
   pub says : In-text text (h .says)
   pub version-is : h .version ≡ front .version
   pub data-starts : h .data-start ≡ dataStart front
-
--- a header was read with the values i: the file begins with it, the rooms hold its record, and the check accepts that
-pub record Was-read (file : List ℕ) (i : HeaderInfo) (l′ : Lent) (h : Header) : Type 0 where
-  pub begins : In-file file h
-  pub values : i ≡ headerInfo h
-  pub holds : Holds (h .says) (i .info) l′
 
 -- the rooms are large enough for a record
 abbrev pub Fits : Lent → Record → Type 0

@@ -18,18 +18,17 @@ use Rattle.dtype.specs.Record.{Record}
 use Rattle.dtype.specs.PlainBytes.{plainBytes}
 use Rattle.dtype.specs.Paths.{plainAt}
 use Rattle.dtype.specs.Places.{dataBytes, place, Ask}
-use Rattle.record.specs.Rooms.{Lent}
+use Rattle.record.specs.Rooms.{Lent, holding}
 use Rattle.record.specs.Header.{Header}
 use Rattle.check_record.specs.Checked.{checkedRecord}
 use Rattle.place_area.specs.declared.Run.{Run}
 use Rattle.place.specs.declared.Placed.{Placed}
 use Rattle.place.specs.Place.{runFrom}
 use Rattle.header.specs.declared.HeaderRead.{HeaderRead}
-use Rattle.header.specs.Reads.{HeaderInfo, answer}
-use Rattle.read_back.specs.Rooms.{tableIn, namesIn, shapeIn}
+use Rattle.header.specs.Reads.{infoOf, headerInfo, answer}
+use Rattle.read_back.specs.Rooms.{tableIn, namesIn, shapeIn, Holds}
 use Rattle.npy_codes.specs.Numbers.{orderNumber}
 use Rattle.npy_codes.specs.Values.{headerValues, runValues}
-use Rattle.claims.specs.Exact.{Was-read}
 use Rattle.claims.specs.Functions.{Read, Place}
 use Rattle.claims.specs.InC.{Npy-read, Npy-place}
 
@@ -69,26 +68,26 @@ Record-owned-in-C =
     → (run : List ℕ)
     → Owned {Y = ℕ × List ℕ} (λ x p y. Npy-place file start t ns s (orderNumber o) x p run (y .0) (y .1)) (λ u. (0, runValues u)) (26, run) start r
 
--- after a header was read whose values are i: the rooms hold the record of the file's header, and its data area, if it has no `O` and the file is long enough, is owned
-pub record Data-owned-by (file : List ℕ) (i : HeaderInfo) (l′ : Lent) (Area : (start : ℕ) → Record → Type 0) : Type 0 where
-  pub header : Header
-  pub was-read : Was-read file i l′ header
-  pub owned : hasObject (header .says .dtype) ≡ false → i .data-start + dataBytes (header .says) ≤ length file → Area (i .data-start) (header .says)
+-- after the header h was read: the rooms hold its record, which the check accepts, and its data area, if it has no `O` and the file is long enough, is owned
+pub record Data-owned-by (file : List ℕ) (h : Header) (l′ : Lent) (Area : (start : ℕ) → Record → Type 0) : Type 0 where
+  pub holds : Holds (h .says) (infoOf (h .says)) l′
+  pub owned : hasObject (h .says .dtype) ≡ false → h .data-start + dataBytes (h .says) ≤ length file → Area (h .data-start) (h .says)
 
--- the second claim, for every file that is read
+-- the second claim, for every file that is read: h is the header whose values were returned and whose record was stored; by Exact.antt the file begins with such a header
 abbrev pub Data-owned : Type 0
 Data-owned =
-    (file : List ℕ) (l l′ : Lent) (x : HeaderRead) (i : HeaderInfo) → Read file l x l′ → answer x ≡ gives i
-    → Data-owned-by file i l′
-    (Owned (Place (length file) (i .data-start) (tableIn (i .info) l′) (namesIn (i .info) l′) (shapeIn (i .info) l′) (i .info .order))
-    Placed.At (Placed.Refused Refusal.Nowhere))
+    (file : List ℕ) (l l′ : Lent) (x : HeaderRead) (h : Header) → Read file l x l′ → answer x ≡ gives (headerInfo h) → l′ ≡ holding (h .says) l
+    → let i = infoOf (h .says) in
+    Data-owned-by file h l′
+    (Owned (Place (length file) (h .data-start) (tableIn i l′) (namesIn i l′) (shapeIn i l′) (i .order)) Placed.At (Placed.Refused Refusal.Nowhere))
 
 -- the same in C
 abbrev pub Data-owned-in-C : Type 0
 Data-owned-in-C =
-    (file : List ℕ) (l l′ : Lent) (said said′ : List ℕ) → Npy-read file l said 0 l′ said′
-    → (i : HeaderInfo) × (said′ ≡ headerValues i)
-    × ((run : List ℕ) → Data-owned-by file i l′
+    (file : List ℕ) (l l′ : Lent) (said said′ : List ℕ) (h : Header) → Npy-read file l said 0 l′ said′ → said′ ≡ headerValues (headerInfo h) → l′ ≡ holding (h .says) l
+    → (run : List ℕ)
+    → let i = infoOf (h .says) in
+    Data-owned-by file h l′
     (Owned {Y = ℕ × List ℕ}
-    (λ x p y. Npy-place (length file) (i .data-start) (tableIn (i .info) l′) (namesIn (i .info) l′) (shapeIn (i .info) l′) (orderNumber (i .info .order)) x p run (y .0) (y .1))
-    (λ u. (0, runValues u)) (26, run)))
+    (λ x p y. Npy-place (length file) (h .data-start) (tableIn i l′) (namesIn i l′) (shapeIn i l′) (orderNumber (i .order)) x p run (y .0) (y .1))
+    (λ u. (0, runValues u)) (26, run))

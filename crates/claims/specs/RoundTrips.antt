@@ -13,18 +13,17 @@ use Rattle.refusal.specs.Answers.{bytesAnswer}
 use Rattle.dtype.specs.declared.Order.{Order}
 use Rattle.dtype.specs.Record.{Record, table, names}
 use Rattle.record.specs.Prefix.{most-text}
-use Rattle.record.specs.Rooms.{Lent}
+use Rattle.record.specs.Rooms.{Lent, holding}
 use Rattle.record.specs.Header.{Header}
 use Rattle.record.specs.File.{textLength, headerLength}
 use Rattle.header.specs.declared.HeaderRead.{HeaderRead}
-use Rattle.header.specs.Reads.{HeaderInfo, answer}
+use Rattle.header.specs.Reads.{HeaderInfo, infoOf, headerInfo, answer}
 use Rattle.read_back.specs.Rooms.{tableIn, namesIn, shapeIn, Fronts}
 use Rattle.npy_codes.specs.Codes.{alone}
 use Rattle.npy_codes.specs.Numbers.{orderNumber}
 use Rattle.npy_codes.specs.Values.{headerValues}
 use Rattle.claims.specs.Doors.{Door, in-rattle, in-c}
 use Rattle.claims.specs.Roomy.{Roomy}
-use Rattle.claims.specs.Exact.{Was-read}
 use Rattle.claims.specs.Functions.{Read, Write-header}
 use Rattle.claims.specs.InC.{Npy-read, Npy-write-header}
 
@@ -74,20 +73,21 @@ pub record Goes-again {R : Type 0} (door : Door ℕ R) (r : Record) (out : List 
 abbrev pub Same-record : ((bytes t ns s : List ℕ) → Order → Type 0) → Record → (bytes : List ℕ) → Type 0
 Same-record Back r bytes = Back bytes (table (r .dtype)) (names (r .dtype)) (r .shape) (r .order)
 
--- the second claim: the rooms hold the record of the file's header, and it goes again
+-- the second claim: the record of the header h that was read goes again; h is the header whose values were returned and whose record was stored, and by Exact.antt the file
+-- begins with such a header
 abbrev pub Read-written : Type 0
 Read-written =
-    (file : List ℕ) (l l′ : Lent) (x : HeaderRead) (i : HeaderInfo) → Read file l x l′ → answer x ≡ gives i
-    → (h : Header) × Was-read file i l′ h
-    × ((out out′ : List ℕ) (w : BytesAnswer) → Write-header (tableIn (i .info) l′) (namesIn (i .info) l′) (shapeIn (i .info) l′) (i .info .order) out w out′
-    → Goes-again in-rattle (h .says) out (bytesAnswer w) out′ (Same-record Read-back (h .says)))
+    (file : List ℕ) (l l′ : Lent) (x : HeaderRead) (h : Header) → Read file l x l′ → answer x ≡ gives (headerInfo h) → l′ ≡ holding (h .says) l
+    → (out out′ : List ℕ) (w : BytesAnswer)
+    → let i = infoOf (h .says) in
+    Write-header (tableIn i l′) (namesIn i l′) (shapeIn i l′) (i .order) out w out′
+    → Goes-again in-rattle (h .says) out (bytesAnswer w) out′ (Same-record Read-back (h .says))
 
 -- the same in C
 abbrev pub Read-written-in-C : Type 0
 Read-written-in-C =
-    (file : List ℕ) (l l′ : Lent) (said said′ : List ℕ) → Npy-read file l said 0 l′ said′
-    → (i : HeaderInfo) × (said′ ≡ headerValues i)
-    × ((h : Header) × Was-read file i l′ h
-    × ((out out′ count count′ : List ℕ) (w : ℕ)
-    → Npy-write-header (tableIn (i .info) l′) (namesIn (i .info) l′) (shapeIn (i .info) l′) (orderNumber (i .info .order)) out count w out′ count′
-    → Goes-again (in-c alone count) (h .says) out (w, count′) out′ (Same-record Npy-read-back (h .says))))
+    (file : List ℕ) (l l′ : Lent) (said said′ : List ℕ) (h : Header) → Npy-read file l said 0 l′ said′ → said′ ≡ headerValues (headerInfo h) → l′ ≡ holding (h .says) l
+    → (out out′ count count′ : List ℕ) (w : ℕ)
+    → let i = infoOf (h .says) in
+    Npy-write-header (tableIn i l′) (namesIn i l′) (shapeIn i l′) (orderNumber (i .order)) out count w out′ count′
+    → Goes-again (in-c alone count) (h .says) out (w, count′) out′ (Same-record Npy-read-back (h .says))

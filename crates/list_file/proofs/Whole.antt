@@ -32,7 +32,7 @@ use Rattle.list_record.specs.Answer as lists
 use Rattle.read_back.specs.Rooms.{tableIn, namesIn, shapeIn, Holds}
 use Rattle.list_file.specs.Report.{held-bytes, fresh, refusedLine, textFor, reportOf, WritesText, Reports}
 use Rattle.read_back.proofs.Accepted.{read-checked}
-use Rattle.read_back.proofs.Rooms.{stands-by, checked-fronts}
+use Rattle.read_back.proofs.Rooms.{fronts-by, checked-fronts}
 
 -- ---- a header of a file that is held in part is one of the bytes that are held
 text-whole : (longer : Bool) (p : Prefix) (file s : List ℕ) → textHeld longer p file ≡ gives s → textOf p file ≡ gives s
@@ -114,13 +114,13 @@ module _ (longer : Bool) (file : List ℕ) (l : Lent) (a : length (l .table) ≡
       go : (o : Outcome header.Header) → heldInto longer file l ≡ o → gives (headerIs h) ≡ each headerInfo o → l′ ≡ afterwards header.holdingHeader o l → Found h l′
       go (gives k) e p q =
           let same : headerIs h ≡ headerInfo k = cc in
-          let s = stands-by (k .says) l l′ (h .info) (ap (λ (t : HeaderInfo). t .info) same) q in
+          let s = fronts-by (k .says) l l′ (h .info) (ap (λ (t : HeaderInfo). t .info) same) q in
           record {
             header-is = k;
             given = sym held-fresh ∙ e;
             version-is = ap (λ (t : HeaderInfo). t .version) same;
             start-is = ap (λ (t : HeaderInfo). t .data-start) same;
-            holds = record { stands = s; accepted = checked-fronts (k .says) (h .info) l′ s (read-checked reading reading-keeps file (roomsOf l) k (held-whole longer file l k e)) };
+            holds = record { fronts = s; accepted = checked-fronts (k .says) (h .info) l′ s (read-checked reading reading-keeps file (roomsOf l) k (held-whole longer file l k e)) };
           }
       go (refused n) e p q = absurd (let z : _≡_ {A = ℕ} 0 1 = cc in omega arith)
 

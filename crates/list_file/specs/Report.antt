@@ -1,6 +1,6 @@
 -- Document 01, "What the collector buys": "A small program reads a file on standard input and lists its record. It starts from a fresh table of 512 empty entries. It holds the
 -- file's first 65,536 bytes and 16,384 name bytes; a longer file whose header ends past those gets 23 right after 4; too many name bytes get 23 last. .. A refusal prints
--- `refused` and the number." How a header is read from the bytes that are held is Reads.antt of header, its listing Listing.antt of list_text.
+-- `refused` and the number." How a header is read from the bytes that are held is Header.antt of record, its listing Listing.antt of list_text.
 use Prim.Native.Nat.{ℕ, _*_}
 use mathlib.Core.List.{List, [], _∷_}
 use lib.Dec.{ltb}

@@ -27,28 +27,28 @@ module _ {L : Type 0} where
   both-one x y p k q m = three-eq (p .answered ∙ sym (q .answered)) (k ∙ sym m) (p .after ∙ sym (q .after))
 
 pub npy-read-one : (file : List ℕ) (l : Lent) (said : List ℕ) → OneOutcome {A = Three Lent} (λ x. Reads file l said (x .0 .0) (x .0 .1) (x .1))
-npy-read-one file l said x y p q = both-one x y (p .told) (p .rooms) (q .told) (q .rooms)
+npy-read-one file l said x y p q = both-one x y (p .answered) (p .rooms) (q .answered) (q .rooms)
 
 pub npy-read-held-one : (longer : Bool) (file : List ℕ) (l : Lent) (said : List ℕ) → OneOutcome {A = Three Lent} (λ x. ReadsHeld longer file l said (x .0 .0) (x .0 .1) (x .1))
-npy-read-held-one longer file l said x y p q = both-one x y (p .told) (p .rooms) (q .told) (q .rooms)
+npy-read-held-one longer file l said x y p q = both-one x y (p .answered) (p .rooms) (q .answered) (q .rooms)
 
 pub npy-read-text-one : (text : List ℕ) (l : Lent) (said : List ℕ) → OneOutcome {A = Three Lent} (λ x. ReadsText text l said (x .0 .0) (x .0 .1) (x .1))
-npy-read-text-one text l said x y p q = both-one x y (p .told) (p .rooms) (q .told) (q .rooms)
+npy-read-text-one text l said x y p q = both-one x y (p .answered) (p .rooms) (q .answered) (q .rooms)
 
 pub npy-write-header-one : (t ns s : List ℕ) (order : ℕ) (room count : List ℕ) → OneOutcome {A = Three (List ℕ)} (λ x. Writes t ns s order room count (x .0 .0) (x .0 .1) (x .1))
-npy-write-header-one t ns s order room count x y p q = both-one x y (p .told) (p .room-after) (q .told) (q .room-after)
+npy-write-header-one t ns s order room count x y p q = both-one x y (p .answered) (p .room-after) (q .answered) (q .room-after)
 
 pub npy-list-one : (version start : ℕ) (t ns s : List ℕ) (order : ℕ) (room count : List ℕ)
     → OneOutcome {A = Three (List ℕ)} (λ x. Lists version start t ns s order room count (x .0 .0) (x .0 .1) (x .1))
-npy-list-one version start t ns s order room count x y p q = both-one x y (p .told) (p .room-after) (q .told) (q .room-after)
+npy-list-one version start t ns s order room count x y p q = both-one x y (p .answered) (p .room-after) (q .answered) (q .room-after)
 
 pub npy-strides-one : (s : List ℕ) (order : ℕ) (room count : List ℕ) → OneOutcome {A = Three (List ℕ)} (λ x. Strides s order room count (x .0 .0) (x .0 .1) (x .1))
-npy-strides-one s order room count x y p q = both-one x y (p .told) (p .room-after) (q .told) (q .room-after)
+npy-strides-one s order room count x y p q = both-one x y (p .answered) (p .room-after) (q .answered) (q .room-after)
 
 pub npy-type-print-one : (order letter size units : ℕ) (room count : List ℕ)
     → OneOutcome {A = Three (List ℕ)} (λ x. Prints order letter size units room count (x .0 .0) (x .0 .1) (x .1))
-npy-type-print-one order letter size units room count x y p q = both-one x y (p .told) (p .room-after) (q .told) (q .room-after)
+npy-type-print-one order letter size units room count x y p q = both-one x y (p .answered) (p .room-after) (q .answered) (q .room-after)
 
 -- of the functions that read or write an element
 pub puts-one : (put : Outcome (List ℕ)) (room count : List ℕ) → OneOutcome {A = Three (List ℕ)} (λ x. Puts put room count (x .0 .0) (x .0 .1) (x .1))
-puts-one put room count x y p q = both-one x y (p .told) (p .room-after) (q .told) (q .room-after)
+puts-one put room count x y p q = both-one x y (p .answered) (p .room-after) (q .answered) (q .room-after)

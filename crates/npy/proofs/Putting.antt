@@ -15,7 +15,7 @@ module _ {A : Type 0} {given : Outcome A} (next : A → Outcome (List ℕ)) wher
       → gives a ≡ given → Owes (next a) room answer room′ → Tells alone answer count r count′ → Puts (then given next) room count r room′ count′
   then-put {room = room} is owes tells =
       record {
-        told = retold (owes .answered ∙ ap (λ (g : Outcome A). each length (then g next)) is) tells;
+        answered = retold (owes .answered ∙ ap (λ (g : Outcome A). each length (then g next)) is) tells;
         room-after = owes .room-after ∙ ap (λ (g : Outcome A). afterwards atFront (then g next) room) is;
       }
 
@@ -25,7 +25,7 @@ module _ {A : Type 0} {given : Outcome A} (next : A → Outcome (List ℕ)) wher
   pub none-put : {room count : List ℕ} {n r : ℕ} → refused n ≡ given → r ≡ n → Puts (then given next) room count r room count
   none-put {room = room} {count = count} is number =
       record {
-        told =
+        answered =
             record {
               answered = number ∙ ap (λ (g : Outcome A). code (each length (then g next))) is;
               after = ap (λ (g : Outcome A). afterwards (λ a old. alone a) (each length (then g next)) count) is;

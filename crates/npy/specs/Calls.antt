@@ -24,7 +24,7 @@ use Rattle.npy_codes.specs.Values.{textValues, headerValues}
 
 -- ---- reading: the three lent rooms, and what is said beside them; by any reading of texts as literals, and by the literal's own
 pub record ReadsBy (rd : Reading) (longer : Bool) (file : List ℕ) (l : Lent) (said : List ℕ) (r : ℕ) (l′ : Lent) (said′ : List ℕ) : Type 0 where
-  pub told : Tells headerValues (each header.headerInfo (heldBy rd longer file l)) said r said′
+  pub answered : Tells headerValues (each header.headerInfo (heldBy rd longer file l)) said r said′
   pub rooms : l′ ≡ afterwards holdingHeader (heldBy rd longer file l) l
 
 -- .. of a file of which only the first bytes are held if it is longer
@@ -35,7 +35,7 @@ abbrev pub Reads : (file : List ℕ) (l : Lent) (said : List ℕ) (r : ℕ) (l�
 Reads file l said r l′ said′ = ReadsBy reading false file l said r l′ said′
 
 pub record ReadsTextBy (rd : Reading) (text : List ℕ) (l : Lent) (said : List ℕ) (r : ℕ) (l′ : Lent) (said′ : List ℕ) : Type 0 where
-  pub told : Tells textValues (each header.infoOf (textBy rd text l)) said r said′
+  pub answered : Tells textValues (each header.infoOf (textBy rd text l)) said r said′
   pub rooms : l′ ≡ afterwards holding (textBy rd text l) l
 
 abbrev pub ReadsText : (text : List ℕ) (l : Lent) (said : List ℕ) (r : ℕ) (l′ : Lent) (said′ : List ℕ) → Type 0
@@ -43,7 +43,7 @@ ReadsText text l said r l′ said′ = ReadsTextBy reading text l said r l′ sa
 
 -- ---- writing to a lent room: how many were written, and the room afterwards, where `put` is what goes to its front
 pub record Puts (put : Outcome (List ℕ)) (room count : List ℕ) (r : ℕ) (room′ count′ : List ℕ) : Type 0 where
-  pub told : Tells alone (each length put) count r count′
+  pub answered : Tells alone (each length put) count r count′
   pub room-after : room′ ≡ afterwards atFront put room
 
 abbrev pub Writes : (t ns s : List ℕ) (order : ℕ) (room count : List ℕ) (r : ℕ) (room′ count′ : List ℕ) → Type 0
@@ -60,7 +60,7 @@ Lists version start t ns s order room count r room′ count′ =
 abbrev pub Prints : (order letter size units : ℕ) (room count : List ℕ) (r : ℕ) (room′ count′ : List ℕ) → Type 0
 Prints order letter size units room count r room′ count′ = Puts (then (typeFor order letter size units) (λ t. typePrinted t room)) room count r room′ count′
 
--- the strides go to the room, and the item count is told
+-- the strides go to the room, and the item count is returned
 pub record Strides (s : List ℕ) (order : ℕ) (room count : List ℕ) (r : ℕ) (room′ count′ : List ℕ) : Type 0 where
-  pub told : Tells alone (then (orderFor order) (λ o. stridesCount o s (length room))) count r count′
+  pub answered : Tells alone (then (orderFor order) (λ o. stridesCount o s (length room))) count r count′
   pub room-after : room′ ≡ afterwards (λ o. afterwards (λ n. atFront (strides o s)) (stridesCount o s (length room))) (orderFor order) room

@@ -36,7 +36,7 @@ pub extern "C" fn npy_read(
     npy_codes::tell_header(header::read(file, table, names, shape), said)
 }
 
-// The same of a file of which only the first bytes are held, at least the 12 before any text or the whole file, and which is longer or is not.
+// The same of a file of which only the first bytes are held: `longer` if it has more.
 #[no_mangle]
 pub extern "C" fn npy_read_held(
     file: &[u8],

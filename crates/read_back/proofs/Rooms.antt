@@ -1,12 +1,11 @@
 -- What a reading that gives a header leaves in the rooms: the record of the file, each part at its room's front.
 use Prim.Native.Nat.{ℕ, _*_}
 use native.Mathlib.Omega.{arith}
-use mathlib.Core.Path.{_≡_, refl, ap}
+use mathlib.Core.Path.{_≡_, refl}
 use mathlib.Core.List.{List, []}
-use mathlib.Core.Bool.{false}
 use lib.ListN.{length, take, drop}
 use lib.Seq.{take-append-seam}
-use Rattle.counts.specs.Outcome.{Outcome, gives, refused, each, afterwards}
+use Rattle.counts.specs.Outcome.{gives}
 use Rattle.dtype.specs.Flat.{entry-width}
 use Rattle.dtype.specs.Entries.{entriesOf}
 use Rattle.dtype.specs.Names.{nameBytes}
@@ -14,12 +13,8 @@ use Rattle.dtype.specs.Record.{Record, table, names}
 use Rattle.dtype.proofs.Flat.{flat-length, names-length}
 use Rattle.counts.specs.Front.{atFront}
 use Rattle.record.specs.Rooms.{Lent, holding}
-use Rattle.record.specs.Header as header
-use Rattle.judge.specs.Judged.{reading}
 use Rattle.header.specs.declared.RecordInfo.{RecordInfo}
-use Rattle.header.specs.declared.Header.{Header}
-use Rattle.header.specs.declared.HeaderRead.{HeaderRead}
-use Rattle.header.specs.Reads.{infoOf, HeaderInfo, headerInfo, headerIs, Reads}
+use Rattle.header.specs.Reads.{infoOf}
 use Rattle.check_record.specs.Checked.{checkedRecord}
 use Rattle.read_back.specs.Rooms.{tableIn, namesIn, shapeIn, Fronts}
 
@@ -36,8 +31,8 @@ front n new old e = rw e (take-append-seam new (drop (length new) old))
 abbrev pub Parts : Record → RecordInfo → Lent → Type 0
 Parts r info l = Fronts (table (r .dtype)) (names (r .dtype)) (r .shape) (r .order) info l
 
-holding-stands : (r : Record) (l : Lent) → Parts r (infoOf r) (holding r l)
-holding-stands r l =
+holding-fronts : (r : Record) (l : Lent) → Parts r (infoOf r) (holding r l)
+holding-fronts r l =
     record {
       order-is = refl;
       table-is = front (entry-width * entriesOf (r .dtype)) (table (r .dtype)) (l .table) (table-whole r);
@@ -53,26 +48,6 @@ pub checked-fronts : (r : Record) (info : RecordInfo) (l : Lent) → Parts r inf
     → checkedRecord (tableIn info l) (namesIn info l) (shapeIn info l) (info .order) ≡ gives r
 checked-fronts r info l p e = rw (p .table-is, p .names-are, p .shape-is, p .order-is) e
 
--- the header that is returned, and the rooms, are those of a header that the file gives
-pub record Found (file : List ℕ) (l : Lent) (h : Header) (l′ : Lent) : Type 0 where
-  pub header-is : header.Header
-  pub given : header.heldBy reading false file l ≡ gives header-is
-  pub starts : h .start .0 ≡ header-is .data-start
-  pub stands : Parts (header-is .says) (h .info) l′
-
-pub stands-by : (r : Record) (l l′ : Lent) (info : RecordInfo) → info ≡ infoOf r → l′ ≡ holding r l → Parts r info l′
-stands-by r l l′ info p q = rw (p, q) (holding-stands r l)
-
-pub read-found : (file : List ℕ) (l : Lent) (h : Header) (l′ : Lent) → Reads file l (HeaderRead.Read h) l′ → Found file l h l′
-read-found file l h l′ x = go (header.heldBy reading false file l) refl (x .answered) (x .after)
-  where
-    go : (o : Outcome header.Header) → header.heldBy reading false file l ≡ o → gives (headerIs h) ≡ each headerInfo o → l′ ≡ afterwards header.holdingHeader o l → Found file l h l′
-    go (gives k) e a b =
-        let same : headerIs h ≡ headerInfo k = cc in
-        record {
-          header-is = k;
-          given = e;
-          starts = ap (λ (t : HeaderInfo). t .data-start) same;
-          stands = stands-by (k .says) l l′ (h .info) (ap (λ (t : HeaderInfo). t .info) same) b;
-        }
-    go (refused n) e a b = absurd (let z : _≡_ {A = ℕ} 0 1 = cc in omega arith)
+-- rooms into which a record was stored
+pub fronts-by : (r : Record) (l l′ : Lent) (info : RecordInfo) → info ≡ infoOf r → l′ ≡ holding r l → Parts r info l′
+fronts-by r l l′ info p q = rw (p, q) (holding-fronts r l)

@@ -34,5 +34,5 @@ pub record Fronts (t ns s : List ℕ) (o : Order) (info : RecordInfo) (l : Lent)
 
 -- the fronts are a record's own parts, and the check accepts them
 pub record Holds (r : Record) (info : RecordInfo) (l : Lent) : Type 0 where
-  pub stands : Fronts (table (r .dtype)) (names (r .dtype)) (r .shape) (r .order) info l
+  pub fronts : Fronts (table (r .dtype)) (names (r .dtype)) (r .shape) (r .order) info l
   pub accepted : checkedRecord (tableIn info l) (namesIn info l) (shapeIn info l) (info .order) ≡ gives r

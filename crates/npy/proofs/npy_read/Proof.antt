@@ -22,7 +22,7 @@ same-length-3 c = search needs
 
 returns : tie.Need-returns
 returns c =
-    record { told = retold (c .before .before .before .before .before .before .before .before .read .ensures .answered) (c .tell-header .ensures); rooms = c .before .before .before .before .before .before .before .before .read .ensures .after }
+    record { answered = retold (c .before .before .before .before .before .before .before .before .read .ensures .answered) (c .tell-header .ensures); rooms = c .before .before .before .before .before .before .before .before .read .ensures .after }
 
 pub npy-read-spec : {M : Type 1} → statement M
 npy-read-spec =

@@ -20,7 +20,7 @@ same-length-3 : tie.Need-same-length-3
 same-length-3 c = search needs
 
 returns : tie.Need-returns
-returns c = record { told = retold (c .before .before .before .before .before .before .before .before .read-held .ensures .answered) (c .tell-header .ensures); rooms = c .before .before .before .before .before .before .before .before .read-held .ensures .after }
+returns c = record { answered = retold (c .before .before .before .before .before .before .before .before .read-held .ensures .answered) (c .tell-header .ensures); rooms = c .before .before .before .before .before .before .before .before .read-held .ensures .after }
 
 pub npy-read-held-spec : {M : Type 1} → statement M
 npy-read-held-spec =

@@ -22,7 +22,7 @@ same-length-3 c = search needs
 
 returns : tie.Need-returns
 returns c =
-    record { told = retold (c .before .before .before .before .before .before .before .before .read-text .ensures .answered) (c .tell-text .ensures); rooms = c .before .before .before .before .before .before .before .before .read-text .ensures .after }
+    record { answered = retold (c .before .before .before .before .before .before .before .before .read-text .ensures .answered) (c .tell-text .ensures); rooms = c .before .before .before .before .before .before .before .before .read-text .ensures .after }
 
 pub npy-read-text-spec : {M : Type 1} → statement M
 npy-read-text-spec =

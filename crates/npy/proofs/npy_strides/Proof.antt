@@ -36,13 +36,13 @@ returns : tie.Need-returns
 returns c =
     let a = c .before .before .before .before .before .before .before .before .before .before .before .before .args in
     let is = told orderGiven (c .before .before .before .before .before .before .before .before .before .order-for .ensures) (c .before .before .before .before .before .before .before .o .given .1) in
-    record { told = then-told (λ o. stridesCount o (a .shape .now) (length (a .out .now))) is (retold (c .before .before .before .before .strides .ensures .answered) (c .tell-items .ensures)); room-after = then-stored (λ o. afterwards (λ n. atFront (strides o (a .shape .now))) (stridesCount o (a .shape .now) (length (a .out .now)))) (a .out .now) is (c .before .before .before .before .strides .ensures .out-after) }
+    record { answered = then-told (λ o. stridesCount o (a .shape .now) (length (a .out .now))) is (retold (c .before .before .before .before .strides .ensures .answered) (c .tell-items .ensures)); room-after = then-stored (λ o. afterwards (λ n. atFront (strides o (a .shape .now))) (stridesCount o (a .shape .now) (length (a .out .now)))) (a .out .now) is (c .before .before .before .before .strides .ensures .out-after) }
 
 returns-2 : tie.Need-returns-2
 returns-2 c =
     let a = c .before .before .before .before .before .before .before .args in
     let none = told orderGiven (c .before .before .before .before .order-for .ensures) (c .before .before .why .given .1) in
-    record { told = none-told (λ o. stridesCount o (a .shape .now) (length (a .out .now))) none (c .number .ensures); room-after = none-stored (λ o. afterwards (λ n. atFront (strides o (a .shape .now))) (stridesCount o (a .shape .now) (length (a .out .now)))) (a .out .now) none }
+    record { answered = none-told (λ o. stridesCount o (a .shape .now) (length (a .out .now))) none (c .number .ensures); room-after = none-stored (λ o. afterwards (λ n. atFront (strides o (a .shape .now))) (stridesCount o (a .shape .now) (length (a .out .now)))) (a .out .now) none }
 
 pub npy-strides-spec : {M : Type 1} → statement M
 npy-strides-spec =
