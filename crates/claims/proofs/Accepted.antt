@@ -35,7 +35,7 @@ use Rattle.header.specs.declared.Header.{Header}
 use Rattle.header.specs.declared.RecordInfo.{RecordInfo}
 use Rattle.header.specs.declared.HeaderRead.{HeaderRead}
 use Rattle.header.specs.Reads.{lent, infoOf, HeaderInfo, headerInfo}
-use Rattle.npy_codes.specs.Values.{summaryValues}
+use Rattle.npy_codes.specs.Numbers.{summaryValues}
 use Rattle.npy_codes.proofs.Named.{retold}
 use Rattle.claims.specs.Doors.{Door, in-rattle, in-c}
 use Rattle.claims.specs.Accepted.{Some-file, Printable, Accepted-as, Accepts, Accepts-exactly}

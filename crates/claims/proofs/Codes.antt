@@ -31,8 +31,7 @@ use Rattle.header.specs.Reads as header
 use Rattle.write.specs.Writes.{headerWritten}
 use Rattle.list_record.specs.Answer.{listed}
 use Rattle.npy_codes.specs.Codes.{Tells, alone}
-use Rattle.npy_codes.specs.Numbers.{orderFor, typeFor}
-use Rattle.npy_codes.specs.Values.{typeValues, textValues, headerValues, summaryValues, runValues}
+use Rattle.npy_codes.specs.Numbers.{orderFor, typeFor, typeValues, textValues, headerValues, summaryValues, runValues}
 use Rattle.npy.specs.Calls.{Puts}
 use Rattle.claims.specs.Beyond.{Same-rest}
 use Rattle.claims.specs.Codes.{Coded, Zero-answers, Refused-alone, Alone-in-C, Rest-in-C}

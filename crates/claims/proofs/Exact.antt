@@ -51,8 +51,7 @@ use Rattle.element.specs.Bytes.{runBytes}
 use Rattle.element.specs.Element.{elementBytes, elementPoints}
 use Rattle.element.proofs.Typed.{bytes-after, points-after}
 use Rattle.npy_codes.specs.Codes.{alone}
-use Rattle.npy_codes.specs.Numbers.{orderFor, typeFor}
-use Rattle.npy_codes.specs.Values.{textValues, headerValues, runValues}
+use Rattle.npy_codes.specs.Numbers.{orderFor, typeFor, textValues, headerValues, runValues}
 use Rattle.npy.specs.Calls.{Puts}
 use Rattle.claims.specs.Doors.{Door, in-rattle, in-c}
 use Rattle.claims.specs.Exact.{

@@ -24,8 +24,7 @@ use Rattle.read_back.specs.Rooms.{tableIn, namesIn, shapeIn, Fronts}
 use Rattle.read_back.proofs.Rooms.{fronts-by, checked-fronts}
 use Rattle.read_back.proofs.Accepted.{read-checked}
 use Rattle.npy_codes.specs.Codes.{Tells}
-use Rattle.npy_codes.specs.Numbers.{orderNumber, orderFor}
-use Rattle.npy_codes.specs.Values.{headerValues}
+use Rattle.npy_codes.specs.Numbers.{orderNumber, orderFor, headerValues}
 use Rattle.claims.specs.Functions.{Read}
 use Rattle.claims.specs.InC.{Npy-read}
 use Rattle.record.proofs.Numbers.{Numbered, each-numbered}

@@ -34,8 +34,7 @@ use Rattle.place.proofs.Walks.{path-or-none, plain-path}
 use Rattle.place_item.proofs.Sums.{range-of}
 use Rattle.header.specs.Reads.{infoOf, headerInfo}
 use Rattle.npy_codes.specs.Codes.{code, Tells}
-use Rattle.npy_codes.specs.Numbers.{orderNumber}
-use Rattle.npy_codes.specs.Values.{runValues}
+use Rattle.npy_codes.specs.Numbers.{orderNumber, runValues}
 use Rattle.npy_codes.proofs.Named.{retold}
 use Rattle.claims.specs.Functions.{Place}
 use Rattle.claims.specs.InC.{Npy-place}

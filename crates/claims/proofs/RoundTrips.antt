@@ -40,8 +40,7 @@ use Rattle.read_back.specs.Rooms.{tableIn, namesIn, shapeIn}
 use Rattle.read_back.proofs.Accepted.{valid-sound}
 use Rattle.read_back.proofs.Rooms.{fronts-by}
 use Rattle.npy_codes.specs.Codes.{alone}
-use Rattle.npy_codes.specs.Numbers.{orderFor}
-use Rattle.npy_codes.specs.Values.{headerValues}
+use Rattle.npy_codes.specs.Numbers.{orderFor, headerValues}
 use Rattle.npy_codes.proofs.Named.{retold}
 use Rattle.claims.specs.Doors.{Door, in-rattle, in-c}
 use Rattle.claims.specs.RoundTrips.{

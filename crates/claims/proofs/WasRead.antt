@@ -15,8 +15,7 @@ use Rattle.header.specs.declared.RecordInfo.{RecordInfo}
 use Rattle.header.specs.Reads.{HeaderInfo, infoOf, headerInfo}
 use Rattle.read_back.specs.Rooms.{Holds}
 use Rattle.read_back.proofs.Rooms.{fronts-by}
-use Rattle.npy_codes.specs.Numbers.{orderNumber, orderFor}
-use Rattle.npy_codes.specs.Values.{headerValues}
+use Rattle.npy_codes.specs.Numbers.{orderNumber, orderFor, headerValues}
 use Rattle.claims.proofs.Found.{order-back, Was-read, in-rooms, in-rooms-checked}
 
 -- ---- the values in C determine all but the version

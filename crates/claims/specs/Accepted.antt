@@ -23,8 +23,7 @@ use Rattle.header.specs.declared.RecordInfo.{RecordInfo}
 use Rattle.header.specs.declared.TextRead.{TextRead}
 use Rattle.header.specs.Reads.{HeaderInfo, answer, textAnswer}
 use Rattle.read_back.specs.Rooms.{Fronts, Holds}
-use Rattle.npy_codes.specs.Numbers.{orderNumber}
-use Rattle.npy_codes.specs.Values.{textValues, summaryValues}
+use Rattle.npy_codes.specs.Numbers.{orderNumber, textValues, summaryValues}
 use Rattle.claims.specs.Doors.{Door, in-rattle, in-c}
 use Rattle.claims.specs.Exact.{In-text}
 use Rattle.claims.specs.Functions.{Read, Read-text, Check}

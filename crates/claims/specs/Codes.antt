@@ -25,8 +25,7 @@ use Rattle.list_record.specs.Answer.{listed}
 use Rattle.string_value.specs.Rooms.{readBytes, readPoints, writeBytes, writePoints}
 use Rattle.element.specs.Element.{elementBytes, elementPoints}
 use Rattle.npy_codes.specs.Codes.{alone}
-use Rattle.npy_codes.specs.Numbers.{orderFor, typeFor}
-use Rattle.npy_codes.specs.Values.{typeValues, textValues, headerValues, summaryValues, runValues}
+use Rattle.npy_codes.specs.Numbers.{orderFor, typeFor, typeValues, textValues, headerValues, summaryValues, runValues}
 use Rattle.claims.specs.Beyond.{Same-rest}
 use Rattle.claims.specs.Functions.{By-grammar}
 use Rattle.claims.specs.InC.{

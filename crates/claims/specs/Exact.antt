@@ -43,8 +43,7 @@ use Rattle.string_value.specs.Elements.{kindOf, bytesIn, pointsIn}
 use Rattle.string_value.specs.Runs.{bytesOut, pointsOut}
 use Rattle.element.specs.Bytes.{runBytes}
 use Rattle.npy_codes.specs.Codes.{alone}
-use Rattle.npy_codes.specs.Numbers.{orderFor, typeFor}
-use Rattle.npy_codes.specs.Values.{textValues, headerValues, runValues}
+use Rattle.npy_codes.specs.Numbers.{orderFor, typeFor, textValues, headerValues, runValues}
 use Rattle.claims.specs.Doors.{Door, in-rattle, in-c}
 use Rattle.claims.specs.Roomy.{Roomy}
 use Rattle.claims.specs.Functions.{Read-held, Read-text, Write-header, Place, Element-bytes, Element-points, Read-bytes, Read-points, Write-bytes, Write-points}

@@ -19,8 +19,7 @@ use Rattle.place.specs.Place.{placeOf}
 use Rattle.string_value.specs.Rooms.{readBytes, readPoints, writeBytes, writePoints}
 use Rattle.element.specs.Element.{elementBytes, elementPoints}
 use Rattle.npy_codes.specs.Codes.{Tells, alone}
-use Rattle.npy_codes.specs.Numbers.{orderFor, typeFor}
-use Rattle.npy_codes.specs.Values.{typeValues, textValues, headerValues, summaryValues, runValues}
+use Rattle.npy_codes.specs.Numbers.{orderFor, typeFor, typeValues, textValues, headerValues, summaryValues, runValues}
 use Rattle.npy.specs.Calls as npy
 use Rattle.claims.specs.Functions.{By-grammar}
 

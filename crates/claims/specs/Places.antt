@@ -27,8 +27,7 @@ use Rattle.place.specs.Place.{runFrom}
 use Rattle.header.specs.declared.HeaderRead.{HeaderRead}
 use Rattle.header.specs.Reads.{infoOf, headerInfo, answer}
 use Rattle.read_back.specs.Rooms.{tableIn, namesIn, shapeIn, Holds}
-use Rattle.npy_codes.specs.Numbers.{orderNumber}
-use Rattle.npy_codes.specs.Values.{headerValues, runValues}
+use Rattle.npy_codes.specs.Numbers.{orderNumber, headerValues, runValues}
 use Rattle.claims.specs.Functions.{Read, Place}
 use Rattle.claims.specs.InC.{Npy-read, Npy-place}
 

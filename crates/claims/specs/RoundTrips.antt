@@ -20,8 +20,7 @@ use Rattle.header.specs.declared.HeaderRead.{HeaderRead}
 use Rattle.header.specs.Reads.{HeaderInfo, infoOf, headerInfo, answer}
 use Rattle.read_back.specs.Rooms.{tableIn, namesIn, shapeIn, Fronts}
 use Rattle.npy_codes.specs.Codes.{alone}
-use Rattle.npy_codes.specs.Numbers.{orderNumber}
-use Rattle.npy_codes.specs.Values.{headerValues}
+use Rattle.npy_codes.specs.Numbers.{orderNumber, headerValues}
 use Rattle.claims.specs.Doors.{Door, in-rattle, in-c}
 use Rattle.claims.specs.Roomy.{Roomy}
 use Rattle.claims.specs.Functions.{Read, Write-header}

@@ -19,8 +19,7 @@ use Rattle.judge.specs.Judged.{reading}
 use Rattle.header.specs.Reads as header
 use Rattle.write.specs.Writes.{headerWritten}
 use Rattle.npy_codes.specs.Codes.{Tells, alone}
-use Rattle.npy_codes.specs.Numbers.{orderFor, typeFor}
-use Rattle.npy_codes.specs.Values.{textValues, headerValues}
+use Rattle.npy_codes.specs.Numbers.{orderFor, typeFor, textValues, headerValues}
 
 -- ---- reading: the three lent rooms, and what is said beside them; by any reading of texts as literals, and by the literal's own
 pub record ReadsBy (rd : Reading) (longer : Bool) (file : List ℕ) (l : Lent) (said : List ℕ) (r : ℕ) (l′ : Lent) (said′ : List ℕ) : Type 0 where

@@ -18,8 +18,7 @@ ghost use Rattle.element.specs.Element.{elementBytes, elementPoints};
 ghost use Rattle.header_prefix.specs.Answer.{versionIs};
 ghost use Rattle.header.specs.Reads.{lent};
 ghost use Rattle.npy_codes.specs.Codes.{Tells, alone};
-ghost use Rattle.npy_codes.specs.Numbers.{orderFor, typeFor};
-ghost use Rattle.npy_codes.specs.Values.{typeValues, summaryValues, runValues};
+ghost use Rattle.npy_codes.specs.Numbers.{orderFor, typeFor, typeValues, summaryValues, runValues};
 ghost use Rattle.npy.specs.Calls.{Reads, ReadsHeld, ReadsText, Writes, Lists, ListsAs, Strides, Prints, Puts};
 
 // The header of a file. Its record goes to the three lent rooms; `said` is its version, order, rank, entries, name bytes and where the data starts.

@@ -12,7 +12,7 @@ use Rattle.npy_codes.specs.Codes.{code, Tells}
 use Rattle.check_record.specs.declared.ItemSize.{ItemSize}
 use Rattle.check_record.specs.declared.Summary.{Summary}
 use Rattle.place_area.specs.declared.Run.{Run}
-use Rattle.npy_codes.specs.Values.{typeValues, sizeValues, summaryValues, runValues}
+use Rattle.npy_codes.specs.Numbers.{typeValues, sizeValues, summaryValues, runValues}
 
 module _ {A : Type 0} (values : A → List ℕ) where
   value-told : {o : Outcome A} {a : A} {room room′ : List ℕ} → o ≡ gives a → room′ ≡ values a → Tells values o room 0 room′

@@ -1,4 +1,3 @@
 pub mod Codes
 pub mod Numbers
-pub mod Values
 pub mod Given

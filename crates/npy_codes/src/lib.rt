@@ -25,8 +25,7 @@ ghost use Rattle.check_record.specs.Answer as checked;
 ghost use Rattle.place.specs.Answer as placed;
 ghost use Rattle.header.specs.Reads as header;
 ghost use Rattle.npy_codes.specs.Codes.{Tells, alone};
-ghost use Rattle.npy_codes.specs.Numbers.{orderNumber, orderFor, typeFor};
-ghost use Rattle.npy_codes.specs.Values.{typeValues, textValues, headerValues, summaryValues, runValues};
+ghost use Rattle.npy_codes.specs.Numbers.{orderNumber, orderFor, typeFor, typeValues, textValues, headerValues, summaryValues, runValues};
 ghost use Rattle.npy_codes.specs.Given.{orderGiven, versionGiven};
 
 // An order that a caller gives by its number.

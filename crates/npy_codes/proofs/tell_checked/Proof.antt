@@ -1,7 +1,7 @@
 -- 0 and the five values of the summary; or the number of the refusal, and the values stay.
 use mathlib.Core.Path.{refl}
 use Rattle.check_record.specs.Answer.{answer}
-use Rattle.npy_codes.specs.Values.{summaryValues}
+use Rattle.npy_codes.specs.Numbers.{summaryValues}
 use Rattle.npy_codes.proofs.Told.{gives-told, refuses-told}
 use borrow.Author.Needs.{needs}
 use Rattle.npy_codes.proofs.tell_checked.Statement.{statement}

@@ -1,7 +1,7 @@
 -- 0 and the values that `put_header` puts; or the number of the refusal, and the values stay.
 use Rattle.header.specs.Reads.{answer}
 use mathlib.Core.Path.{refl}
-use Rattle.npy_codes.specs.Values.{headerValues}
+use Rattle.npy_codes.specs.Numbers.{headerValues}
 use Rattle.npy_codes.proofs.Told.{gives-told, refuses-told}
 use borrow.Author.Needs.{needs}
 use Rattle.npy_codes.proofs.tell_header.Statement.{statement}

@@ -1,7 +1,7 @@
 -- 0 and six values, the last four the numbers of a plain entry; or the number of the refusal, and the values stay.
 use mathlib.Core.Path.{refl}
 use Rattle.place.specs.Answer.{answer}
-use Rattle.npy_codes.specs.Values.{runValues}
+use Rattle.npy_codes.specs.Numbers.{runValues}
 use Rattle.npy_codes.proofs.Told.{gives-told, refuses-told, run-numbers}
 use borrow.Author.Needs.{needs}
 use Rattle.npy_codes.proofs.tell_place.Statement.{statement}

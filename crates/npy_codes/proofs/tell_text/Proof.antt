@@ -3,7 +3,7 @@ use Rattle.header.specs.Reads.{textAnswer}
 use Prim.Native.Nat.{ℕ}
 use mathlib.Core.Path.{_≡_, refl, ap}
 use mathlib.Core.List.{List, _∷_}
-use Rattle.npy_codes.specs.Values.{textValues}
+use Rattle.npy_codes.specs.Numbers.{textValues}
 use Rattle.npy_codes.proofs.Told.{gives-told, refuses-told}
 use borrow.Author.Needs.{needs}
 use Rattle.npy_codes.proofs.tell_text.Statement.{statement}

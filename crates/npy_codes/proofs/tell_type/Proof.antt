@@ -1,7 +1,7 @@
 -- 0 and the four numbers of a plain entry; or the number of the refusal, and the values stay.
 use mathlib.Core.Path.{refl}
 use Rattle.type_str.specs.Answer.{answer}
-use Rattle.npy_codes.specs.Values.{typeValues}
+use Rattle.npy_codes.specs.Numbers.{typeValues}
 use Rattle.npy_codes.proofs.Told.{gives-told, refuses-told, type-numbers}
 use borrow.Author.Needs.{needs}
 use Rattle.npy_codes.proofs.tell_type.Statement.{statement}
