@@ -88,7 +88,7 @@ told-eq : {v w : version.Version} (r : Record) → v ≡ w
 told-eq r e = cc
 
 own-file : (r : Record) → Sound r → limited r ≡ gives r → Printable r
-    → (f : Some-file (table (r .dtype)) (names (r .dtype)) (r .shape) (r .order)) × AllBytes (f .file)
+    → (f : Some-file (table (r .dtype)) (names (r .dtype)) (r .shape) (r .order)) × AllBytes (f .file) × (f .before ≡ lent (table (r .dtype)) (names (r .dtype)) (r .shape))
 own-file r sound limits p =
     let l = lent (table (r .dtype)) (names (r .dtype)) (r .shape) in
     let fits = roomy-fits r l (record { table-fits = omega arith; names-fit = omega arith; shape-fits = omega arith }) in
@@ -110,9 +110,13 @@ own-file r sound limits p =
         holds = fronts-by r l (holding r l) (infoOf r) refl refl;
       },
       bytes-append (fileOf r) [] (file-all-bytes r sound) tt,
+      refl,
     )
 
-file-moved : (t t′ ns ns′ s : List ℕ) (o : Order) → t ≡ t′ → ns ≡ ns′ → (f : Some-file t′ ns′ s o) × AllBytes (f .file) → (f : Some-file t ns s o) × AllBytes (f .file)
+abbrev From-file : (t ns s : List ℕ) (o : Order) → Type 0
+From-file t ns s o = (f : Some-file t ns s o) × AllBytes (f .file) × (f .before ≡ lent t ns s)
+
+file-moved : (t t′ ns ns′ s : List ℕ) (o : Order) → t ≡ t′ → ns ≡ ns′ → From-file t′ ns′ s o → From-file t ns s o
 file-moved t t′ ns ns′ s o et en f = rw (et, en) f
 
 only-read : (t ns s : List ℕ) (o : Order) → Small t → Small s → (r : Record) → checkedRecord t ns s o ≡ gives r → (r : Record) × Accepted-as t ns s o r
@@ -130,6 +134,7 @@ only-read t ns s o small-t small-s r e =
         well-named = v .well-named;
         no-array = v .no-array;
         limits = limits;
+        checked = e ∙ ap gives is;
         from-file = λ p. file-moved t (table d) ns (names d) s o (v .table-is) (v .names-are) (own-file (made d s o) sound limits p);
       },
     )

@@ -32,14 +32,16 @@ use Rattle.place.proofs.Placing.{place-given}
 use Rattle.place.proofs.Outcomes.{place-one}
 use Rattle.place.proofs.Walks.{path-or-none, plain-path}
 use Rattle.place_item.proofs.Sums.{range-of}
-use Rattle.header.specs.Reads.{infoOf, headerInfo}
+use Rattle.header.specs.Reads.{infoOf, headerInfo, answer}
 use Rattle.npy_codes.specs.Codes.{code, Tells}
-use Rattle.npy_codes.specs.Numbers.{orderNumber, runValues}
+use Rattle.npy_codes.specs.Numbers.{orderNumber, headerValues, runValues}
 use Rattle.npy_codes.proofs.Named.{retold}
 use Rattle.claims.specs.Functions.{Place}
 use Rattle.claims.specs.InC.{Npy-place}
-use Rattle.claims.specs.Places.{Named-by, Owned, Record-owned, Record-owned-in-C, Data-owned, Data-owned-in-C}
+use Rattle.claims.specs.Places.{Named-by, Owned, Record-owned, Record-owned-in-C, Header-stored, Data-owned, Data-owned-in-C}
 use Rattle.claims.proofs.WasRead.{values-one, holds-own}
+use Rattle.claims.specs.Doors.{in-rattle}
+use Rattle.claims.proofs.Doors.{rattle-fails, succeeded}
 use Rattle.claims.proofs.Found.{told-value, order-back, read-was, npy-read-was}
 use Rattle.claims.proofs.Numbers.{place-numbered}
 
@@ -175,6 +177,18 @@ pub record-owned-in-c : Record-owned-in-C
 record-owned-in-c file start t ns s o r accepted no-object long run =
     area-owned (λ x p y. Npy-place file start t ns s (orderNumber o) x p run (y .0) (y .1)) (λ u. (0, runValues u)) (26, run) (placeOf file start t ns s o) start r
     (npy-place-answers file start t ns s o run) (by-formula file start t ns s o r accepted no-object long)
+
+pub header-stored : Header-stored
+header-stored =
+    record {
+      read = λ file l l′ x c e.
+          let (i, is) = succeeded in-rattle (answer x) (answer x) refl (rattle-fails (answer x)) e in
+          let w = read-was file l l′ x i c is in
+          (w .header-is, is ∙ ap gives (w .values), w .held);
+      npy-read = λ file l l′ said said′ c.
+          let (i, v, w) = npy-read-was file l l′ said said′ c in
+          (w .header-is, v ∙ ap headerValues (w .values), w .held);
+    }
 
 pub data-owned : Data-owned
 data-owned file l l′ x h c e held =

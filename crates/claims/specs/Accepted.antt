@@ -17,11 +17,12 @@ use Rattle.record.specs.Rooms.{Lent}
 use Rattle.check_table.specs.Reading.{untyped, illNamed, isArray}
 use Rattle.check_record.specs.declared.Checked.{Checked}
 use Rattle.check_record.specs.declared.Summary.{Summary}
+use Rattle.check_record.specs.Checked.{checkedRecord}
 use Rattle.check_record.specs.Answer as check-record
 use Rattle.header.specs.declared.HeaderRead.{HeaderRead}
 use Rattle.header.specs.declared.RecordInfo.{RecordInfo}
 use Rattle.header.specs.declared.TextRead.{TextRead}
-use Rattle.header.specs.Reads.{HeaderInfo, answer, textAnswer}
+use Rattle.header.specs.Reads.{HeaderInfo, answer, textAnswer, lent}
 use Rattle.read_back.specs.Rooms.{Fronts, Holds}
 use Rattle.npy_codes.specs.Numbers.{orderNumber, textValues, summaryValues}
 use Rattle.claims.specs.Doors.{Door, in-rattle, in-c}
@@ -46,7 +47,7 @@ pub record Printable (r : Record) : Type 0 where
   pub short : textLength r ≤ most-text
 
 -- what an accepted table, names, shape and order are: those of a record whose types type strings give, whose names are UTF-8 and that is outermost no array (27), within 13,
--- 20, 21 and 22; and, where its header is printable, some file, made of bytes, is read as it
+-- 20, 21 and 22; and, where its header is printable, some file, made of bytes, is read as it, into rooms that are as long as it is
 pub record Accepted-as (t ns s : List ℕ) (o : Order) (r : Record) : Type 0 where
   pub table-is : t ≡ table (r .dtype)
   pub names-are : ns ≡ names (r .dtype)
@@ -56,7 +57,8 @@ pub record Accepted-as (t ns s : List ℕ) (o : Order) (r : Record) : Type 0 whe
   pub well-named : illNamed (r .dtype) ≡ false
   pub no-array : isArray (r .dtype) ≡ false
   pub limits : limited r ≡ gives r
-  pub from-file : Printable r → (f : Some-file t ns s o) × AllBytes (f .file)
+  pub checked : checkedRecord t ns s o ≡ gives r
+  pub from-file : Printable r → (f : Some-file t ns s o) × AllBytes (f .file) × (f .before ≡ lent t ns s)
 
 -- the result y of checking: a record that is read from some file is accepted, and what is accepted is such a record
 pub record Accepts {R : Type 0} (door : Door Summary R) (t ns s : List ℕ) (o : Order) (y : R) : Type 0 where

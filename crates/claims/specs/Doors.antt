@@ -1,5 +1,5 @@
 -- How the outcome of a call is returned: in Rattle by an answer, in C by a number and, where it is 0, by values in lent numbers (`code`,
--- npy_codes/specs/Codes.antt). A claim that holds of a Rattle function and of its C function is stated once, for either door.
+-- npy_codes/specs/Codes.antt). What a claim concludes of a Rattle function and of its C function is stated once, for either door.
 use Prim.Native.Nat.{ℕ}
 use mathlib.Core.Bool.{Bool}
 use mathlib.Core.List.{List}

@@ -9,7 +9,7 @@ use mathlib.Core.Bool.{true, false}
 use mathlib.Core.List.{List}
 use lib.ListN.{length}
 use Rattle.refusal.specs.declared.Refusal.{Refusal}
-use Rattle.counts.specs.Outcome.{gives}
+use Rattle.counts.specs.Outcome.{gives, given}
 use Rattle.type_str.specs.declared.TypeStr.{TypeStr}
 use Rattle.dtype.specs.declared.Order.{Order}
 use Rattle.dtype.specs.Entries.{hasObject}
@@ -67,12 +67,20 @@ Record-owned-in-C =
     → (run : List ℕ)
     → Owned {Y = ℕ × List ℕ} (λ x p y. Npy-place file start t ns s (orderNumber o) x p run (y .0) (y .1)) (λ u. (0, runValues u)) (26, run) start r
 
+-- a file that is read has such a header: its values were returned, and its record was stored
+pub record Header-stored : Type 0 where
+  pub read : (file : List ℕ) (l l′ : Lent) (x : HeaderRead) → Read file l x l′ → given (answer x) ≡ true
+      → (h : Header) × (answer x ≡ gives (headerInfo h)) × (l′ ≡ holding (h .says) l)
+  pub npy-read : (file : List ℕ) (l l′ : Lent) (said said′ : List ℕ) → Npy-read file l said 0 l′ said′
+      → (h : Header) × (said′ ≡ headerValues (headerInfo h)) × (l′ ≡ holding (h .says) l)
+
 -- after the header h was read: the rooms hold its record, which the check accepts, and its data area, if it has no `O` and the file is long enough, is owned
 pub record Data-owned-by (file : List ℕ) (h : Header) (l′ : Lent) (Area : (start : ℕ) → Record → Type 0) : Type 0 where
   pub holds : Holds (h .says) (infoOf (h .says)) l′
   pub owned : hasObject (h .says .dtype) ≡ false → h .data-start + dataBytes (h .says) ≤ length file → Area (h .data-start) (h .says)
 
--- the second claim, for every file that is read: h is the header whose values were returned and whose record was stored; by Exact.antt the file begins with such a header
+-- the second claim, for every file that is read: h is the header whose values were returned and whose record was stored. There is one (`Header-stored`), and by Exact.antt the file
+-- begins with it
 abbrev pub Data-owned : Type 0
 Data-owned =
     (file : List ℕ) (l l′ : Lent) (x : HeaderRead) (h : Header) → Read file l x l′ → answer x ≡ gives (headerInfo h) → l′ ≡ holding (h .says) l

@@ -1,5 +1,5 @@
 -- Demand 1. Document 01, "The refusal numbers": "Each returns its number only; every lent buffer stays unchanged." One line for each function that a customer calls and that
--- is lent memory to write to; those of the C interface are in Codes.antt. Whatever satisfies the function's contract and is a refusal has left the lent memory unchanged.
+-- is lent memory to write to; those of the C interface are in Codes.antt. Whatever satisfies the function's predicate and is a refusal has left the lent memory unchanged.
 -- l is the three lent rooms of a reader; t, ns, s and o are a caller's table, names, shape and order, x an index and p a path.
 use Prim.Native.Nat.{ℕ}
 use mathlib.Core.Path.{_≡_}

@@ -72,8 +72,8 @@ pub record Goes-again {R : Type 0} (door : Door ℕ R) (r : Record) (out : List 
 abbrev pub Same-record : ((bytes t ns s : List ℕ) → Order → Type 0) → Record → (bytes : List ℕ) → Type 0
 Same-record Back r bytes = Back bytes (table (r .dtype)) (names (r .dtype)) (r .shape) (r .order)
 
--- the second claim: the record of the header h that was read goes again; h is the header whose values were returned and whose record was stored, and by Exact.antt the file
--- begins with such a header
+-- the second claim: the record of the header h that was read goes again; h is the header whose values were returned and whose record was stored. There is one (`Header-stored`,
+-- Places.antt), and by Exact.antt the file begins with it
 abbrev pub Read-written : Type 0
 Read-written =
     (file : List ℕ) (l l′ : Lent) (x : HeaderRead) (h : Header) → Read file l x l′ → answer x ≡ gives (headerInfo h) → l′ ≡ holding (h .says) l
