@@ -54,28 +54,7 @@ use Rattle.npy_codes.specs.Codes.{alone}
 use Rattle.npy_codes.specs.Numbers.{orderFor, typeFor, textValues, headerValues, runValues}
 use Rattle.npy.specs.Calls.{Puts}
 use Rattle.claims.specs.Doors.{Door, in-rattle, in-c}
-use Rattle.claims.specs.Exact.{
-  Exactly,
-  In-text,
-  In-file,
-  Fits,
-  Reads-exactly,
-  Reads-text-exactly,
-  Writable,
-  Writes-exactly,
-  Named,
-  Places-exactly,
-  Element,
-  bytes-within,
-  points-within,
-  Takes-exactly,
-  Alone,
-  bytes-out,
-  points-out,
-  By-number,
-  Exact,
-  Exact-in-C,
-}
+use Rattle.claims.specs.Exact.{In-text, In-file, Fits, Reads-exactly, Reads-text-exactly, Writable, Writes-exactly, Named, Element, bytes-within, points-within, Takes-exactly, By-itself, bytes-out, points-out, By-number, Exact, Exact-in-C}
 use Rattle.claims.proofs.Doors.{Fails, rattle-fails, c-fails, c-returned, exactly-by}
 use Rattle.record.proofs.Numbers.{Numbered, each-numbered, then-numbered}
 use Rattle.claims.proofs.Numbers.{for-numbered, held-header-numbered, text-numbered, header-written-numbered, place-numbered, element-bytes-numbered, type-for-numbered, read-bytes-numbered, read-points-numbered, write-bytes-numbered, write-points-numbered, element-points-numbered}
@@ -254,13 +233,13 @@ takes-exactly door Due room y room′ whole is held fails due back =
 
 -- ---- an element by itself
 module _ (k : TypeStr) (given : Outcome (List ℕ)) (n : ℕ) (room : List ℕ) where
-  alone-put : (content : List ℕ) → Alone k given room content → unless (not (isType k)) 27 (then given (roomed n room)) ≡ gives content
+  by-itself-put : (content : List ℕ) → By-itself k given room content → unless (not (isType k)) 27 (then given (roomed n room)) ≡ gives content
   unfolding roomed
-  alone-put content a = rw (a .typed, a .is, roomed, le-ltb _ _ (a .fits))
+  by-itself-put content a = rw (a .typed, a .is, roomed, le-ltb _ _ (a .fits))
 
-  put-alone : (content : List ℕ) → unless (not (isType k)) 27 (then given (roomed n room)) ≡ gives content → Alone k given room content
+  put-by-itself : (content : List ℕ) → unless (not (isType k)) 27 (then given (roomed n room)) ≡ gives content → By-itself k given room content
   unfolding roomed
-  put-alone content e =
+  put-by-itself content e =
       let (typed, of-type) = unless-back (not (isType k)) 27 _ content e in
       let (c, is-content, kept) = then-back given _ content of-type in
       let (fits, is) = unless-back (ltb (length room) (length c)) n (gives c) content kept in
@@ -324,17 +303,17 @@ exact =
           takes-exactly in-rattle (Element points-within at file out) out _ out′ (elementPoints file start t ns s o x p out) (h .answered) (h .room-after) (rattle-fails _)
           (λ c d. is ∙ element-put points-within at file out c d) (λ c e. put-element points-within at file out c (sym is ∙ e));
       read-bytes = λ run k out y out′ h.
-          takes-exactly in-rattle (Alone k (bytes-within k run) out) out _ out′ (readBytes k run out) (h .answered) (h .room-after) (rattle-fails _)
-          (λ c d. read-bytes-put k run out ∙ alone-put k (bytes-within k run) 23 out c d) (λ c e. put-alone k (bytes-within k run) 23 out c (sym (read-bytes-put k run out) ∙ e));
+          takes-exactly in-rattle (By-itself k (bytes-within k run) out) out _ out′ (readBytes k run out) (h .answered) (h .room-after) (rattle-fails _)
+          (λ c d. read-bytes-put k run out ∙ by-itself-put k (bytes-within k run) 23 out c d) (λ c e. put-by-itself k (bytes-within k run) 23 out c (sym (read-bytes-put k run out) ∙ e));
       read-points = λ run k out y out′ h.
-          takes-exactly in-rattle (Alone k (points-within k run) out) out _ out′ (readPoints k run out) (h .answered) (h .room-after) (rattle-fails _)
-          (λ c d. read-points-put k run out ∙ alone-put k (points-within k run) 23 out c d) (λ c e. put-alone k (points-within k run) 23 out c (sym (read-points-put k run out) ∙ e));
+          takes-exactly in-rattle (By-itself k (points-within k run) out) out _ out′ (readPoints k run out) (h .answered) (h .room-after) (rattle-fails _)
+          (λ c d. read-points-put k run out ∙ by-itself-put k (points-within k run) 23 out c d) (λ c e. put-by-itself k (points-within k run) 23 out c (sym (read-points-put k run out) ∙ e));
       write-bytes = λ k value out y out′ h.
-          takes-exactly in-rattle (Alone k (bytes-out k value) out) out _ out′ (writeBytes k value out) (h .answered) (h .room-after) (rattle-fails _)
-          (λ c d. write-bytes-put k value out ∙ alone-put k (bytes-out k value) 28 out c d) (λ c e. put-alone k (bytes-out k value) 28 out c (sym (write-bytes-put k value out) ∙ e));
+          takes-exactly in-rattle (By-itself k (bytes-out k value) out) out _ out′ (writeBytes k value out) (h .answered) (h .room-after) (rattle-fails _)
+          (λ c d. write-bytes-put k value out ∙ by-itself-put k (bytes-out k value) 28 out c d) (λ c e. put-by-itself k (bytes-out k value) 28 out c (sym (write-bytes-put k value out) ∙ e));
       write-points = λ k value out y out′ h.
-          takes-exactly in-rattle (Alone k (points-out k value) out) out _ out′ (writePoints k value out) (h .answered) (h .room-after) (rattle-fails _)
-          (λ c d. write-points-put k value out ∙ alone-put k (points-out k value) 28 out c d) (λ c e. put-alone k (points-out k value) 28 out c (sym (write-points-put k value out) ∙ e));
+          takes-exactly in-rattle (By-itself k (points-out k value) out) out _ out′ (writePoints k value out) (h .answered) (h .room-after) (rattle-fails _)
+          (λ c d. write-points-put k value out ∙ by-itself-put k (points-out k value) 28 out c d) (λ c e. put-by-itself k (points-out k value) 28 out c (sym (write-points-put k value out) ∙ e));
     }
 
 -- the numbers of what is asked of an order
@@ -395,18 +374,18 @@ exact-in-c =
           (points-due file start t ns s x p out) (due-points file start t ns s x p out) count r out′ count′ h;
       npy-read-bytes = λ run order letter size units out count r out′ count′ h.
           takes-in-c (typeFor order letter size units) (λ k. readBytes k run out) _ out (type-for-numbered order letter size units) (λ k. read-bytes-numbered k run out)
-          (λ k c d. read-bytes-put k run out ∙ alone-put k (bytes-within k run) 23 out c d)
-          (λ k c e. put-alone k (bytes-within k run) 23 out c (sym (read-bytes-put k run out) ∙ e)) count r out′ count′ h;
+          (λ k c d. read-bytes-put k run out ∙ by-itself-put k (bytes-within k run) 23 out c d)
+          (λ k c e. put-by-itself k (bytes-within k run) 23 out c (sym (read-bytes-put k run out) ∙ e)) count r out′ count′ h;
       npy-read-points = λ run order letter size units out count r out′ count′ h.
           takes-in-c (typeFor order letter size units) (λ k. readPoints k run out) _ out (type-for-numbered order letter size units) (λ k. read-points-numbered k run out)
-          (λ k c d. read-points-put k run out ∙ alone-put k (points-within k run) 23 out c d)
-          (λ k c e. put-alone k (points-within k run) 23 out c (sym (read-points-put k run out) ∙ e)) count r out′ count′ h;
+          (λ k c d. read-points-put k run out ∙ by-itself-put k (points-within k run) 23 out c d)
+          (λ k c e. put-by-itself k (points-within k run) 23 out c (sym (read-points-put k run out) ∙ e)) count r out′ count′ h;
       npy-write-bytes = λ order letter size units value out count r out′ count′ h.
           takes-in-c (typeFor order letter size units) (λ k. writeBytes k value out) _ out (type-for-numbered order letter size units) (λ k. write-bytes-numbered k value out)
-          (λ k c d. write-bytes-put k value out ∙ alone-put k (bytes-out k value) 28 out c d)
-          (λ k c e. put-alone k (bytes-out k value) 28 out c (sym (write-bytes-put k value out) ∙ e)) count r out′ count′ h;
+          (λ k c d. write-bytes-put k value out ∙ by-itself-put k (bytes-out k value) 28 out c d)
+          (λ k c e. put-by-itself k (bytes-out k value) 28 out c (sym (write-bytes-put k value out) ∙ e)) count r out′ count′ h;
       npy-write-points = λ order letter size units value out count r out′ count′ h.
           takes-in-c (typeFor order letter size units) (λ k. writePoints k value out) _ out (type-for-numbered order letter size units) (λ k. write-points-numbered k value out)
-          (λ k c d. write-points-put k value out ∙ alone-put k (points-out k value) 28 out c d)
-          (λ k c e. put-alone k (points-out k value) 28 out c (sym (write-points-put k value out) ∙ e)) count r out′ count′ h;
+          (λ k c d. write-points-put k value out ∙ by-itself-put k (points-out k value) 28 out c d)
+          (λ k c e. put-by-itself k (points-out k value) 28 out c (sym (write-points-put k value out) ∙ e)) count r out′ count′ h;
     }

@@ -52,7 +52,7 @@ use Rattle.write.specs.Writes.{headerWritten}
 use Rattle.list_text.specs.Listing.{listing}
 use Rattle.list_record.specs.Answer.{listed}
 use Rattle.npy_codes.specs.Numbers.{orderFor, typeFor}
-use Rattle.record.proofs.Numbers.{Number, Numbered, an-answer, a-number, cond-numbered, unless-numbered, then-numbered, each-numbered, type-numbered, limited-numbered, in-numbered, version-numbered, prefix-numbered, stored-numbered, part-numbered}
+use Rattle.record.proofs.Numbers.{Number, Numbered, an-answer, a-number, cond-numbered, unless-numbered, then-numbered, each-numbered, limited-numbered, in-numbered, version-numbered, prefix-numbered, stored-numbered, part-numbered}
 
 held-numbered : (longer : Bool) (p : Prefix) (file : List ℕ) → Numbered (textHeld longer p file)
 unfolding textHeld

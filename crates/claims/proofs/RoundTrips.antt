@@ -7,8 +7,7 @@ use mathlib.Core.Path.{_≡_, refl, sym, ap, subst, _∙_}
 use mathlib.Core.List.{List, _++_}
 use mathlib.Core.Bool.{Bool, true, false, not}
 use lib.Dec.{ltb}
-use lib.ListN.{length, take, drop}
-use lib.Seq.{take-append-seam}
+use lib.ListN.{length, take}
 use borrow.Author.Tests.{lt-ltb, le-ltb}
 use Rattle.counts.specs.Outcome.{Outcome, gives, refused, then, each, unless, afterwards}
 use Rattle.counts.specs.Front.{atFront}
@@ -38,21 +37,12 @@ use Rattle.header.specs.Reads.{HeaderInfo, headerInfo, answer, heldInto, infoOf
 use Rattle.write.specs.Writes.{headerWritten}
 use Rattle.read_back.specs.Rooms.{tableIn, namesIn, shapeIn}
 use Rattle.read_back.proofs.Accepted.{valid-sound}
-use Rattle.read_back.proofs.Rooms.{fronts-by}
+use Rattle.read_back.proofs.Rooms.{front, fronts-by}
 use Rattle.npy_codes.specs.Codes.{alone}
 use Rattle.npy_codes.specs.Numbers.{orderFor, headerValues}
 use Rattle.npy_codes.proofs.Named.{retold}
 use Rattle.claims.specs.Doors.{Door, in-rattle, in-c}
-use Rattle.claims.specs.RoundTrips.{
-  Comes-back,
-  Read-back,
-  Npy-read-back,
-  Written-read,
-  Written-read-in-C,
-  Goes-again,
-  Read-written,
-  Read-written-in-C,
-}
+use Rattle.claims.specs.RoundTrips.{Comes-back, Read-back, Npy-read-back, Written-read, Written-read-in-C, Goes-again, Read-written, Read-written-in-C}
 use Rattle.claims.proofs.Doors.{c-returned}
 use Rattle.claims.proofs.Found.{told-value, order-named, order-back, Was-read, read-was, npy-read-was, by-whole}
 use Rattle.record.proofs.Numbers.{each-numbered, then-numbered}
@@ -68,9 +58,6 @@ writing-whole r room =
     (λ s. unless-holds (λ b. b ≡ fileOf r) (not (within (valueOf (headerLayout r)) 32)) 7 _
     (λ a. unless-holds (λ b. b ≡ fileOf r) (ltb most-text (textLength r)) 4 _
     (λ b. unless-holds (λ b. b ≡ fileOf r) (ltb (length room) (length (fileOf r))) 28 (gives (fileOf r)) (λ c. refl))))
-
-front-taken : (bytes room : List ℕ) → take (length bytes) (atFront bytes room) ≡ bytes
-front-taken bytes room = take-append-seam bytes (drop (length bytes) room)
 
 -- ---- the bytes of a sound record are read back
 module _ {R : Type 0} (door : Door HeaderInfo R) (r : Record) (l l′ : Lent) (y : R) where
@@ -139,7 +126,7 @@ wrote t ns s o room bytes n room′ small-t small-s e len after =
       sound = subst Sound (sym is) (valid-sound t ns s o d valid small-t small-s);
       writes = of-record ∙ ap gives same;
       long = ap length (sym same) ∙ len;
-      bytes = ap (take n) after ∙ ap (λ (k : ℕ). take k (atFront bytes room)) (sym len) ∙ front-taken bytes room ∙ same;
+      bytes = ap (take n) after ∙ front n bytes room (sym len) ∙ same;
     }
 
 module _ (t ns s : List ℕ) (o : Order) (room : List ℕ) (n : ℕ) (room′ : List ℕ) (w : Wrote t ns s o room n room′) where
@@ -191,7 +178,7 @@ goes-again door r out w out′ Again only is after again =
       written = λ h k.
           let e : writing r out ≡ gives (fileOf r) = only ∙ rw (le-ltb _ _ h, roomed-whole 28 out (fileOf r) (rw len k)) refl in (
             returned (gives (fileOf r)) e ∙ ap (λ (n : ℕ). door .returned (gives n)) len,
-            subst Again (sym (ap (take (headerLength r)) (held (gives (fileOf r)) e) ∙ ap (λ (n : ℕ). take n (atFront (fileOf r) out)) (sym len) ∙ front-taken (fileOf r) out)) (again e),
+            subst Again (sym (ap (take (headerLength r)) (held (gives (fileOf r)) e) ∙ front (headerLength r) (fileOf r) out (sym len))) (again e),
           );
     }
 

@@ -4,7 +4,6 @@ use Prim.Native.Nat.{ℕ}
 use mathlib.Core.Path.{_≡_, refl, sym, ap, subst, _∙_}
 use mathlib.Core.List.{List}
 use lib.ListN.{getD}
-use Rattle.counts.specs.Outcome.{gives}
 use Rattle.counts.proofs.Apart.{gives-apart}
 use Rattle.dtype.specs.declared.Order.{Order}
 use Rattle.dtype.specs.Record.{Record}
@@ -12,7 +11,7 @@ use Rattle.dtype.proofs.Record.{parts-equal}
 use Rattle.record.specs.Rooms.{Lent, holding}
 use Rattle.record.specs.Header.{Header}
 use Rattle.header.specs.declared.RecordInfo.{RecordInfo}
-use Rattle.header.specs.Reads.{HeaderInfo, infoOf, headerInfo}
+use Rattle.header.specs.Reads.{HeaderInfo, infoOf}
 use Rattle.read_back.specs.Rooms.{Holds}
 use Rattle.read_back.proofs.Rooms.{fronts-by}
 use Rattle.npy_codes.specs.Numbers.{orderNumber, orderFor, headerValues}

@@ -18,22 +18,7 @@ use Rattle.header.specs.declared.RecordInfo.{RecordInfo}
 use Rattle.header.specs.declared.TextRead.{TextRead}
 use Rattle.header.specs.declared.Header.{Header}
 use Rattle.header.specs.declared.HeaderRead.{HeaderRead}
-use Rattle.claims.specs.Functions.{
-  Read-held,
-  Read-text,
-  Report,
-  Write-header,
-  List-record,
-  Strides,
-  Element-bytes,
-  Element-points,
-  Read-bytes,
-  Read-points,
-  Write-bytes,
-  Write-points,
-  Type-print,
-  Encode,
-}
+use Rattle.claims.specs.Functions.{Read-held, Read-text, Report, Write-header, List-record, Strides, Element-bytes, Element-points, Read-bytes, Read-points, Write-bytes, Write-points, Type-print, Encode}
 
 -- the three rooms of a reader, beyond the entries, name bytes and dimensions that it stored
 pub record Same-rest (info : RecordInfo) (l l′ : Lent) : Type 0 where

@@ -28,25 +28,7 @@ use Rattle.npy_codes.specs.Codes.{alone}
 use Rattle.npy_codes.specs.Numbers.{orderFor, typeFor, typeValues, textValues, headerValues, summaryValues, runValues}
 use Rattle.claims.specs.Beyond.{Same-rest}
 use Rattle.claims.specs.Functions.{By-grammar}
-use Rattle.claims.specs.InC.{
-  Npy-read-held,
-  Npy-read-text,
-  Npy-check,
-  Npy-write-header,
-  Npy-list,
-  Npy-count,
-  Npy-strides,
-  Npy-item-number,
-  Npy-place,
-  Npy-element-bytes,
-  Npy-element-points,
-  Npy-read-bytes,
-  Npy-read-points,
-  Npy-write-bytes,
-  Npy-write-points,
-  Npy-type-read,
-  Npy-type-print,
-}
+use Rattle.claims.specs.InC.{Npy-read-held, Npy-read-text, Npy-check, Npy-write-header, Npy-list, Npy-count, Npy-strides, Npy-item-number, Npy-place, Npy-element-bytes, Npy-element-points, Npy-read-bytes, Npy-read-points, Npy-write-bytes, Npy-write-points, Npy-type-read, Npy-type-print}
 
 -- a refusal: the definition refuses with r, which is one of the thirty numbers, and all lent memory is as it was
 pub record Refuses {A M : Type 0} (o : Outcome A) (before : M) (r : ℕ) (after : M) : Type 0 where

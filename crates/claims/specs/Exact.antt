@@ -47,18 +47,7 @@ use Rattle.npy_codes.specs.Numbers.{orderFor, typeFor, textValues, headerValues
 use Rattle.claims.specs.Doors.{Door, in-rattle, in-c}
 use Rattle.claims.specs.Roomy.{Roomy}
 use Rattle.claims.specs.Functions.{Read-held, Read-text, Write-header, Place, Element-bytes, Element-points, Read-bytes, Read-points, Write-bytes, Write-points}
-use Rattle.claims.specs.InC.{
-  Npy-read-held,
-  Npy-read-text,
-  Npy-write-header,
-  Npy-place,
-  Npy-element-bytes,
-  Npy-element-points,
-  Npy-read-bytes,
-  Npy-read-points,
-  Npy-write-bytes,
-  Npy-write-points,
-}
+use Rattle.claims.specs.InC.{Npy-read-held, Npy-read-text, Npy-write-header, Npy-place, Npy-element-bytes, Npy-element-points, Npy-read-bytes, Npy-read-points, Npy-write-bytes, Npy-write-points}
 
 -- a call that returned y and left `after`: it succeeded exactly where some a is due, and then it returned a's value and stored a
 pub record Exactly {A B M R : Type 0} (door : Door B R) (Due : A → Type 0) (value : A → B) (store : A → M → M) (before : M) (y : R) (after : M) : Type 0 where
@@ -136,7 +125,7 @@ abbrev pub points-within : TypeStr → List ℕ → Outcome (List ℕ)
 points-within k = pointsIn (kindOf (k .letter)) (k .order)
 
 -- an element by itself: its type k is one that readings give, the definition gives its content, or its run, and that fits the room
-pub record Alone (k : TypeStr) (given : Outcome (List ℕ)) (room content : List ℕ) : Type 0 where
+pub record By-itself (k : TypeStr) (given : Outcome (List ℕ)) (room content : List ℕ) : Type 0 where
   pub typed : isType k ≡ true
   pub is : given ≡ gives content
   pub fits : length content ≤ length room
@@ -173,13 +162,13 @@ pub record Exact : Type 0 where
       → Takes-exactly in-rattle (Element points-within (placeOf (length file) start t ns s o x p) file out) out (pointsAnswer y) out′
   -- `string_element::read_bytes`, `read_points`, `write_bytes`, `write_points`
   pub read-bytes : (run : List ℕ) (k : TypeStr) (out : List ℕ) (y : BytesAnswer) (out′ : List ℕ) → Read-bytes run k out y out′
-      → Takes-exactly in-rattle (Alone k (bytes-within k run) out) out (bytesAnswer y) out′
+      → Takes-exactly in-rattle (By-itself k (bytes-within k run) out) out (bytesAnswer y) out′
   pub read-points : (run : List ℕ) (k : TypeStr) (out : List ℕ) (y : PointsAnswer) (out′ : List ℕ) → Read-points run k out y out′
-      → Takes-exactly in-rattle (Alone k (points-within k run) out) out (pointsAnswer y) out′
+      → Takes-exactly in-rattle (By-itself k (points-within k run) out) out (pointsAnswer y) out′
   pub write-bytes : (k : TypeStr) (value out : List ℕ) (y : BytesAnswer) (out′ : List ℕ) → Write-bytes k value out y out′
-      → Takes-exactly in-rattle (Alone k (bytes-out k value) out) out (bytesAnswer y) out′
+      → Takes-exactly in-rattle (By-itself k (bytes-out k value) out) out (bytesAnswer y) out′
   pub write-points : (k : TypeStr) (value out : List ℕ) (y : BytesAnswer) (out′ : List ℕ) → Write-points k value out y out′
-      → Takes-exactly in-rattle (Alone k (points-out k value) out) out (bytesAnswer y) out′
+      → Takes-exactly in-rattle (By-itself k (points-out k value) out) out (bytesAnswer y) out′
 
 -- the same of the functions of the C interface
 pub record Exact-in-C : Type 0 where
@@ -200,13 +189,13 @@ pub record Exact-in-C : Type 0 where
       → Takes-exactly (in-c alone count) (By-number (orderFor order) (λ o. Element points-within (placeOf (length file) start t ns s o x p) file out)) out (r, count′) out′
   pub npy-read-bytes : (run : List ℕ) (order letter size units : ℕ) (out count : List ℕ) (r : ℕ) (out′ count′ : List ℕ)
       → Npy-read-bytes run order letter size units out count r out′ count′
-      → Takes-exactly (in-c alone count) (By-number (typeFor order letter size units) (λ k. Alone k (bytes-within k run) out)) out (r, count′) out′
+      → Takes-exactly (in-c alone count) (By-number (typeFor order letter size units) (λ k. By-itself k (bytes-within k run) out)) out (r, count′) out′
   pub npy-read-points : (run : List ℕ) (order letter size units : ℕ) (out count : List ℕ) (r : ℕ) (out′ count′ : List ℕ)
       → Npy-read-points run order letter size units out count r out′ count′
-      → Takes-exactly (in-c alone count) (By-number (typeFor order letter size units) (λ k. Alone k (points-within k run) out)) out (r, count′) out′
+      → Takes-exactly (in-c alone count) (By-number (typeFor order letter size units) (λ k. By-itself k (points-within k run) out)) out (r, count′) out′
   pub npy-write-bytes : (order letter size units : ℕ) (value out count : List ℕ) (r : ℕ) (out′ count′ : List ℕ)
       → Npy-write-bytes order letter size units value out count r out′ count′
-      → Takes-exactly (in-c alone count) (By-number (typeFor order letter size units) (λ k. Alone k (bytes-out k value) out)) out (r, count′) out′
+      → Takes-exactly (in-c alone count) (By-number (typeFor order letter size units) (λ k. By-itself k (bytes-out k value) out)) out (r, count′) out′
   pub npy-write-points : (order letter size units : ℕ) (value out count : List ℕ) (r : ℕ) (out′ count′ : List ℕ)
       → Npy-write-points order letter size units value out count r out′ count′
-      → Takes-exactly (in-c alone count) (By-number (typeFor order letter size units) (λ k. Alone k (points-out k value) out)) out (r, count′) out′
+      → Takes-exactly (in-c alone count) (By-number (typeFor order letter size units) (λ k. By-itself k (points-out k value) out)) out (r, count′) out′

@@ -4,17 +4,11 @@
 use Prim.Native.Nat.{ℕ}
 use mathlib.Core.Bool.{Bool}
 use mathlib.Core.List.{List}
-use Rattle.counts.specs.declared.Bytes.{Bytes}
 use Rattle.counts.specs.OneOutcome.{OneOutcome}
-use Rattle.refusal.specs.declared.ItemsAnswer.{ItemsAnswer}
-use Rattle.refusal.specs.declared.BytesAnswer.{BytesAnswer}
-use Rattle.refusal.specs.declared.PointsAnswer.{PointsAnswer}
 use Rattle.type_str.specs.declared.TypeStr.{TypeStr}
 use Rattle.dtype.specs.declared.Order.{Order}
 use Rattle.record.specs.Version.{Version}
 use Rattle.record.specs.Rooms.{Lent}
-use Rattle.header.specs.declared.TextRead.{TextRead}
-use Rattle.header.specs.declared.HeaderRead.{HeaderRead}
 use Rattle.claims.specs.Functions as rattle
 use Rattle.claims.specs.InC as c
 

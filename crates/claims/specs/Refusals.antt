@@ -12,22 +12,7 @@ use Rattle.dtype.specs.declared.Order.{Order}
 use Rattle.record.specs.Version.{Version}
 use Rattle.record.specs.Rooms.{Lent}
 use Rattle.header.specs.Reads.{answer, textAnswer}
-use Rattle.claims.specs.Functions.{
-  Read-held,
-  Read-text,
-  Report,
-  Write-header,
-  List-record,
-  Strides,
-  Element-bytes,
-  Element-points,
-  Read-bytes,
-  Read-points,
-  Write-bytes,
-  Write-points,
-  Type-print,
-  Encode,
-}
+use Rattle.claims.specs.Functions.{Read-held, Read-text, Report, Write-header, List-record, Strides, Element-bytes, Element-points, Read-bytes, Read-points, Write-bytes, Write-points, Type-print, Encode}
 
 -- of a function with this predicate, from its result and the memory afterwards: if `answer` says that the result is a refusal, the memory is as it was before
 abbrev pub Leaves : {A B M : Type 0} → (answer : A → Outcome B) → (Call : A → M → Type 0) → (before : M) → Type 0

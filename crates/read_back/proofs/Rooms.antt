@@ -25,7 +25,8 @@ table-whole r = omega (arith, flat-length (r .dtype) 0 0 0 [])
 pub names-whole : (r : Record) → nameBytes (r .dtype) ≡ length (names (r .dtype))
 names-whole r = omega (arith, names-length (r .dtype) [])
 
-front : (n : ℕ) (new old : List ℕ) → n ≡ length new → take n (atFront new old) ≡ new
+-- what was put at the front is found there
+pub front : (n : ℕ) (new old : List ℕ) → n ≡ length new → take n (atFront new old) ≡ new
 front n new old e = rw e (take-append-seam new (drop (length new) old))
 
 abbrev pub Parts : Record → RecordInfo → Lent → Type 0
