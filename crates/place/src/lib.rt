@@ -114,6 +114,7 @@ fn follow(table: &[u64], path: &[u64]) -> Placed
             return Placed::Refused(Refusal::Nowhere);
         };
         let ByteCount::Is(further) = before.plus(spot.before) else {
+            // not reached: the item's size fits
             return Placed::Refused(Refusal::Nowhere);
         };
         e = spot.entry;
@@ -131,7 +132,7 @@ fn follow(table: &[u64], path: &[u64]) -> Placed
     })
 }
 
-// What number i of a path leads to from entry e. No offset inside an item whose size fits is over 2^64-1.
+// What number i of a path leads to from entry e.
 fn step(table: &[u64], e: usize, i: u64) -> Led
     requires { ⌜ ((d : Dtype) × ListedSized (now table) e d) ⌝ }
     ensures { λ r. ⌜ ((d : Dtype) → ListedSized (now (table .entry)) e d → Steps (now (table .entry)) e d i r) ⌝ }
@@ -148,6 +149,7 @@ fn step(table: &[u64], e: usize, i: u64) -> Led
         let inner = table_entry::entry_at(table, c);
         let items = Items(i);
         let ByteCount::Is(before) = items.of_size(Bytes(inner.bytes)) else {
+            // not reached: the array's size fits
             return Led::Nowhere;
         };
         return Led::To(Reached { entry: c, before });
@@ -166,6 +168,7 @@ fn skip(table: &[u64], e: usize, i: u64) -> Led
     while k < i {
         let field = table_entry::entry_at(table, c);
         let ByteCount::Is(more) = before.plus(Bytes(field.bytes)) else {
+            // not reached: the record's size fits
             return Led::Nowhere;
         };
         before = more;

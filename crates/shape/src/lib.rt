@@ -49,7 +49,7 @@ pub fn strides(shape: &[u64], order: Order, out: &mut [u64]) -> ItemsAnswer
     ItemsAnswer::Is(items)
 }
 
-// Each stride is the product of the dimensions visited before. None of these products is over.
+// Each stride is the product of the dimensions visited before.
 fn fill(shape: &[u64], order: Order, out: &mut [u64])
     requires { ⌜ (length (now shape) ≤ length (now out)) × (overShape order (now shape) ≡ false) ⌝ }
     ensures { λ r. ⌜ now (out .exit) ≡ atFront (strides order (now (shape .entry))) (now (out .entry)) ⌝ }
@@ -60,6 +60,7 @@ fn fill(shape: &[u64], order: Order, out: &mut [u64])
         let at = visit(order, shape.len(), k);
         out[at] = stride.0;
         let ItemCount::Is(next) = stride.times(shape[at]) else {
+            // not reached: `count` has shown that no product is over
             return;
         };
         stride = next;
