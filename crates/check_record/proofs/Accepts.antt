@@ -1,7 +1,7 @@
 -- The check accepts exactly the tables and names of a dtype whose types type strings give, whose names are UTF-8, that is no array, and that is with
 -- its shape within the limits.
 use Prim.Native.Nat.{ℕ}
-use mathlib.Core.Path.{_≡_, refl, sym}
+use mathlib.Core.Path.{_≡_, refl, sym, subst}
 use mathlib.Core.Bool.{Bool, true, false, _||_}
 use mathlib.Core.List.{List}
 use native.Mathlib.Omega.{arith}
@@ -13,6 +13,7 @@ use Rattle.dtype.specs.Limits.{overDimensions, overLevels, overEntries, overSiz
 use Rattle.dtype.proofs.Record.{tableOf-right, tableOf-these}
 use Rattle.dtype.proofs.Seen.{or-left, or-right}
 use Rattle.check_table.specs.Reading.{untyped, illNamed, isArray, unread, readDtype}
+use Rattle.check_table.proofs.Readable.{readable-typed, readable-named, readable-by}
 use Rattle.check_record.specs.Checked.{checkedRecord}
 use Rattle.check_record.specs.Valid.{made, Valid}
 
@@ -31,7 +32,7 @@ limits-back d s o r h = limits-by (made d s o) r (overDimensions s || overLevels
 
 module _ (t ns s : List ℕ) (o : Order) (r : Record) where
   by-test : (d : Dtype) → tableOf t ns ≡ gives d → (b : Bool) → unread d ≡ b → then (unless b 27 (gives d)) (λ u. limited (made u s o)) ≡ gives r
-      → (d : Dtype) × (r ≡ made d s o) × Valid t ns s o d
+      → (d : Dtype) × (r ≡ made d s o) × Valid t ns s o (made d s o)
   by-test d p true e k = let z : _≡_ {A = ℕ} 0 1 = cc in absurd (omega arith)
   by-test d p false e k =
       let v = tableOf-right t ns d p in
@@ -42,9 +43,10 @@ module _ (t ns s : List ℕ) (o : Order) (r : Record) where
         record {
           table-is = v .0;
           names-are = v .1;
+          shape-is = refl;
+          order-is = refl;
           no-array = or-left (isArray d) (untyped d || illNamed d) e;
-          typed = or-left (untyped d) (illNamed d) rest;
-          well-named = or-right (untyped d) (illNamed d) rest;
+          readable = readable-by d (or-left (untyped d) (illNamed d) rest) (or-right (untyped d) (illNamed d) rest);
           dimensions = l .0;
           entries = l .1;
           sizes = l .2;
@@ -53,26 +55,29 @@ module _ (t ns s : List ℕ) (o : Order) (r : Record) where
       )
 
   -- what is accepted is valid ..
-  pub accepts-valid : checkedRecord t ns s o ≡ gives r → (d : Dtype) × (r ≡ made d s o) × Valid t ns s o d
+  pub accepts-valid : checkedRecord t ns s o ≡ gives r → (d : Dtype) × (r ≡ made d s o) × Valid t ns s o (made d s o)
   unfolding checkedRecord readDtype
   accepts-valid h = go (tableOf t ns) refl h
     where
       go : (c : Outcome Dtype) → tableOf t ns ≡ c → then (then c (λ d. unless (unread d) 27 (gives d))) (λ u. limited (made u s o)) ≡ gives r
-          → (d : Dtype) × (r ≡ made d s o) × Valid t ns s o d
+          → (d : Dtype) × (r ≡ made d s o) × Valid t ns s o (made d s o)
       go (gives d) e k = by-test d e (unread d) refl k
       go (refused n) e k = let z : _≡_ {A = ℕ} 0 1 = cc in absurd (omega arith)
 
--- .. and what is valid is accepted
-pub valid-accepted : (t ns s : List ℕ) (o : Order) (d : Dtype) → Valid t ns s o d → checkedRecord t ns s o ≡ gives (made d s o)
-unfolding checkedRecord readDtype limited
-valid-accepted t ns s o d v =
-    simp (
-      tableOf-these t ns d (v .table-is) (v .names-are),
-      v .no-array,
-      v .typed,
-      v .well-named,
-      v .dimensions,
-      v .entries,
-      v .sizes,
-      v .shape-fits,
-    )
+  pub checked-valid : checkedRecord t ns s o ≡ gives r → Valid t ns s o r
+  checked-valid h = let (d, is, v) = accepts-valid h in subst (λ (x : Record). Valid t ns s o x) (sym is) v
+
+  -- .. and what is valid is accepted
+  pub valid-limits : Valid t ns s o r → limited r ≡ gives r
+  unfolding limited
+  valid-limits v = simp (v .dimensions, v .entries, v .sizes, v .shape-fits)
+
+  valid-read : Valid t ns s o r → readDtype t ns ≡ gives (r .dtype)
+  unfolding readDtype
+  valid-read v =
+      let d = r .dtype in
+      simp (tableOf-these t ns d (v .table-is) (v .names-are), v .no-array, readable-typed d (v .readable), readable-named d (v .readable))
+
+  pub valid-checked : Valid t ns s o r → checkedRecord t ns s o ≡ gives r
+  unfolding checkedRecord
+  valid-checked v = rw (checkedRecord, valid-read v, v .shape-is, v .order-is) (valid-limits v)

@@ -8,20 +8,21 @@ use Rattle.dtype.specs.declared.Order.{Order}
 use Rattle.dtype.specs.Dtype.{Dtype}
 use Rattle.dtype.specs.Record.{Record, table, names}
 use Rattle.dtype.specs.Limits.{overDimensions, overLevels, overEntries, overSize, overShape}
-use Rattle.check_table.specs.Reading.{untyped, illNamed, isArray}
+use Rattle.check_table.specs.Reading.{Readable, isArray}
 
 -- a record by its parts
 abbrev pub made : Dtype → List ℕ → Order → Record
 made d s o = record { dtype = d; shape = s; order = o }
 
--- what a valid record of this dtype is
-pub record Valid (t ns s : List ℕ) (o : Order) (d : Dtype) : Type 0 where
-  pub table-is : t ≡ table d
-  pub names-are : ns ≡ names d
-  pub no-array : isArray d ≡ false
-  pub typed : untyped d ≡ false
-  pub well-named : illNamed d ≡ false
-  pub dimensions : (overDimensions s || overLevels d) ≡ false
-  pub entries : overEntries d ≡ false
-  pub sizes : overSize d ≡ false
-  pub shape-fits : overShape o s ≡ false
+-- a caller's table, names, shape and order are those of the record r, which is valid
+pub record Valid (t ns s : List ℕ) (o : Order) (r : Record) : Type 0 where
+  pub table-is : t ≡ table (r .dtype)
+  pub names-are : ns ≡ names (r .dtype)
+  pub shape-is : s ≡ r .shape
+  pub order-is : o ≡ r .order
+  pub no-array : isArray (r .dtype) ≡ false
+  pub readable : Readable (r .dtype)
+  pub dimensions : (overDimensions (r .shape) || overLevels (r .dtype)) ≡ false
+  pub entries : overEntries (r .dtype) ≡ false
+  pub sizes : overSize (r .dtype) ≡ false
+  pub shape-fits : overShape (r .order) (r .shape) ≡ false

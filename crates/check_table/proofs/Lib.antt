@@ -6,3 +6,4 @@ pub mod Outcomes
 pub mod Typed
 pub mod Naming
 pub mod Passes
+pub mod Readable

@@ -1,12 +1,14 @@
 -- Document 01, "The refusal numbers": 27, "caller's record or type that no reading gives (13, 20 to 22, 7, 4 aside), or outermost an array". The dtype that a table
 -- and its names list is `tableOf` (dtype/specs/Record.antt).
 use Prim.Native.Nat.{ℕ}
+use mathlib.Core.Path.{_≡_}
 use mathlib.Core.Bool.{Bool, true, false, _||_, not}
 use mathlib.Core.List.{List}
 use Rattle.counts.specs.Outcome.{Outcome, gives, then, unless}
 use Rattle.type_str.specs.Text.{isType}
+use Rattle.utf8.specs.Utf8.{WellFormed}
 use Rattle.utf8.specs.Decode.{utf8}
-use Rattle.dtype.specs.Dtype.{Dtype, plain, array, record-of}
+use Rattle.dtype.specs.Dtype.{Dtype, Fields, plain, array, record-of, end-of-fields, field-then}
 use Rattle.dtype.specs.Entries.{someEntry, plainOnly}
 use Rattle.dtype.specs.Names.{someName}
 use Rattle.dtype.specs.Record.{tableOf}
@@ -19,6 +21,17 @@ untyped d = someEntry (plainOnly (λ t. not (isType t))) d
 -- whether some name, by itself, is not UTF-8
 abbrev pub illNamed : Dtype → Bool
 illNamed d = someName (λ name. refuses (utf8 name)) d
+
+-- neither: every plain type is a type string's, and every name is UTF-8
+abbrev mutual
+  pub Readable : Dtype → Type 0
+  Readable (plain t) = isType t ≡ true
+  Readable (array n d) = Readable d
+  Readable (record-of fs) = All-readable fs
+
+  pub All-readable : Fields → Type 0
+  All-readable end-of-fields = Unit {0}
+  All-readable (field-then name d fs) = WellFormed name × Readable d × All-readable fs
 
 -- "outermost an array"
 abbrev pub isArray : Dtype → Bool

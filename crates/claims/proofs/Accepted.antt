@@ -25,8 +25,7 @@ use Rattle.record.proofs.RoundTrips.{text-readable, headerFor, file-all-bytes, 
 use Rattle.check_record.specs.declared.Summary.{Summary}
 use Rattle.check_record.specs.Answer.{summary}
 use Rattle.check_record.specs.Checked.{checkedRecord}
-use Rattle.check_record.specs.Valid.{made}
-use Rattle.check_record.proofs.Accepts.{accepts-valid}
+use Rattle.check_record.proofs.Accepts.{checked-valid, valid-limits, valid-checked}
 use Rattle.header_prefix.specs.declared.Version.{Version}
 use Rattle.header_prefix.specs.Answer.{versionIs}
 use Rattle.judge.specs.Judged.{reading}
@@ -38,16 +37,16 @@ use Rattle.header.specs.Reads.{lent, infoOf, HeaderInfo, headerInfo}
 use Rattle.npy_codes.specs.Numbers.{summaryValues}
 use Rattle.npy_codes.proofs.Named.{retold}
 use Rattle.claims.specs.Doors.{Door, in-rattle, in-c}
-use Rattle.claims.specs.Accepted.{Some-file, Printable, Accepted-as, Accepts, Accepts-exactly}
+use Rattle.claims.specs.Accepted.{Some-file, Accepted-as, Accepts, Accepts-exactly}
 use Rattle.read_back.proofs.Accepted.{valid-sound, sound-checked}
 use Rattle.read_back.specs.Rooms.{Holds}
 use Rattle.read_back.proofs.Rooms.{fronts-by, checked-fronts}
 use Rattle.claims.proofs.Roomy.{roomy-fits}
 use Rattle.claims.proofs.Doors.{Fails, rattle-fails, c-fails, c-returned, succeeded}
 use Rattle.claims.proofs.Found.{told-value, order-back, read-was, in-rooms-checked}
-use Rattle.claims.specs.Exact.{In-text}
+use Rattle.claims.specs.Exact.{In-text, Printable}
+use Rattle.claims.proofs.Printable.{printable-shallow}
 use Rattle.claims.proofs.Exact.{in-text-read, fitted-in-text}
-use Rattle.claims.proofs.Limits.{valid-limits}
 use Rattle.record.proofs.Numbers.{each-numbered}
 use Rattle.claims.proofs.Numbers.{record-checked-numbered, text-numbered}
 use Rattle.claims.proofs.Readings.{read-tied}
@@ -67,7 +66,7 @@ all-read t ns s o f =
 -- ---- what is accepted is read from its own header's bytes
 writing-own : (r : Record) → limited r ≡ gives r → Printable r → writing r (fileOf r) ≡ gives (fileOf r)
 unfolding writing
-writing-own r l p = rw (writing, l, p .shallow, le-ltb _ _ (p .short)) (roomed-whole 28 (fileOf r) (fileOf r) (omega arith))
+writing-own r l p = rw (writing, l, printable-shallow r p, le-ltb _ _ (p .short)) (roomed-whole 28 (fileOf r) (fileOf r) (omega arith))
 
 declared : version.Version → Version
 declared version.one-zero = Version.OneZero
@@ -116,28 +115,17 @@ own-file r sound limits p =
 abbrev From-file : (t ns s : List ℕ) (o : Order) → Type 0
 From-file t ns s o = (f : Some-file t ns s o) × AllBytes (f .file) × (f .before ≡ lent t ns s)
 
-file-moved : (t t′ ns ns′ s : List ℕ) (o : Order) → t ≡ t′ → ns ≡ ns′ → From-file t′ ns′ s o → From-file t ns s o
-file-moved t t′ ns ns′ s o et en f = rw (et, en) f
+file-moved : {t t′ ns ns′ s s′ : List ℕ} {o o′ : Order} → t ≡ t′ → ns ≡ ns′ → s ≡ s′ → o ≡ o′ → From-file t′ ns′ s′ o′ → From-file t ns s o
+file-moved et en es eo f = rw (et, en, es, eo) f
 
-only-read : (t ns s : List ℕ) (o : Order) → Small t → Small s → (r : Record) → checkedRecord t ns s o ≡ gives r → (r : Record) × Accepted-as t ns s o r
+only-read : (t ns s : List ℕ) (o : Order) → Small t → Small s → (r : Record) → checkedRecord t ns s o ≡ gives r → Accepted-as t ns s o r
 only-read t ns s o small-t small-s r e =
-    let (d, is, v) = accepts-valid t ns s o r e in
-    let sound : Sound (made d s o) = valid-sound t ns s o d v small-t small-s in
-    let limits : limited (made d s o) ≡ gives (made d s o) = subst (λ (x : Record). limited x ≡ gives x) is (valid-limits t ns s o r e) in (
-      made d s o,
-      record {
-        table-is = v .table-is;
-        names-are = v .names-are;
-        shape-is = refl;
-        order-is = refl;
-        typed = v .typed;
-        well-named = v .well-named;
-        no-array = v .no-array;
-        limits = limits;
-        checked = e ∙ ap gives is;
-        from-file = λ p. file-moved t (table d) ns (names d) s o (v .table-is) (v .names-are) (own-file (made d s o) sound limits p);
-      },
-    )
+    let v = checked-valid t ns s o r e in
+    record {
+      valid = v;
+      from-file = λ p.
+          file-moved (v .table-is) (v .names-are) (v .shape-is) (v .order-is) (own-file r (valid-sound t ns s o r v small-t small-s) (valid-limits t ns s o r v) p);
+    }
 
 -- ---- for either door
 given-success : {B R : Type 0} (door : Door B R) (o : Outcome B) (y : R) → y ≡ door .returned o → (b : B) → o ≡ gives b → ((b : B) → door .success (door .returned (gives b)) ≡ true)
@@ -154,7 +142,7 @@ accepts-by door t ns s o y small-t small-s is fails always =
       only-read = λ h.
           let (z, e) = succeeded door (each summary (checkedRecord t ns s o)) y is fails h in
           let (r, accepted, _) = each-back summary (checkedRecord t ns s o) z e in
-          only-read t ns s o small-t small-s r accepted;
+          (r, only-read t ns s o small-t small-s r accepted);
     }
 
 -- ---- a text by itself
@@ -164,11 +152,13 @@ text-holds text l l′ r i e is held =
     let says = fitted-in-text text l r e .0 in
     let w = text-readable reading reading-keeps text r (in-text-read text r says) in
     let parts = fronts-by r l l′ i is held in
-    (r, says, record { fronts = parts; accepted = checked-fronts r i l′ parts (sound-checked r (w .sound) (w .limits)) })
+    (r, says, record { fronts = parts; valid = checked-valid _ _ _ _ r (checked-fronts r i l′ parts (sound-checked r (w .sound) (w .limits))) })
 
 pub accepts-exactly : Accepts-exactly
 accepts-exactly =
     record {
+      valid-only = λ t ns s o r e. checked-valid t ns s o r e;
+      all-valid = λ t ns s o r v. valid-checked t ns s o r v;
       check = λ t ns s o x h. accepts-by in-rattle t ns s o _ (h .small-table) (h .small-shape) (h .answered) (rattle-fails _) (λ b. refl);
       npy-check = λ t ns s o said r said′ h.
           accepts-by (in-c summaryValues said) t ns s o (r, said′) (h .small-table) (h .small-shape)

@@ -3,10 +3,10 @@
 -- that is read.
 use Prim.Native.Nat.{ℕ, _+_, _≤_}
 use mathlib.Core.Path.{_≡_, refl, sym, ap, subst, _∙_}
-use mathlib.Core.Bool.{Bool, not}
-use mathlib.Core.List.{List}
+use mathlib.Core.Bool.{Bool, true, not}
+use mathlib.Core.List.{List, [], _∷_}
 use lib.Dec.{ltb}
-use lib.ListN.{length}
+use lib.ListN.{length, getD}
 use borrow.Author.Tests.{le-ltb, ltb-false, not-false}
 use Rattle.counts.specs.Outcome.{Outcome, gives, then, each, afterwards, unless}
 use Rattle.counts.specs.Front.{atFront}
@@ -37,6 +37,7 @@ use Rattle.record.specs.Writing.{tooDeep, writing}
 use Rattle.record.proofs.Files.{record-in-by}
 use Rattle.record.proofs.RoundTrips.{file-whole}
 use Rattle.check_record.specs.Checked.{checkedRecord}
+use Rattle.check_record.proofs.Accepts.{checked-valid, valid-limits, valid-checked}
 use Rattle.judge.specs.Judged.{reading}
 use Rattle.judge.proofs.Top.{reading-keeps}
 use Rattle.header.specs.Reads.{HeaderInfo, headerInfo, infoOf, heldInto}
@@ -44,22 +45,23 @@ use Rattle.write.specs.Writes.{headerWritten}
 use Rattle.place_area.specs.declared.Run.{Run}
 use Rattle.place.specs.Place as place
 use Rattle.place.proofs.Placing.{place-given}
-use Rattle.counts.specs.Owes.{roomed}
+use Rattle.counts.specs.Owes.{roomed, Owes}
 use Rattle.counts.proofs.Owes.{roomed-whole}
 use Rattle.string_value.specs.Rooms.{readBytes, readPoints, writeBytes, writePoints}
 use Rattle.element.specs.Bytes.{runBytes}
 use Rattle.element.specs.Element.{elementBytes, elementPoints}
 use Rattle.element.proofs.Typed.{bytes-after, points-after}
 use Rattle.npy_codes.specs.Codes.{alone}
-use Rattle.npy_codes.specs.Numbers.{orderFor, typeFor, textValues, headerValues, runValues}
+use Rattle.npy_codes.specs.Numbers.{orderNumber, orderFor, typeFor, typeValues, textValues, headerValues, runValues}
 use Rattle.npy.specs.Calls.{Puts}
 use Rattle.claims.specs.Doors.{Door, in-rattle, in-c}
-use Rattle.claims.specs.Exact.{In-text, In-file, Fits, Reads-exactly, Reads-text-exactly, Writable, Writes-exactly, Named, Element, bytes-within, points-within, Takes-exactly, By-itself, bytes-out, points-out, By-number, Exact, Exact-in-C}
+use Rattle.claims.specs.Exact.{In-text, In-file, Fits, Reads-exactly, Reads-text-exactly, Writable, Writes-exactly, Named, Element, bytes-within, points-within, Takes-exactly, By-itself, bytes-out, points-out, By-number, By-order, By-type, Exact, Exact-in-C}
+use Rattle.claims.proofs.Found.{order-named, order-back, type-for-values, values-for-type}
+use Rattle.claims.proofs.Printable.{printable-shallow, shallow-printable}
 use Rattle.claims.proofs.Doors.{Fails, rattle-fails, c-fails, c-returned, exactly-by}
 use Rattle.record.proofs.Numbers.{Numbered, each-numbered, then-numbered}
 use Rattle.claims.proofs.Numbers.{for-numbered, held-header-numbered, text-numbered, header-written-numbered, place-numbered, element-bytes-numbered, type-for-numbered, read-bytes-numbered, read-points-numbered, write-bytes-numbered, write-points-numbered, element-points-numbered}
 use Rattle.claims.proofs.Roomy.{roomy-fits, fits-roomy}
-use Rattle.claims.proofs.Limits.{valid-limits}
 
 -- ---- reading
 value-given : (text : List ℕ) (g : Got ℕ Value) → PromiseAt most-open text g → (v : Value) → header.valueRead g ≡ gives v → GivesIn most-open text v
@@ -164,7 +166,8 @@ module _ (t ns s : List ℕ) (o : Order) (room : List ℕ) where
   unfolding headerWritten writing
   writable-writes r w =
       let fits : length (fileOf r) ≤ length room = subst (λ (k : ℕ). k ≤ length room) (sym (file-whole r)) (w .fits) in
-      rw (headerWritten, w .accepted, writing, valid-limits t ns s o r (w .accepted), w .shallow, le-ltb _ _ (w .short)) (roomed-whole 28 room (fileOf r) fits)
+      let p = w .printable in
+      rw (headerWritten, valid-checked t ns s o r (w .valid), writing, valid-limits t ns s o r (w .valid), printable-shallow r p, le-ltb _ _ (p .short)) (roomed-whole 28 room (fileOf r) fits)
 
   writes-writable : (bytes : List ℕ) → headerWritten t ns s o room ≡ gives bytes → (r : Record) × Writable t ns s o room r
   unfolding headerWritten writing roomed
@@ -173,8 +176,14 @@ module _ (t ns s : List ℕ) (o : Order) (room : List ℕ) where
       let (_, _, of-text) = then-back (limited r) _ bytes of-record in
       let (shallow, short) = unless-back (tooDeep r) 7 _ bytes of-text in
       let (few, room-asked) = unless-back (ltb most-text (textLength r)) 4 _ bytes short in
-      let (fits, _) = unless-back (ltb (length room) (length (fileOf r))) 28 _ bytes room-asked in
-      (r, record { accepted = accepted; shallow = shallow; short = ltb-false _ _ few; fits = subst (λ (k : ℕ). k ≤ length room) (file-whole r) (ltb-false _ _ fits) })
+      let (fits, _) = unless-back (ltb (length room) (length (fileOf r))) 28 _ bytes room-asked in (
+        r,
+        record {
+          valid = checked-valid t ns s o r accepted;
+          printable = shallow-printable r shallow (ltb-false _ _ few);
+          fits = subst (λ (k : ℕ). k ≤ length room) (file-whole r) (ltb-false _ _ fits);
+        },
+      )
 
 -- a call that puts the header of what is due in the room
 writes-exactly : {R : Type 0} (door : Door ℕ R) (Due : Record → Type 0) (room : List ℕ) (y : R) (room′ : List ℕ) (put : Outcome (List ℕ))
@@ -190,38 +199,54 @@ module _ (file start : ℕ) (t ns s : List ℕ) (o : Order) (x p : List ℕ) whe
   named-place : (a : Record × TypeStr) → Named file start t ns s o x p (a .0) (a .1) → place.placeOf file start t ns s o x p ≡ gives (place.runFrom (place start (a .0) x p) (a .1))
   unfolding place.placed
   named-place a n =
-      sym (place-given file start t ns s o x p (a .0) (n .accepted))
+      sym (place-given file start t ns s o x p (a .0) (valid-checked t ns s o (a .0) (n .valid)))
       ∙ rw (place.placed, n .no-object, le-ltb _ _ (n .long), n .in-range, n .leads)
 
-  place-named : (u : Run) → place.placeOf file start t ns s o x p ≡ gives u → (a : Record × TypeStr) × Named file start t ns s o x p (a .0) (a .1)
+  place-named : (u : Run) → place.placeOf file start t ns s o x p ≡ gives u
+      → (a : Record × TypeStr) × Named file start t ns s o x p (a .0) (a .1) × (place.runFrom (place start (a .0) x p) (a .1) ≡ u)
   unfolding place.placeOf place.placed
   place-named u e =
       let (r, accepted, of-record) = then-back (checkedRecord t ns s o) _ u e in
       let (no-object, of-file) = unless-back (hasObject (r .dtype)) 24 _ u of-record in
       let (long, in-file) = unless-back (ltb file (start + dataBytes r)) 25 _ u of-file in
       let (ranged, by-path) = unless-back (not (inRange (r .shape) x)) 26 _ u in-file in
-      let (k, leads, _) = each-back (λ k. place.runFrom (place start r x p) k) (plainAt (r .dtype) p) u by-path in (
+      let (k, leads, is) = each-back (λ k. place.runFrom (place start r x p) k) (plainAt (r .dtype) p) u by-path in (
         (r, k),
-        record { accepted = accepted; no-object = no-object; long = ltb-false _ _ long; in-range = not-false (inRange (r .shape) x) ranged; leads = leads },
+        record { valid = checked-valid t ns s o r accepted; no-object = no-object; long = ltb-false _ _ long; in-range = not-false (inRange (r .shape) x) ranged; leads = leads },
+        is,
       )
 
+  place-due : (u : Run) → place.placeOf file start t ns s o x p ≡ gives u → (a : Record × TypeStr) × Named file start t ns s o x p (a .0) (a .1)
+  place-due u e = let (a, n, _) = place-named u e in (a, n)
+
 -- ---- elements
-module _ (within : TypeStr → List ℕ → Outcome (List ℕ)) (at : Outcome Run) (file room : List ℕ) where
+module _ (within : TypeStr → List ℕ → Outcome (List ℕ)) (file : List ℕ) (start : ℕ) (t ns s : List ℕ) (o : Order) (x p room : List ℕ) where
+  abbrev at : Outcome Run
+  at = place.placeOf (length file) start t ns s o x p
+
   abbrev put : Outcome (List ℕ)
   put = then at (λ u. then (within (u .kind) (runBytes file u)) (roomed 23 room))
 
-  element-put : (content : List ℕ) → Element within at file room content → put ≡ gives content
+  element-put : (content : List ℕ) → Element within file start t ns s o x p room content → put ≡ gives content
   unfolding roomed
-  element-put content e = rw (e .placed, e .is, roomed, le-ltb _ _ (e .fits))
+  element-put content e =
+      rw (named-place (length file) start t ns s o x p (e .says, e .kind) (e .named), e .is, roomed, le-ltb _ _ (e .fits))
 
-  put-element : (content : List ℕ) → put ≡ gives content → Element within at file room content
+  put-element : (content : List ℕ) → put ≡ gives content → Element within file start t ns s o x p room content
   unfolding roomed
   put-element content e =
       let (u, placed-at, of-run) = then-back at _ content e in
+      let (a, n, is-run) = place-named (length file) start t ns s o x p u placed-at in
       let (c, is-content, kept) = then-back (within (u .kind) (runBytes file u)) _ content of-run in
       let (fits, is) = unless-back (ltb (length room) (length c)) 23 (gives c) content kept in
       let same : c ≡ content = gives-apart is in
-      record { run = u; placed = placed-at; is = is-content ∙ ap gives same; fits = subst (λ (y : List ℕ). length y ≤ length room) same (ltb-false _ _ fits) }
+      record {
+        says = a .0;
+        kind = a .1;
+        named = n;
+        is = ap (λ (v : Run). within (v .kind) (runBytes file v)) is-run ∙ is-content ∙ ap gives same;
+        fits = subst (λ (y : List ℕ). length y ≤ length room) same (ltb-false _ _ fits);
+      }
 
 takes-exactly : {R : Type 0} (door : Door ℕ R) (Due : List ℕ → Type 0) (room : List ℕ) (y : R) (room′ : List ℕ) (whole : Outcome (List ℕ))
     → y ≡ door .returned (each length whole) → room′ ≡ afterwards atFront whole room → Fails door (each length whole)
@@ -267,17 +292,75 @@ unfolding writePoints
 write-points-put k value room = refl
 
 -- ---- from C, where the numbers of an order or a type come first
-module _ {N A B : Type 0} (named : Outcome N) (next : N → Outcome B) where
-  by-number : {Due : N → A → Type 0} (value : A → B) → ((n : N) (a : A) → Due n a → next n ≡ gives (value a)) → (a : A) → By-number named Due a
-      → then named next ≡ gives (value a)
-  by-number value due a d = ap (λ (g : Outcome N). then g next) (d .1) ∙ due (d .0) a (d .2)
+-- the numbers that `named` takes an N from are the values of exactly that N, where something is due of it
+record Names {N A : Type 0} (named : Outcome N) (numbers : List ℕ) (values : N → List ℕ) (Due : N → A → Type 0) : Type 0 where
+  is : (n : N) (a : A) → numbers ≡ values n → Due n a → named ≡ gives n
+  back : (n : N) → named ≡ gives n → numbers ≡ values n
 
-  number-by : {Due : N → A → Type 0} → ((n : N) (b : B) → next n ≡ gives b → (a : A) × Due n a) → (b : B) → then named next ≡ gives b
-      → (a : A) × By-number named Due a
+order-names : {A : Type 0} (order : ℕ) (Due : Order → A → Type 0) → Names (orderFor order) (order ∷ []) (λ o. orderNumber o ∷ []) Due
+order-names order Due =
+    record {
+      is = λ o a e d. ap (λ (l : List ℕ). orderFor (getD l 0 0)) e ∙ order-back o;
+      back = λ o e. ap (λ (n : ℕ). n ∷ []) (order-named order o e);
+    }
+
+type-names : {A : Type 0} (order letter size units : ℕ) (Due : TypeStr → A → Type 0) → ((k : TypeStr) (a : A) → Due k a → isType k ≡ true)
+    → Names (typeFor order letter size units) (order ∷ letter ∷ size ∷ units ∷ []) typeValues Due
+type-names order letter size units Due typed =
+    record {
+      is = λ k a e d.
+          type-for-values order letter size units k (ap (λ (l : List ℕ). getD l 0 0) e) (ap (λ (l : List ℕ). getD l 1 0) e) (ap (λ (l : List ℕ). getD l 2 0) e)
+          (ap (λ (l : List ℕ). getD l 3 0) e) (typed k a d);
+      back = λ k e. values-for-type order letter size units k e;
+    }
+
+module _ {N A B : Type 0} (named : Outcome N) (numbers : List ℕ) (values : N → List ℕ) (Due : N → A → Type 0) (names : Names named numbers values Due) (next : N → Outcome B) where
+  by-number : (value : A → B) → ((n : N) (a : A) → Due n a → next n ≡ gives (value a)) → (a : A) → By-number numbers values Due a → then named next ≡ gives (value a)
+  by-number value due a (n, is, d) = ap (λ (g : Outcome N). then g next) (names .is n a is d) ∙ due n a d
+
+  number-by : ((n : N) (b : B) → next n ≡ gives b → (a : A) × Due n a) → (b : B) → then named next ≡ gives b → (a : A) × By-number numbers values Due a
   number-by back b e =
       let (n, named-is, given-is) = then-back named next b e in
       let (a, d) = back n b given-is in
-      (a, (n, named-is, d))
+      (a, (n, names .back n named-is, d))
+
+-- ---- the functions of elements put what is due, and only that
+record Puts-due (put : Outcome (List ℕ)) (Due : List ℕ → Type 0) : Type 0 where
+  due : (c : List ℕ) → Due c → put ≡ gives c
+  back : (c : List ℕ) → put ≡ gives c → Due c
+
+module _ (file : List ℕ) (start : ℕ) (t ns s : List ℕ) (x p out : List ℕ) (o : Order) where
+  element-bytes-due : Puts-due (elementBytes file start t ns s o x p out) (Element bytes-within file start t ns s o x p out)
+  element-bytes-due =
+      let is = bytes-after file start t ns s o x p out in
+      record { due = λ c d. is ∙ element-put bytes-within file start t ns s o x p out c d; back = λ c e. put-element bytes-within file start t ns s o x p out c (sym is ∙ e) }
+
+  element-points-due : Puts-due (elementPoints file start t ns s o x p out) (Element points-within file start t ns s o x p out)
+  element-points-due =
+      let is = points-after file start t ns s o x p out in
+      record { due = λ c d. is ∙ element-put points-within file start t ns s o x p out c d; back = λ c e. put-element points-within file start t ns s o x p out c (sym is ∙ e) }
+
+by-itself-due : (k : TypeStr) (given : Outcome (List ℕ)) (n : ℕ) (room : List ℕ) (put : Outcome (List ℕ)) → put ≡ unless (not (isType k)) 27 (then given (roomed n room))
+    → Puts-due put (By-itself k given room)
+by-itself-due k given n room put is = record { due = λ c d. is ∙ by-itself-put k given n room c d; back = λ c e. put-by-itself k given n room c (sym is ∙ e) }
+
+module _ (out : List ℕ) (k : TypeStr) where
+  read-bytes-due : (run : List ℕ) → Puts-due (readBytes k run out) (By-itself k (bytes-within k run) out)
+  read-bytes-due run = by-itself-due k (bytes-within k run) 23 out (readBytes k run out) (read-bytes-put k run out)
+
+  read-points-due : (run : List ℕ) → Puts-due (readPoints k run out) (By-itself k (points-within k run) out)
+  read-points-due run = by-itself-due k (points-within k run) 23 out (readPoints k run out) (read-points-put k run out)
+
+  write-bytes-due : (value : List ℕ) → Puts-due (writeBytes k value out) (By-itself k (bytes-out k value) out)
+  write-bytes-due value = by-itself-due k (bytes-out k value) 28 out (writeBytes k value out) (write-bytes-put k value out)
+
+  write-points-due : (value : List ℕ) → Puts-due (writePoints k value out) (By-itself k (points-out k value) out)
+  write-points-due value = by-itself-due k (points-out k value) 28 out (writePoints k value out) (write-points-put k value out)
+
+takes-in-rattle : {put : Outcome (List ℕ)} {Due : List ℕ → Type 0} → Puts-due put Due → {room room′ : List ℕ} {y : Outcome ℕ} → Owes put room y room′
+    → Takes-exactly in-rattle Due room y room′
+takes-in-rattle {put = put} {Due = Due} p {room = room} {room′ = room′} {y = y} h =
+    takes-exactly in-rattle Due room y room′ put (h .answered) (h .room-after) (rattle-fails _) (p .due) (p .back)
 
 pub exact : Exact
 exact =
@@ -291,60 +374,36 @@ exact =
           (writable-writes t ns s o out) (writes-writable t ns s o out);
       place = λ file start t ns s o x p y h.
           exactly-by in-rattle _ _ _ tt _ tt (place.placeOf file start t ns s o x p) h (rattle-fails _)
-          (λ a d. (named-place file start t ns s o x p a d, refl)) (place-named file start t ns s o x p);
-      element-bytes = λ file start t ns s o x p out y out′ h.
-          let at = place.placeOf (length file) start t ns s o x p in
-          let is = bytes-after file start t ns s o x p out in
-          takes-exactly in-rattle (Element bytes-within at file out) out _ out′ (elementBytes file start t ns s o x p out) (h .answered) (h .room-after) (rattle-fails _)
-          (λ c d. is ∙ element-put bytes-within at file out c d) (λ c e. put-element bytes-within at file out c (sym is ∙ e));
-      element-points = λ file start t ns s o x p out y out′ h.
-          let at = place.placeOf (length file) start t ns s o x p in
-          let is = points-after file start t ns s o x p out in
-          takes-exactly in-rattle (Element points-within at file out) out _ out′ (elementPoints file start t ns s o x p out) (h .answered) (h .room-after) (rattle-fails _)
-          (λ c d. is ∙ element-put points-within at file out c d) (λ c e. put-element points-within at file out c (sym is ∙ e));
-      read-bytes = λ run k out y out′ h.
-          takes-exactly in-rattle (By-itself k (bytes-within k run) out) out _ out′ (readBytes k run out) (h .answered) (h .room-after) (rattle-fails _)
-          (λ c d. read-bytes-put k run out ∙ by-itself-put k (bytes-within k run) 23 out c d) (λ c e. put-by-itself k (bytes-within k run) 23 out c (sym (read-bytes-put k run out) ∙ e));
-      read-points = λ run k out y out′ h.
-          takes-exactly in-rattle (By-itself k (points-within k run) out) out _ out′ (readPoints k run out) (h .answered) (h .room-after) (rattle-fails _)
-          (λ c d. read-points-put k run out ∙ by-itself-put k (points-within k run) 23 out c d) (λ c e. put-by-itself k (points-within k run) 23 out c (sym (read-points-put k run out) ∙ e));
-      write-bytes = λ k value out y out′ h.
-          takes-exactly in-rattle (By-itself k (bytes-out k value) out) out _ out′ (writeBytes k value out) (h .answered) (h .room-after) (rattle-fails _)
-          (λ c d. write-bytes-put k value out ∙ by-itself-put k (bytes-out k value) 28 out c d) (λ c e. put-by-itself k (bytes-out k value) 28 out c (sym (write-bytes-put k value out) ∙ e));
-      write-points = λ k value out y out′ h.
-          takes-exactly in-rattle (By-itself k (points-out k value) out) out _ out′ (writePoints k value out) (h .answered) (h .room-after) (rattle-fails _)
-          (λ c d. write-points-put k value out ∙ by-itself-put k (points-out k value) 28 out c d) (λ c e. put-by-itself k (points-out k value) 28 out c (sym (write-points-put k value out) ∙ e));
+          (λ a d. (named-place file start t ns s o x p a d, refl)) (place-due file start t ns s o x p);
+      element-bytes = λ file start t ns s o x p out y out′ h. takes-in-rattle (element-bytes-due file start t ns s x p out o) h;
+      element-points = λ file start t ns s o x p out y out′ h. takes-in-rattle (element-points-due file start t ns s x p out o) h;
+      read-bytes = λ run k out y out′ h. takes-in-rattle (read-bytes-due out k run) h;
+      read-points = λ run k out y out′ h. takes-in-rattle (read-points-due out k run) h;
+      write-bytes = λ k value out y out′ h. takes-in-rattle (write-bytes-due out k value) h;
+      write-points = λ k value out y out′ h. takes-in-rattle (write-points-due out k value) h;
     }
 
--- the numbers of what is asked of an order
-after-order : {B : Type 0} (order : ℕ) (next : Order → Outcome B) (values : B → List ℕ) (said : List ℕ) → ((o : Order) → Numbered (next o))
-    → Fails (in-c values said) (then (orderFor order) next)
-after-order order next values said h = c-fails values said _ (then-numbered (orderFor order) next (for-numbered order) h)
-
-takes-in-c : {N : Type 0} (named : Outcome N) (next : N → Outcome (List ℕ)) (Due : N → List ℕ → Type 0) (out : List ℕ) → Numbered named → ((n : N) → Numbered (next n))
-    → ((n : N) (c : List ℕ) → Due n c → next n ≡ gives c) → ((n : N) (c : List ℕ) → next n ≡ gives c → Due n c) → (count : List ℕ) (r : ℕ) (out′ count′ : List ℕ)
-    → Puts (then named next) out count r out′ count′ → Takes-exactly (in-c alone count) (By-number named Due) out (r, count′) out′
-takes-in-c named next Due out first numbered due back count r out′ count′ h =
-    takes-exactly (in-c alone count) (By-number named Due) out (r, count′) out′ (then named next) (c-returned (h .answered)) (h .room-after)
+-- ---- the same in C
+takes-in-c : {N : Type 0} (named : Outcome N) (numbers : List ℕ) (values : N → List ℕ) (Due : N → List ℕ → Type 0) → Names named numbers values Due
+    → (next : N → Outcome (List ℕ)) (out : List ℕ) → Numbered named → ((n : N) → Numbered (next n)) → ((n : N) → Puts-due (next n) (Due n)) → (count : List ℕ) (r : ℕ) (out′ count′ : List ℕ)
+    → Puts (then named next) out count r out′ count′ → Takes-exactly (in-c alone count) (By-number numbers values Due) out (r, count′) out′
+takes-in-c named numbers values Due names next out first numbered puts count r out′ count′ h =
+    takes-exactly (in-c alone count) (By-number numbers values Due) out (r, count′) out′ (then named next) (c-returned (h .answered)) (h .room-after)
     (c-fails alone count _ (each-numbered length _ (then-numbered named next first numbered)))
-    (by-number named next (λ c. c) due)
-    (λ c e. let g = then-back named next c e in (g .0, g .1, back (g .0) c (g .2)))
+    (by-number named numbers values Due names next (λ c. c) (λ n. puts n .due))
+    (λ c e. let (n, is, given-is) = then-back named next c e in (n, names .back n is, puts n .back c given-is))
 
-module _ (file : List ℕ) (start : ℕ) (t ns s : List ℕ) (x p out : List ℕ) (o : Order) where
-  abbrev at : Outcome Run
-  at = place.placeOf (length file) start t ns s o x p
+takes-by-order : (order : ℕ) (Due : Order → List ℕ → Type 0) (next : Order → Outcome (List ℕ)) (out : List ℕ) → ((o : Order) → Numbered (next o)) → ((o : Order) → Puts-due (next o) (Due o))
+    → (count : List ℕ) (r : ℕ) (out′ count′ : List ℕ) → Puts (then (orderFor order) next) out count r out′ count′ → Takes-exactly (in-c alone count) (By-order order Due) out (r, count′) out′
+takes-by-order order Due next out numbered puts = takes-in-c (orderFor order) _ _ Due (order-names order Due) next out (for-numbered order) numbered puts
 
-  bytes-due : (c : List ℕ) → Element bytes-within at file out c → elementBytes file start t ns s o x p out ≡ gives c
-  bytes-due c d = bytes-after file start t ns s o x p out ∙ element-put bytes-within at file out c d
-
-  due-bytes : (c : List ℕ) → elementBytes file start t ns s o x p out ≡ gives c → Element bytes-within at file out c
-  due-bytes c e = put-element bytes-within at file out c (sym (bytes-after file start t ns s o x p out) ∙ e)
-
-  points-due : (c : List ℕ) → Element points-within at file out c → elementPoints file start t ns s o x p out ≡ gives c
-  points-due c d = points-after file start t ns s o x p out ∙ element-put points-within at file out c d
-
-  due-points : (c : List ℕ) → elementPoints file start t ns s o x p out ≡ gives c → Element points-within at file out c
-  due-points c e = put-element points-within at file out c (sym (points-after file start t ns s o x p out) ∙ e)
+takes-by-type : (order letter size units : ℕ) (given : TypeStr → Outcome (List ℕ)) (next : TypeStr → Outcome (List ℕ)) (out : List ℕ) → ((k : TypeStr) → Numbered (next k))
+    → ((k : TypeStr) → Puts-due (next k) (By-itself k (given k) out)) → (count : List ℕ) (r : ℕ) (out′ count′ : List ℕ)
+    → Puts (then (typeFor order letter size units) next) out count r out′ count′
+    → Takes-exactly (in-c alone count) (By-type order letter size units (λ k. By-itself k (given k) out)) out (r, count′) out′
+takes-by-type order letter size units given next out numbered puts =
+    takes-in-c (typeFor order letter size units) _ _ (λ k. By-itself k (given k) out) (type-names order letter size units _ (λ k c d. d .typed)) next out
+    (type-for-numbered order letter size units) numbered puts
 
 pub exact-in-c : Exact-in-C
 exact-in-c =
@@ -356,36 +415,29 @@ exact-in-c =
           reads-text-exactly text l (in-c textValues said) (r, said′) l′ (c-returned (h .answered reading reading-keeps)) (h .after reading reading-keeps)
           (c-fails textValues said _ (each-numbered infoOf _ (text-numbered reading text l)));
       npy-write-header = λ t ns s order out count r out′ count′ h.
-          writes-exactly (in-c alone count) (By-number (orderFor order) (λ o. Writable t ns s o out)) out (r, count′) out′ (then (orderFor order) (λ o. headerWritten t ns s o out))
-          (c-returned (h .writes .answered)) (h .writes .room-after)
-          (c-fails alone count _ (each-numbered length _ (then-numbered (orderFor order) (λ o. headerWritten t ns s o out) (for-numbered order) (λ o. header-written-numbered t ns s o out))))
-          (by-number (orderFor order) (λ o. headerWritten t ns s o out) fileOf (λ o. writable-writes t ns s o out))
-          (number-by (orderFor order) (λ o. headerWritten t ns s o out) (λ o. writes-writable t ns s o out));
+          let Due : Order → Record → Type 0 = λ o. Writable t ns s o out in
+          let next : Order → Outcome (List ℕ) = λ o. headerWritten t ns s o out in
+          writes-exactly (in-c alone count) (By-order order Due) out (r, count′) out′ (then (orderFor order) next) (c-returned (h .writes .answered)) (h .writes .room-after)
+          (c-fails alone count _ (each-numbered length _ (then-numbered (orderFor order) next (for-numbered order) (λ o. header-written-numbered t ns s o out))))
+          (by-number _ _ _ Due (order-names order Due) next fileOf (λ o. writable-writes t ns s o out))
+          (number-by _ _ _ Due (order-names order Due) next (λ o. writes-writable t ns s o out));
       npy-place = λ file start t ns s order x p run r run′ h.
-          exactly-by (in-c runValues run) (By-number (orderFor order) (λ o a. Named file start t ns s o x p (a .0) (a .1))) (λ a. place.runFrom (place start (a .0) x p) (a .1)) (λ a m. m) tt
-          (r, run′) tt _ (c-returned h) (after-order order (λ o. place.placeOf file start t ns s o x p) runValues run (λ o. place-numbered file start t ns s o x p))
-          (λ a d. (by-number (orderFor order) (λ o. place.placeOf file start t ns s o x p) (λ a. place.runFrom (place start (a .0) x p) (a .1)) (λ o. named-place file start t ns s o x p) a d, refl))
-          (number-by (orderFor order) (λ o. place.placeOf file start t ns s o x p) (λ o. place-named file start t ns s o x p));
-      npy-element-bytes = λ file start t ns s order x p out count r out′ count′ h.
-          takes-in-c (orderFor order) (λ o. elementBytes file start t ns s o x p out) _ out (for-numbered order) (λ o. element-bytes-numbered file start t ns s o x p out)
-          (bytes-due file start t ns s x p out) (due-bytes file start t ns s x p out) count r out′ count′ h;
-      npy-element-points = λ file start t ns s order x p out count r out′ count′ h.
-          takes-in-c (orderFor order) (λ o. elementPoints file start t ns s o x p out) _ out (for-numbered order) (λ o. element-points-numbered file start t ns s o x p out)
-          (points-due file start t ns s x p out) (due-points file start t ns s x p out) count r out′ count′ h;
-      npy-read-bytes = λ run order letter size units out count r out′ count′ h.
-          takes-in-c (typeFor order letter size units) (λ k. readBytes k run out) _ out (type-for-numbered order letter size units) (λ k. read-bytes-numbered k run out)
-          (λ k c d. read-bytes-put k run out ∙ by-itself-put k (bytes-within k run) 23 out c d)
-          (λ k c e. put-by-itself k (bytes-within k run) 23 out c (sym (read-bytes-put k run out) ∙ e)) count r out′ count′ h;
-      npy-read-points = λ run order letter size units out count r out′ count′ h.
-          takes-in-c (typeFor order letter size units) (λ k. readPoints k run out) _ out (type-for-numbered order letter size units) (λ k. read-points-numbered k run out)
-          (λ k c d. read-points-put k run out ∙ by-itself-put k (points-within k run) 23 out c d)
-          (λ k c e. put-by-itself k (points-within k run) 23 out c (sym (read-points-put k run out) ∙ e)) count r out′ count′ h;
-      npy-write-bytes = λ order letter size units value out count r out′ count′ h.
-          takes-in-c (typeFor order letter size units) (λ k. writeBytes k value out) _ out (type-for-numbered order letter size units) (λ k. write-bytes-numbered k value out)
-          (λ k c d. write-bytes-put k value out ∙ by-itself-put k (bytes-out k value) 28 out c d)
-          (λ k c e. put-by-itself k (bytes-out k value) 28 out c (sym (write-bytes-put k value out) ∙ e)) count r out′ count′ h;
-      npy-write-points = λ order letter size units value out count r out′ count′ h.
-          takes-in-c (typeFor order letter size units) (λ k. writePoints k value out) _ out (type-for-numbered order letter size units) (λ k. write-points-numbered k value out)
-          (λ k c d. write-points-put k value out ∙ by-itself-put k (points-out k value) 28 out c d)
-          (λ k c e. put-by-itself k (points-out k value) 28 out c (sym (write-points-put k value out) ∙ e)) count r out′ count′ h;
+          let Due : Order → Record × TypeStr → Type 0 = λ o a. Named file start t ns s o x p (a .0) (a .1) in
+          let next : Order → Outcome Run = λ o. place.placeOf file start t ns s o x p in
+          exactly-by (in-c runValues run) (By-order order Due) (λ a. place.runFrom (place start (a .0) x p) (a .1)) (λ a m. m) tt (r, run′) tt _ (c-returned h)
+          (c-fails runValues run _ (then-numbered (orderFor order) next (for-numbered order) (λ o. place-numbered file start t ns s o x p)))
+          (λ a d. (by-number _ _ _ Due (order-names order Due) next (λ a. place.runFrom (place start (a .0) x p) (a .1)) (λ o. named-place file start t ns s o x p) a d, refl))
+          (number-by _ _ _ Due (order-names order Due) next (λ o. place-due file start t ns s o x p));
+      npy-element-bytes = λ file start t ns s order x p out.
+          takes-by-order order _ (λ o. elementBytes file start t ns s o x p out) out (λ o. element-bytes-numbered file start t ns s o x p out) (element-bytes-due file start t ns s x p out);
+      npy-element-points = λ file start t ns s order x p out.
+          takes-by-order order _ (λ o. elementPoints file start t ns s o x p out) out (λ o. element-points-numbered file start t ns s o x p out) (element-points-due file start t ns s x p out);
+      npy-read-bytes = λ run order letter size units out.
+          takes-by-type order letter size units (λ k. bytes-within k run) (λ k. readBytes k run out) out (λ k. read-bytes-numbered k run out) (λ k. read-bytes-due out k run);
+      npy-read-points = λ run order letter size units out.
+          takes-by-type order letter size units (λ k. points-within k run) (λ k. readPoints k run out) out (λ k. read-points-numbered k run out) (λ k. read-points-due out k run);
+      npy-write-bytes = λ order letter size units value out.
+          takes-by-type order letter size units (λ k. bytes-out k value) (λ k. writeBytes k value out) out (λ k. write-bytes-numbered k value out) (λ k. write-bytes-due out k value);
+      npy-write-points = λ order letter size units value out.
+          takes-by-type order letter size units (λ k. points-out k value) (λ k. writePoints k value out) out (λ k. write-points-numbered k value out) (λ k. write-points-due out k value);
     }

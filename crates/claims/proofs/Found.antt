@@ -4,18 +4,22 @@ use Prim.Native.Nat.{ℕ}
 use native.Mathlib.Omega.{arith}
 use mathlib.Core.Path.{_≡_, refl, sym, ap, _∙_}
 use mathlib.Core.Bool.{Bool, false, true, cond}
-use mathlib.Core.List.{List}
+use mathlib.Core.List.{List, [], _∷_}
 use lib.Dec.{eqb}
 use Rattle.counts.specs.Outcome.{Outcome, gives, refused, each, afterwards}
 use Rattle.counts.proofs.Apart.{gives-apart, refused-gives}
 use Rattle.counts.proofs.Holds.{each-back}
 use borrow.Author.Tests.{leb-true, eqb-true}
+use Rattle.type_str.specs.declared.TypeStr.{TypeStr}
+use Rattle.type_str.specs.Text.{isType}
+use Rattle.dtype.specs.TypeNumbers.{orderByte, letterByte, unitsNumber}
 use Rattle.dtype.specs.declared.Order.{Order}
 use Rattle.dtype.specs.declared.Order.the-variants.{C, Fortran}
 use Rattle.dtype.specs.Record.{Record, table, names}
 use Rattle.record.specs.Rooms.{Lent, roomsOf, holding}
 use Rattle.record.specs.Header as header
 use Rattle.check_record.specs.Checked.{checkedRecord}
+use Rattle.table_entry.proofs.Types.{type-of-written, type-of-back}
 use Rattle.judge.specs.Judged.{reading}
 use Rattle.judge.proofs.Top.{reading-keeps}
 use Rattle.header.specs.declared.HeaderRead.{HeaderRead}
@@ -24,7 +28,7 @@ use Rattle.read_back.specs.Rooms.{tableIn, namesIn, shapeIn, Fronts}
 use Rattle.read_back.proofs.Rooms.{fronts-by, checked-fronts}
 use Rattle.read_back.proofs.Accepted.{read-checked}
 use Rattle.npy_codes.specs.Codes.{Tells}
-use Rattle.npy_codes.specs.Numbers.{orderNumber, orderFor, headerValues}
+use Rattle.npy_codes.specs.Numbers.{orderNumber, orderFor, typeFor, typeValues, headerValues}
 use Rattle.claims.specs.Functions.{Read}
 use Rattle.claims.specs.InC.{Npy-read}
 use Rattle.record.proofs.Numbers.{Numbered, each-numbered}
@@ -47,6 +51,15 @@ order-named order o e = go (eqb order 0) (eqb order 1) refl refl e
 pub order-back : (o : Order) → orderFor (orderNumber o) ≡ gives o
 order-back C = refl
 order-back Fortran = refl
+
+-- ---- the numbers of types
+module _ (order letter size units : ℕ) (k : TypeStr) where
+  pub type-for-values : order ≡ orderByte (k .order) → letter ≡ letterByte (k .letter) → size ≡ k .size → units ≡ unitsNumber (k .units) → isType k ≡ true
+      → typeFor order letter size units ≡ gives k
+  type-for-values a b c d typed = type-of-written _ k (record { order = a; letter = b; number = c; units = d }) ∙ simp typed
+
+  pub values-for-type : typeFor order letter size units ≡ gives k → _≡_ {A = List ℕ} (order ∷ letter ∷ size ∷ units ∷ []) (typeValues k)
+  values-for-type e = let w = type-of-back _ k e in rw (w .order, w .letter, w .number, w .units)
 
 -- ---- a header that was read
 pub record Was-read (file : List ℕ) (l l′ : Lent) (i : HeaderInfo) : Type 0 where

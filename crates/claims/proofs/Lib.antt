@@ -4,9 +4,9 @@ pub mod Grammar
 pub mod Roomy
 mod Numbers
 pub mod Doors
-pub mod Limits
-pub mod Exact
+mod Printable
 pub mod Found
+pub mod Exact
 pub mod WasRead
 pub mod RoundTrips
 pub mod Places

@@ -5,7 +5,7 @@ use native.Mathlib.Omega.{arith}
 use mathlib.Core.Path.{_≡_, refl, sym, ap, _∙_}
 use mathlib.Core.Bool.{Bool, true, false, not}
 use mathlib.Core.List.{List}
-use lib.ListN.{length, getD}
+use lib.ListN.{length}
 use mathlib.Core.Logic.{_⊎_, inl, inr}
 use borrow.Author.Tests.{le-ltb, not-false}
 use Rattle.counts.specs.Outcome.{Outcome, gives, refused, then, each, unless, afterwards}
@@ -24,7 +24,8 @@ use Rattle.dtype.proofs.Runs.{Belongs, Path-to, runOf, run}
 use Rattle.dtype.proofs.Items.{range-true}
 use Rattle.dtype.proofs.Paths.{path-plain}
 use Rattle.dtype.proofs.Places.{run-inside, owned, owned-once}
-use Rattle.check_record.specs.Checked.{checkedRecord}
+use Rattle.check_record.specs.Valid.{Valid}
+use Rattle.check_record.proofs.Accepts.{valid-checked}
 use Rattle.place_area.specs.declared.Run.{Run}
 use Rattle.place.specs.declared.Placed.{Placed}
 use Rattle.place.specs.Place.{runFrom, placed, placeOf}
@@ -38,7 +39,7 @@ use Rattle.npy_codes.specs.Numbers.{orderNumber, headerValues, runValues}
 use Rattle.npy_codes.proofs.Named.{retold}
 use Rattle.claims.specs.Functions.{Place}
 use Rattle.claims.specs.InC.{Npy-place}
-use Rattle.claims.specs.Places.{Named-by, Owned, Record-owned, Record-owned-in-C, Header-stored, Data-owned, Data-owned-in-C}
+use Rattle.claims.specs.Places.{Owns, Owned, Record-owned, Record-owned-in-C, Header-stored, Data-owned, Data-owned-in-C}
 use Rattle.claims.proofs.WasRead.{values-one, holds-own}
 use Rattle.claims.specs.Doors.{in-rattle}
 use Rattle.claims.proofs.Doors.{rattle-fails, succeeded}
@@ -60,11 +61,11 @@ run-is r p k e = ap (λ (c : Outcome TypeStr). runOf c) e
 abbrev formula : (start : ℕ) → Record → (x p : List ℕ) → Outcome Run
 formula start r x p = unless (not (inRange (r .shape) x)) 26 (each (λ k. runFrom (place start r x p) k) (plainAt (r .dtype) p))
 
-by-formula : (file start : ℕ) (t ns s : List ℕ) (o : Order) (r : Record) → checkedRecord t ns s o ≡ gives r → hasObject (r .dtype) ≡ false → start + dataBytes r ≤ file
+by-formula : (file start : ℕ) (t ns s : List ℕ) (o : Order) (r : Record) → Valid t ns s o r → hasObject (r .dtype) ≡ false → start + dataBytes r ≤ file
     → (x p : List ℕ) → placeOf file start t ns s o x p ≡ formula start r x p
 unfolding placed
-by-formula file start t ns s o r accepted no-object long x p =
-    sym (place-given file start t ns s o x p r accepted) ∙ simp (no-object, le-ltb file (start + dataBytes r) long)
+by-formula file start t ns s o r valid no-object long x p =
+    sym (place-given file start t ns s o x p r (valid-checked t ns s o r valid)) ∙ simp (no-object, le-ltb file (start + dataBytes r) long)
 
 formula-named : (start : ℕ) (r : Record) (x p : List ℕ) (k : TypeStr) → inRange (r .shape) x ≡ true → plainAt (r .dtype) p ≡ gives k
     → formula start r x p ≡ gives (runFrom (place start r x p) k)
@@ -77,56 +78,44 @@ formula-none start r x p f = go (inRange (r .shape) x) refl
     go true g = ap (each (λ k. runFrom (place start r x p) k)) (plain-or r p (λ k e. f k g e))
     go false g = refl
 
-named-formula : (start : ℕ) (r : Record) (x p : List ℕ) (u : Run) → formula start r x p ≡ gives u
-    → (k : TypeStr) × (inRange (r .shape) x ≡ true) × (plainAt (r .dtype) p ≡ gives k) × (runFrom (place start r x p) k ≡ u)
-named-formula start r x p u e =
-    let (ranged, by-path) = unless-back (not (inRange (r .shape) x)) 26 _ u e in
-    let (k, leads, is) = each-back (λ k. runFrom (place start r x p) k) (plainAt (r .dtype) p) u by-path in
-    (k, not-false (inRange (r .shape) x) ranged, leads, is)
+-- ---- a byte belongs as crate dtype says
+owns-belongs : (start : ℕ) (r : Record) (a : Ask) (b : ℕ) → Owns start r a b → Belongs start r b a
+owns-belongs start r a b w =
+    record {
+      in-range = range-of (r .shape) (a .index) (w .in-range);
+      is-path = plain-path (r .dtype) (a .path) (w .kind) (w .leads);
+      in-run = omega (arith, w .in-run, run-is r (a .path) (w .kind) (w .leads));
+      is-byte = w .is-byte;
+    }
+
+belongs-owns : (start : ℕ) (r : Record) (a : Ask) (b : ℕ) → Belongs start r b a → Owns start r a b
+belongs-owns start r a b w =
+    let (k, leads) = path-plain (r .dtype) (a .path) (w .is-path) in
+    record {
+      kind = k;
+      in-range = range-true (r .shape) (a .index) (w .in-range);
+      leads = leads;
+      in-run = omega (arith, w .in-run, run-is r (a .path) k leads);
+      is-byte = w .is-byte;
+    }
 
 -- ---- a function that returns the formula's outcome owns the data area
--- how the calls of the function and the outcomes go together
+-- the results of its calls, by the outcomes
 record Answers {Y : Type 0} (Call : (x p : List ℕ) → Y → Type 0) (at : Run → Y) (nowhere : Y) (outcome : (x p : List ℕ) → Outcome Run) : Type 0 where
   run-is : (x p : List ℕ) (y : Y) (u : Run) → Call x p y → outcome x p ≡ gives u → y ≡ at u
   none-is : (x p : List ℕ) (y : Y) → Call x p y → outcome x p ≡ refused 26 → y ≡ nowhere
-  is-run : (x p : List ℕ) (u : Run) → outcome x p ≡ gives u → Call x p (at u)
-  same-run : (x p : List ℕ) (u : Run) → Call x p (at u) → (v : Run) × (outcome x p ≡ gives v) × (v .first .0 ≡ u .first .0) × (v .len .0 ≡ u .len .0)
 
-module _ {Y : Type 0} (Call : (x p : List ℕ) → Y → Type 0) (at : Run → Y) (nowhere : Y) (outcome : (x p : List ℕ) → Outcome Run) (start : ℕ) (r : Record)
-    (answers : Answers Call at nowhere outcome) (is : (x p : List ℕ) → outcome x p ≡ formula start r x p) where
-  belongs : (b : ℕ) (a : Ask) → Named-by Call at nowhere b a → Belongs start r b a
-  belongs b a w =
-      let (u, e, first, len) = answers .same-run (a .index) (a .path) (w .run) (w .returned) in
-      let (k, g, leads, same) = named-formula start r (a .index) (a .path) u (sym (is (a .index) (a .path)) ∙ e) in
-      let at-first = ap (λ (q : Run). q .first .0) same in
-      let at-len = ap (λ (q : Run). q .len .0) same in
-      record {
-        in-range = range-of (r .shape) (a .index) g;
-        is-path = plain-path (r .dtype) (a .path) k leads;
-        in-run = omega (arith, w .in-run, run-is r (a .path) k leads, len, at-len);
-        is-byte = omega (arith, w .is-byte, first, at-first);
-      }
-
-  named : (b : ℕ) (a : Ask) → Belongs start r b a → Named-by Call at nowhere b a
-  named b a w =
-      let k = path-plain (r .dtype) (a .path) (w .is-path) in
-      record {
-        run = runFrom (place start r (a .index) (a .path)) (k .0);
-        returned = answers .is-run (a .index) (a .path) _ (is (a .index) (a .path) ∙ formula-named start r (a .index) (a .path) (k .0) (range-true (r .shape) (a .index) (w .in-range)) (k .1));
-        in-run = omega (arith, w .in-run, run-is r (a .path) (k .0) (k .1));
-        is-byte = w .is-byte;
-      }
-
-  area-owned : Owned Call at nowhere start r
-  area-owned =
-      record {
-        by-formula = λ x p k g e y c. answers .run-is x p y _ c (is x p ∙ formula-named start r x p k g e);
-        inside = λ x p k g e.
-            (omega arith, omega (arith, run-inside start r x p (range-of (r .shape) x g) (plain-path (r .dtype) p k e), run-is r p k e));
-        elsewhere = λ x p f y c. answers .none-is x p y c (is x p ∙ formula-none start r x p f);
-        each-byte = λ b g. let a = owned start r b g in (a .0, named (start + b) (a .0) (a .1));
-        once = λ b a a′ w w′. owned-once start r b a a′ (belongs b a w) (belongs b a′ w′);
-      }
+area-owned : {Y : Type 0} (Call : (x p : List ℕ) → Y → Type 0) (at : Run → Y) (nowhere : Y) (outcome : (x p : List ℕ) → Outcome Run) (start : ℕ) (r : Record)
+    → Answers Call at nowhere outcome → ((x p : List ℕ) → outcome x p ≡ formula start r x p) → Owned Call at nowhere start r
+area-owned Call at nowhere outcome start r answers is =
+    record {
+      by-formula = λ x p k g e y c. answers .run-is x p y _ c (is x p ∙ formula-named start r x p k g e);
+      inside = λ x p k g e.
+          (omega arith, omega (arith, run-inside start r x p (range-of (r .shape) x g) (plain-path (r .dtype) p k e), run-is r p k e));
+      elsewhere = λ x p f y c. answers .none-is x p y c (is x p ∙ formula-none start r x p f);
+      each-byte = λ b g. let (a, w) = owned start r b g in (a, belongs-owns start r a (start + b) w);
+      once = λ b a a′ w w′. owned-once start r b a a′ (owns-belongs start r a b w) (owns-belongs start r a′ b w′);
+    }
 
 -- ---- `place::place`
 place-answers : (file start : ℕ) (t ns s : List ℕ) (o : Order)
@@ -135,22 +124,13 @@ place-answers file start t ns s o =
     record {
       run-is = λ x p y u c e. place-one file start t ns s o x p y (Placed.At u) c (sym e);
       none-is = λ x p y c e. place-one file start t ns s o x p y (Placed.Refused Refusal.Nowhere) c (sym e);
-      is-run = λ x p u e. sym e;
-      same-run = λ x p u c. (u, sym c, refl, refl);
     }
 
 -- ---- `npy_place`, with the number of an order
-number-at : (k : ℕ) (ns ms : List ℕ) → ns ≡ ms → getD ns k 0 ≡ getD ms k 0
-number-at k ns ms e = ap (λ (l : List ℕ). getD l k 0) e
-
 module _ (file start : ℕ) (t ns s : List ℕ) (o : Order) (room : List ℕ) where
   told-place : (x p : List ℕ) (r : ℕ) (room′ : List ℕ) → Npy-place file start t ns s (orderNumber o) x p room r room′
       → Tells runValues (placeOf file start t ns s o x p) room r room′
   told-place x p r room′ c = retold (ap (λ (g : Outcome Order). then g (λ o. placeOf file start t ns s o x p)) (order-back o)) c
-
-  place-told : (x p : List ℕ) (r : ℕ) (room′ : List ℕ) → Tells runValues (placeOf file start t ns s o x p) room r room′
-      → Npy-place file start t ns s (orderNumber o) x p room r room′
-  place-told x p r room′ c = retold (sym (ap (λ (g : Outcome Order). then g (λ o. placeOf file start t ns s o x p)) (order-back o))) c
 
   npy-place-answers : Answers {Y = ℕ × List ℕ} (λ x p y. Npy-place file start t ns s (orderNumber o) x p room (y .0) (y .1)) (λ u. (0, runValues u)) (26, room) (placeOf file start t ns s o)
   npy-place-answers =
@@ -161,22 +141,18 @@ module _ (file start : ℕ) (t ns s : List ℕ) (o : Order) (room : List ℕ) wh
         none-is = λ x p y c e.
             let h = told-place x p (y .0) (y .1) c in
             pair-of (h .answered ∙ ap code e) (h .after ∙ ap (λ (q : Outcome Run). afterwards (λ a old. runValues a) q room) e);
-        is-run = λ x p u e. place-told x p 0 (runValues u) (record { answered = sym (ap code e); after = sym (ap (λ (q : Outcome Run). afterwards (λ a old. runValues a) q room) e) });
-        same-run = λ x p u c.
-            let (v, e, same) = told-value (placeOf file start t ns s o x p) (place-numbered file start t ns s o x p) (told-place x p 0 (runValues u) c) in
-            (v, e, sym (number-at 0 (runValues u) (runValues v) same), sym (number-at 1 (runValues u) (runValues v) same));
       }
 
 -- DEMAND 3
 pub record-owned : Record-owned
-record-owned file start t ns s o r accepted no-object long =
+record-owned file start t ns s o r valid no-object long =
     area-owned (Place file start t ns s o) Placed.At (Placed.Refused Refusal.Nowhere) (placeOf file start t ns s o) start r (place-answers file start t ns s o)
-    (by-formula file start t ns s o r accepted no-object long)
+    (by-formula file start t ns s o r valid no-object long)
 
 pub record-owned-in-c : Record-owned-in-C
-record-owned-in-c file start t ns s o r accepted no-object long run =
+record-owned-in-c file start t ns s o r valid no-object long run =
     area-owned (λ x p y. Npy-place file start t ns s (orderNumber o) x p run (y .0) (y .1)) (λ u. (0, runValues u)) (26, run) (placeOf file start t ns s o) start r
-    (npy-place-answers file start t ns s o run) (by-formula file start t ns s o r accepted no-object long)
+    (npy-place-answers file start t ns s o run) (by-formula file start t ns s o r valid no-object long)
 
 pub header-stored : Header-stored
 header-stored =
@@ -196,7 +172,7 @@ data-owned file l l′ x h c e held =
     let own = holds-own file l l′ (headerInfo h) w h refl held in
     record {
       holds = own;
-      owned = record-owned (length file) (h .data-start) _ _ _ (infoOf (h .says) .order) (h .says) (own .accepted);
+      owned = record-owned (length file) (h .data-start) _ _ _ (infoOf (h .says) .order) (h .says) (own .valid);
     }
 
 pub data-owned-in-c : Data-owned-in-C
@@ -206,5 +182,5 @@ data-owned-in-c file l l′ said said′ h c e held run =
     let own = holds-own file l l′ i w h info-is held in
     record {
       holds = own;
-      owned = λ no-object long. record-owned-in-c (length file) (h .data-start) _ _ _ (infoOf (h .says) .order) (h .says) (own .accepted) no-object long run;
+      owned = λ no-object long. record-owned-in-c (length file) (h .data-start) _ _ _ (infoOf (h .says) .order) (h .says) (own .valid) no-object long run;
     }

@@ -30,7 +30,8 @@ use Rattle.record.specs.Sound.{Small}
 use Rattle.record.proofs.Sound.{Sound}
 use Rattle.record.proofs.RoundTrips.{headerFor, file-whole, written-read, read-readable, read-written}
 use Rattle.check_record.specs.Checked.{checkedRecord}
-use Rattle.check_record.proofs.Accepts.{accepts-valid}
+use Rattle.check_record.specs.Valid.{Valid}
+use Rattle.check_record.proofs.Accepts.{checked-valid, valid-checked}
 use Rattle.judge.specs.Judged.{reading}
 use Rattle.judge.proofs.Top.{reading-keeps}
 use Rattle.header.specs.Reads.{HeaderInfo, headerInfo, answer, heldInto, infoOf}
@@ -100,10 +101,7 @@ module _ (r : Record) (sound : Sound r) (room : List ℕ) (e : writing r room �
 -- ---- in the caller's own words
 pub record Wrote (t ns s : List ℕ) (o : Order) (room : List ℕ) (n : ℕ) (room′ : List ℕ) : Type 0 where
   pub says : Record
-  pub table-is : t ≡ table (says .dtype)
-  pub names-are : ns ≡ names (says .dtype)
-  pub shape-is : s ≡ says .shape
-  pub order-is : o ≡ says .order
+  pub valid : Valid t ns s o says
   pub sound : Sound says
   pub writes : writing says room ≡ gives (fileOf says)
   pub long : length (fileOf says) ≡ n
@@ -114,16 +112,12 @@ wrote : (t ns s : List ℕ) (o : Order) (room bytes : List ℕ) (n : ℕ) (room�
 unfolding headerWritten
 wrote t ns s o room bytes n room′ small-t small-s e len after =
     let (r, accepted, of-record) = then-back (checkedRecord t ns s o) (λ r. writing r room) bytes e in
-    let (d, is, valid) = accepts-valid t ns s o r accepted in
-    let dtype-is = ap (λ (q : Record). q .dtype) (sym is) in
+    let valid = checked-valid t ns s o r accepted in
     let same : bytes ≡ fileOf r = holds-of (λ b. b ≡ fileOf r) of-record (writing-whole r room) in
     record {
       says = r;
-      table-is = valid .table-is ∙ ap table dtype-is;
-      names-are = valid .names-are ∙ ap names dtype-is;
-      shape-is = ap (λ (q : Record). q .shape) (sym is);
-      order-is = ap (λ (q : Record). q .order) (sym is);
-      sound = subst Sound (sym is) (valid-sound t ns s o d valid small-t small-s);
+      valid = valid;
+      sound = valid-sound t ns s o r valid small-t small-s;
       writes = of-record ∙ ap gives same;
       long = ap length (sym same) ∙ len;
       bytes = ap (take n) after ∙ front n bytes room (sym len) ∙ same;
@@ -134,10 +128,10 @@ module _ (t ns s : List ℕ) (o : Order) (room : List ℕ) (n : ℕ) (room′ : 
   taken-length = ap length (w .bytes) ∙ w .long
 
   own-back : Read-back (take n room′) t ns s o
-  own-back = rw (w .table-is, w .names-are, w .shape-is, w .order-is, w .bytes) (sound-back (w .says) (w .sound) room (w .writes))
+  own-back = rw (w .valid .table-is, w .valid .names-are, w .valid .shape-is, w .valid .order-is, w .bytes) (sound-back (w .says) (w .sound) room (w .writes))
 
   npy-own-back : Npy-read-back (take n room′) t ns s o
-  npy-own-back = rw (w .table-is, w .names-are, w .shape-is, w .order-is, w .bytes) (npy-sound-back (w .says) (w .sound) room (w .writes))
+  npy-own-back = rw (w .valid .table-is, w .valid .names-are, w .valid .shape-is, w .valid .order-is, w .bytes) (npy-sound-back (w .says) (w .sound) room (w .writes))
 
 -- WHAT WAS WRITTEN IS READ BACK
 pub written-back : Written-read
@@ -199,7 +193,7 @@ read-back file l l′ x h c e held out out′ v k =
     let w = read-was file l l′ x (headerInfo h) c e in
     let own = holds-own file l l′ (headerInfo h) w h refl held in
     let (sound, only) = writes-so file l l′ (headerInfo h) w (h .says) (says-is file l l′ (headerInfo h) w h refl held) in
-    let is = ap (λ (c : Outcome Record). then c (λ r. writing r out)) (own .accepted) in
+    let is = ap (λ (c : Outcome Record). then c (λ r. writing r out)) (valid-checked _ _ _ _ _ (own .valid)) in
     goes-again in-rattle (h .says) out (bytesAnswer v) out′ _ (only out) (k .writes .answered ∙ ap (each length) is)
     (k .writes .room-after ∙ ap (λ (o : Outcome (List ℕ)). afterwards atFront o out) is) (λ e. sound-back (h .says) sound out e)
 
@@ -213,6 +207,6 @@ read-back-in-c file l l′ said said′ h c e held out out′ count count′ v k
     let n = infoOf (h .says) in
     let is =
     ap (λ (g : Outcome Order). then g (λ o. headerWritten (tableIn n l′) (namesIn n l′) (shapeIn n l′) o out)) (order-back (n .order))
-    ∙ ap (λ (c : Outcome Record). then c (λ r. writing r out)) (own .accepted) in
+    ∙ ap (λ (c : Outcome Record). then c (λ r. writing r out)) (valid-checked _ _ _ _ _ (own .valid)) in
     goes-again (in-c alone count) (h .says) out (v, count′) out′ _ (only out) (c-returned (retold (ap (each length) is) (k .writes .answered)))
     (k .writes .room-after ∙ ap (λ (o : Outcome (List ℕ)). afterwards atFront o out) is) (λ e. npy-sound-back (h .says) sound out e)

@@ -1,5 +1,5 @@
 -- A reading's values and rooms determine the header: if they are those of h, then h has the record and the data start of the header that the file gave. The rooms hold that
--- record, and the check accepts it.
+-- record, which is valid.
 use Prim.Native.Nat.{ℕ}
 use mathlib.Core.Path.{_≡_, refl, sym, ap, subst, _∙_}
 use mathlib.Core.List.{List}
@@ -10,6 +10,7 @@ use Rattle.dtype.specs.Record.{Record}
 use Rattle.dtype.proofs.Record.{parts-equal}
 use Rattle.record.specs.Rooms.{Lent, holding}
 use Rattle.record.specs.Header.{Header}
+use Rattle.check_record.proofs.Accepts.{checked-valid}
 use Rattle.header.specs.declared.RecordInfo.{RecordInfo}
 use Rattle.header.specs.Reads.{HeaderInfo, infoOf}
 use Rattle.read_back.specs.Rooms.{Holds}
@@ -52,5 +53,5 @@ module _ (file : List ℕ) (l l′ : Lent) (i : HeaderInfo) (w : Was-read file l
   -- the rooms hold the record of h
   pub holds-own : Holds (h .says) (infoOf (h .says)) l′
   holds-own =
-      let f : Holds (w .header-is .says) (i .info) l′ = record { fronts = in-rooms file l l′ i w; accepted = in-rooms-checked file l l′ i w } in
+      let f : Holds (w .header-is .says) (i .info) l′ = record { fronts = in-rooms file l l′ i w; valid = checked-valid _ _ _ _ _ (in-rooms-checked file l l′ i w) } in
       subst (λ (t : RecordInfo). Holds (h .says) t l′) info-is (subst (λ (r : Record). Holds r (i .info) l′) says-is f)

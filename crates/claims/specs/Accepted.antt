@@ -1,23 +1,19 @@
 -- Document 01, "The refusal numbers": 27, "caller's record .. that no reading gives (13, 20 to 22, 7, 4 aside)". The check of a caller's record accepts exactly the records
 -- that some file is read as, apart from those whose header would be too deep (7) or too long (4); 13 and 20 to 22 are part of the check. t, ns, s and o are a caller's
 -- table, names, shape and order.
-use Prim.Native.Nat.{ℕ, _≤_}
+use Prim.Native.Nat.{ℕ}
 use mathlib.Core.Path.{_≡_}
-use mathlib.Core.Bool.{true, false}
+use mathlib.Core.Bool.{true}
 use mathlib.Core.List.{List}
 use Rattle.counts.specs.AllBytes.{AllBytes}
 use Rattle.counts.specs.Outcome.{gives}
 use Rattle.dtype.specs.declared.Order.{Order}
-use Rattle.dtype.specs.Limits.{limited}
-use Rattle.dtype.specs.Record.{Record, table, names}
-use Rattle.record.specs.File.{textLength}
-use Rattle.record.specs.Writing.{tooDeep}
-use Rattle.record.specs.Prefix.{most-text}
+use Rattle.dtype.specs.Record.{Record}
 use Rattle.record.specs.Rooms.{Lent}
-use Rattle.check_table.specs.Reading.{untyped, illNamed, isArray}
 use Rattle.check_record.specs.declared.Checked.{Checked}
 use Rattle.check_record.specs.declared.Summary.{Summary}
 use Rattle.check_record.specs.Checked.{checkedRecord}
+use Rattle.check_record.specs.Valid.{Valid}
 use Rattle.check_record.specs.Answer as check-record
 use Rattle.header.specs.declared.HeaderRead.{HeaderRead}
 use Rattle.header.specs.declared.RecordInfo.{RecordInfo}
@@ -26,7 +22,7 @@ use Rattle.header.specs.Reads.{HeaderInfo, answer, textAnswer, lent}
 use Rattle.read_back.specs.Rooms.{Fronts, Holds}
 use Rattle.npy_codes.specs.Numbers.{orderNumber, textValues, summaryValues}
 use Rattle.claims.specs.Doors.{Door, in-rattle, in-c}
-use Rattle.claims.specs.Exact.{In-text}
+use Rattle.claims.specs.Exact.{In-text, Printable}
 use Rattle.claims.specs.Functions.{Read, Read-text, Check}
 use Rattle.claims.specs.InC.{Npy-check, Npy-read-text}
 
@@ -41,23 +37,10 @@ pub record Some-file (t ns s : List ℕ) (o : Order) : Type 0 where
   pub is : answer result ≡ gives header
   pub holds : Fronts t ns s o (header .info) after
 
--- the header's text has at most 32 brackets open at once, and at most 131,072 bytes
-pub record Printable (r : Record) : Type 0 where
-  pub shallow : tooDeep r ≡ false
-  pub short : textLength r ≤ most-text
-
--- what an accepted table, names, shape and order are: those of a record whose types type strings give, whose names are UTF-8 and that is outermost no array (27), within 13,
--- 20, 21 and 22; and, where its header is printable, some file, made of bytes, is read as it, into rooms that are as long as it is
+-- what an accepted table, names, shape and order are: those of a valid record (27, 13, 20, 21, 22); and, where its header can be printed (7, 4), some file, made of
+-- bytes, is read as it, into rooms that are as long as it is
 pub record Accepted-as (t ns s : List ℕ) (o : Order) (r : Record) : Type 0 where
-  pub table-is : t ≡ table (r .dtype)
-  pub names-are : ns ≡ names (r .dtype)
-  pub shape-is : s ≡ r .shape
-  pub order-is : o ≡ r .order
-  pub typed : untyped (r .dtype) ≡ false
-  pub well-named : illNamed (r .dtype) ≡ false
-  pub no-array : isArray (r .dtype) ≡ false
-  pub limits : limited r ≡ gives r
-  pub checked : checkedRecord t ns s o ≡ gives r
+  pub valid : Valid t ns s o r
   pub from-file : Printable r → (f : Some-file t ns s o) × AllBytes (f .file) × (f .before ≡ lent t ns s)
 
 -- the result y of checking: a record that is read from some file is accepted, and what is accepted is such a record
@@ -67,6 +50,9 @@ pub record Accepts {R : Type 0} (door : Door Summary R) (t ns s : List ℕ) (o :
 
 -- the claim, for every caller's record
 pub record Accepts-exactly : Type 0 where
+  -- what the functions' predicates say of a caller's record (`checkedRecord`: its numbers to the record, or the first refusal) is the same
+  pub valid-only : (t ns s : List ℕ) (o : Order) (r : Record) → checkedRecord t ns s o ≡ gives r → Valid t ns s o r
+  pub all-valid : (t ns s : List ℕ) (o : Order) (r : Record) → Valid t ns s o r → checkedRecord t ns s o ≡ gives r
   pub check : (t ns s : List ℕ) (o : Order) (x : Checked) → Check t ns s o x → Accepts in-rattle t ns s o (check-record.answer x)
   pub npy-check : (t ns s : List ℕ) (o : Order) (said : List ℕ) (r : ℕ) (said′ : List ℕ) → Npy-check t ns s (orderNumber o) said r said′
       → Accepts (in-c summaryValues said) t ns s o (r, said′)

@@ -5,7 +5,7 @@
 use Prim.Native.Nat.{ℕ, _+_, _≤_}
 use mathlib.Core.Path.{_≡_}
 use mathlib.Core.Bool.{Bool, true, false}
-use mathlib.Core.List.{List}
+use mathlib.Core.List.{List, [], _∷_}
 use lib.ListN.{length}
 use Rattle.refusal.specs.declared.BytesAnswer.{BytesAnswer}
 use Rattle.refusal.specs.declared.PointsAnswer.{PointsAnswer}
@@ -28,9 +28,8 @@ use Rattle.record.specs.Prefix.{most-text, Prefix, dataStart, prefix, textOf}
 use Rattle.record.specs.FromValue.{recordOf}
 use Rattle.record.specs.Rooms.{Lent, holding}
 use Rattle.record.specs.Header.{Header}
-use Rattle.record.specs.File.{textLength, fileOf, headerLength}
-use Rattle.record.specs.Writing.{tooDeep}
-use Rattle.check_record.specs.Checked.{checkedRecord}
+use Rattle.record.specs.File.{bareText, textLength, fileOf, headerLength}
+use Rattle.check_record.specs.Valid.{Valid}
 use Rattle.header.specs.declared.TextRead.{TextRead}
 use Rattle.header.specs.declared.HeaderRead.{HeaderRead}
 use Rattle.header.specs.declared.RecordInfo.{RecordInfo}
@@ -38,12 +37,12 @@ use Rattle.header.specs.Reads.{HeaderInfo, infoOf, headerInfo, answer, textAnsw
 use Rattle.place_area.specs.declared.Run.{Run}
 use Rattle.place.specs.declared.Placed.{Placed}
 use Rattle.place.specs.Answer as place-answer
-use Rattle.place.specs.Place.{runFrom, placeOf}
+use Rattle.place.specs.Place.{runFrom}
 use Rattle.string_value.specs.Elements.{kindOf, bytesIn, pointsIn}
 use Rattle.string_value.specs.Runs.{bytesOut, pointsOut}
 use Rattle.element.specs.Bytes.{runBytes}
 use Rattle.npy_codes.specs.Codes.{alone}
-use Rattle.npy_codes.specs.Numbers.{orderFor, typeFor, textValues, headerValues, runValues}
+use Rattle.npy_codes.specs.Numbers.{orderNumber, typeValues, textValues, headerValues, runValues}
 use Rattle.claims.specs.Doors.{Door, in-rattle, in-c}
 use Rattle.claims.specs.Roomy.{Roomy}
 use Rattle.claims.specs.Functions.{Read-held, Read-text, Write-header, Place, Element-bytes, Element-points, Read-bytes, Read-points, Write-bytes, Write-points}
@@ -85,11 +84,16 @@ abbrev pub Reads-text-exactly : {R : Type 0} → Door RecordInfo R → (text : L
 Reads-text-exactly door text l = Exactly door (λ r. In-text text r × Fits l r) infoOf holding l
 
 -- ---- writing
--- the caller's record is r, and its header can be written: at most 32 brackets open at once, a text of at most 131,072 bytes, and room for all of it
-pub record Writable (t ns s : List ℕ) (o : Order) (room : List ℕ) (r : Record) : Type 0 where
-  pub accepted : checkedRecord t ns s o ≡ gives r
-  pub shallow : tooDeep r ≡ false
+-- the text of a record's header is a value with at most 32 brackets open at once (7), and padded it has at most 131,072 bytes (4)
+pub record Printable (r : Record) : Type 0 where
+  pub value : Value
+  pub shallow : GivesIn most-open (bareText r) value
   pub short : textLength r ≤ most-text
+
+-- the caller's record is r, its header can be printed, and there is room for all of it
+pub record Writable (t ns s : List ℕ) (o : Order) (room : List ℕ) (r : Record) : Type 0 where
+  pub valid : Valid t ns s o r
+  pub printable : Printable r
   pub fits : headerLength r ≤ length room
 
 -- a header is written exactly of those, and its bytes are exactly the header's
@@ -99,7 +103,7 @@ Writes-exactly door Due = Exactly door Due headerLength (λ r. atFront (fileOf r
 -- ---- places
 -- the caller's record is r, without an `O`; the file is long enough for its data; the index x is in range, and the path p leads to the plain type k
 pub record Named (file start : ℕ) (t ns s : List ℕ) (o : Order) (x p : List ℕ) (r : Record) (k : TypeStr) : Type 0 where
-  pub accepted : checkedRecord t ns s o ≡ gives r
+  pub valid : Valid t ns s o r
   pub no-object : hasObject (r .dtype) ≡ false
   pub long : start + dataBytes r ≤ file
   pub in-range : inRange (r .shape) x ≡ true
@@ -111,10 +115,11 @@ Places-exactly door Due start x p y = Exactly {M = Unit {0}} door Due (λ a. run
 
 -- ---- elements
 -- the element at a place: its bytes, read by `within`, are the content, which fits the room
-pub record Element (within : TypeStr → List ℕ → Outcome (List ℕ)) (place : Outcome Run) (file room content : List ℕ) : Type 0 where
-  pub run : Run
-  pub placed : place ≡ gives run
-  pub is : within (run .kind) (runBytes file run) ≡ gives content
+pub record Element (within : TypeStr → List ℕ → Outcome (List ℕ)) (file : List ℕ) (start : ℕ) (t ns s : List ℕ) (o : Order) (x p room content : List ℕ) : Type 0 where
+  pub says : Record
+  pub kind : TypeStr
+  pub named : Named (length file) start t ns s o x p says kind
+  pub is : within kind (runBytes file (runFrom (place start says x p) kind)) ≡ gives content
   pub fits : length content ≤ length room
 
 -- how the bytes of a place are read as an element S or V, and as an element U
@@ -142,8 +147,16 @@ abbrev pub Takes-exactly : {R : Type 0} → Door ℕ R → (Due : List ℕ → T
 Takes-exactly door Due = Exactly door Due length atFront
 
 -- ---- from C an order and a type are given by numbers, which have to name one
-abbrev pub By-number : {N A : Type 0} → (named : Outcome N) → (N → A → Type 0) → A → Type 0
-By-number {N} named Due a = (n : N) × (named ≡ gives n) × Due n a
+abbrev pub By-number : {N A : Type 0} → (numbers : List ℕ) (values : N → List ℕ) → (N → A → Type 0) → A → Type 0
+By-number {N} numbers values Due a = (n : N) × (numbers ≡ values n) × Due n a
+
+-- of an order
+abbrev pub By-order : {A : Type 0} → (order : ℕ) → (Order → A → Type 0) → A → Type 0
+By-order order = By-number (order ∷ []) (λ o. orderNumber o ∷ [])
+
+-- of a type
+abbrev pub By-type : {A : Type 0} → (order letter size units : ℕ) → (TypeStr → A → Type 0) → A → Type 0
+By-type order letter size units = By-number (order ∷ letter ∷ size ∷ units ∷ []) typeValues
 
 -- the claim, of every call
 pub record Exact : Type 0 where
@@ -156,10 +169,10 @@ pub record Exact : Type 0 where
       → Places-exactly in-rattle (λ a. Named file start t ns s o x p (a .0) (a .1)) start x p (place-answer.answer y)
   pub element-bytes : (file : List ℕ) (start : ℕ) (t ns s : List ℕ) (o : Order) (x p out : List ℕ) (y : BytesAnswer) (out′ : List ℕ)
       → Element-bytes file start t ns s o x p out y out′
-      → Takes-exactly in-rattle (Element bytes-within (placeOf (length file) start t ns s o x p) file out) out (bytesAnswer y) out′
+      → Takes-exactly in-rattle (Element bytes-within file start t ns s o x p out) out (bytesAnswer y) out′
   pub element-points : (file : List ℕ) (start : ℕ) (t ns s : List ℕ) (o : Order) (x p out : List ℕ) (y : PointsAnswer) (out′ : List ℕ)
       → Element-points file start t ns s o x p out y out′
-      → Takes-exactly in-rattle (Element points-within (placeOf (length file) start t ns s o x p) file out) out (pointsAnswer y) out′
+      → Takes-exactly in-rattle (Element points-within file start t ns s o x p out) out (pointsAnswer y) out′
   -- `string_element::read_bytes`, `read_points`, `write_bytes`, `write_points`
   pub read-bytes : (run : List ℕ) (k : TypeStr) (out : List ℕ) (y : BytesAnswer) (out′ : List ℕ) → Read-bytes run k out y out′
       → Takes-exactly in-rattle (By-itself k (bytes-within k run) out) out (bytesAnswer y) out′
@@ -178,24 +191,24 @@ pub record Exact-in-C : Type 0 where
   pub npy-read-text : (text : List ℕ) (l : Lent) (said : List ℕ) (r : ℕ) (l′ : Lent) (said′ : List ℕ) → Npy-read-text text l said r l′ said′
       → Reads-text-exactly (in-c textValues said) text l (r, said′) l′
   pub npy-write-header : (t ns s : List ℕ) (order : ℕ) (out count : List ℕ) (r : ℕ) (out′ count′ : List ℕ) → Npy-write-header t ns s order out count r out′ count′
-      → Writes-exactly (in-c alone count) (By-number (orderFor order) (λ o. Writable t ns s o out)) out (r, count′) out′
+      → Writes-exactly (in-c alone count) (By-order order (λ o. Writable t ns s o out)) out (r, count′) out′
   pub npy-place : (file start : ℕ) (t ns s : List ℕ) (order : ℕ) (x p run : List ℕ) (r : ℕ) (run′ : List ℕ) → Npy-place file start t ns s order x p run r run′
-      → Places-exactly (in-c runValues run) (By-number (orderFor order) (λ o a. Named file start t ns s o x p (a .0) (a .1))) start x p (r, run′)
+      → Places-exactly (in-c runValues run) (By-order order (λ o a. Named file start t ns s o x p (a .0) (a .1))) start x p (r, run′)
   pub npy-element-bytes : (file : List ℕ) (start : ℕ) (t ns s : List ℕ) (order : ℕ) (x p out count : List ℕ) (r : ℕ) (out′ count′ : List ℕ)
       → Npy-element-bytes file start t ns s order x p out count r out′ count′
-      → Takes-exactly (in-c alone count) (By-number (orderFor order) (λ o. Element bytes-within (placeOf (length file) start t ns s o x p) file out)) out (r, count′) out′
+      → Takes-exactly (in-c alone count) (By-order order (λ o. Element bytes-within file start t ns s o x p out)) out (r, count′) out′
   pub npy-element-points : (file : List ℕ) (start : ℕ) (t ns s : List ℕ) (order : ℕ) (x p out count : List ℕ) (r : ℕ) (out′ count′ : List ℕ)
       → Npy-element-points file start t ns s order x p out count r out′ count′
-      → Takes-exactly (in-c alone count) (By-number (orderFor order) (λ o. Element points-within (placeOf (length file) start t ns s o x p) file out)) out (r, count′) out′
+      → Takes-exactly (in-c alone count) (By-order order (λ o. Element points-within file start t ns s o x p out)) out (r, count′) out′
   pub npy-read-bytes : (run : List ℕ) (order letter size units : ℕ) (out count : List ℕ) (r : ℕ) (out′ count′ : List ℕ)
       → Npy-read-bytes run order letter size units out count r out′ count′
-      → Takes-exactly (in-c alone count) (By-number (typeFor order letter size units) (λ k. By-itself k (bytes-within k run) out)) out (r, count′) out′
+      → Takes-exactly (in-c alone count) (By-type order letter size units (λ k. By-itself k (bytes-within k run) out)) out (r, count′) out′
   pub npy-read-points : (run : List ℕ) (order letter size units : ℕ) (out count : List ℕ) (r : ℕ) (out′ count′ : List ℕ)
       → Npy-read-points run order letter size units out count r out′ count′
-      → Takes-exactly (in-c alone count) (By-number (typeFor order letter size units) (λ k. By-itself k (points-within k run) out)) out (r, count′) out′
+      → Takes-exactly (in-c alone count) (By-type order letter size units (λ k. By-itself k (points-within k run) out)) out (r, count′) out′
   pub npy-write-bytes : (order letter size units : ℕ) (value out count : List ℕ) (r : ℕ) (out′ count′ : List ℕ)
       → Npy-write-bytes order letter size units value out count r out′ count′
-      → Takes-exactly (in-c alone count) (By-number (typeFor order letter size units) (λ k. By-itself k (bytes-out k value) out)) out (r, count′) out′
+      → Takes-exactly (in-c alone count) (By-type order letter size units (λ k. By-itself k (bytes-out k value) out)) out (r, count′) out′
   pub npy-write-points : (order letter size units : ℕ) (value out count : List ℕ) (r : ℕ) (out′ count′ : List ℕ)
       → Npy-write-points order letter size units value out count r out′ count′
-      → Takes-exactly (in-c alone count) (By-number (typeFor order letter size units) (λ k. By-itself k (points-out k value) out)) out (r, count′) out′
+      → Takes-exactly (in-c alone count) (By-type order letter size units (λ k. By-itself k (points-out k value) out)) out (r, count′) out′

@@ -1,8 +1,8 @@
 -- Demand 3, of `header::read` and `place::place`, and of `npy_read` and `npy_place`. Document 01, "What counts as an answer": "Demand 3 speaks of the record of demand 2, so an
--- empty table can't satisfy it, and a walk correct only for item 0 or the first field leaves bytes without an owner." After a file was read the rooms hold its record, and the check accepts it. If
--- that has no `O` and the file is at least as long as data start + count times item size, each index in range with each path to a plain type is answered with the run of
+-- empty table can't satisfy it, and a walk correct only for item 0 or the first field leaves bytes without an owner." After a file was read the rooms hold its record, which is valid. If
+-- it has no `O` and the file is at least as long as data start + count times item size, each index in range with each path to a plain type is answered with the run of
 -- that type's bytes at "data start + item size times the sum of index times stride + the offset inside the item" (`place`, dtype/specs/Places.antt), inside the data
--- area; all else with 26; and each byte of the data area belongs to exactly one index, path and byte of the run that is returned for them.
+-- area; all else with 26; and each byte of the data area belongs to exactly one index, path and byte of such a run.
 use Prim.Native.Nat.{ℕ, _+_, _<_, _≤_}
 use mathlib.Core.Path.{_≡_}
 use mathlib.Core.Bool.{true, false}
@@ -20,7 +20,7 @@ use Rattle.dtype.specs.Paths.{plainAt}
 use Rattle.dtype.specs.Places.{dataBytes, place, Ask}
 use Rattle.record.specs.Rooms.{Lent, holding}
 use Rattle.record.specs.Header.{Header}
-use Rattle.check_record.specs.Checked.{checkedRecord}
+use Rattle.check_record.specs.Valid.{Valid}
 use Rattle.place_area.specs.declared.Run.{Run}
 use Rattle.place.specs.declared.Placed.{Placed}
 use Rattle.place.specs.Place.{runFrom}
@@ -31,39 +31,39 @@ use Rattle.npy_codes.specs.Numbers.{orderNumber, headerValues, runValues}
 use Rattle.claims.specs.Functions.{Read, Place}
 use Rattle.claims.specs.InC.{Npy-read, Npy-place}
 
--- a place's function as demand 3 sees it: `Call x p y` where a call with the index x and the path p has the result y; the result for a run, and the one for 26
-module _ {Y : Type 0} (Call : (x p : List ℕ) → Y → Type 0) (at : Run → Y) (nowhere : Y) where
-  -- the byte b of the file is named by an index, a path, and a byte of the run that is returned for them
-  pub record Named-by (b : ℕ) (a : Ask) : Type 0 where
-    pub run : Run
-    pub returned : Call (a .index) (a .path) (at run)
-    pub in-run : a .byte < run .len .0
-    pub is-byte : run .first .0 + a .byte ≡ b
+-- the byte b of the file belongs to an index, a path, and a byte of the run that document 01's formula gives for them
+pub record Owns (start : ℕ) (r : Record) (a : Ask) (b : ℕ) : Type 0 where
+  pub kind : TypeStr
+  pub in-range : inRange (r .shape) (a .index) ≡ true
+  pub leads : plainAt (r .dtype) (a .path) ≡ gives kind
+  pub in-run : a .byte < plainBytes kind
+  pub is-byte : place start r (a .index) (a .path) + a .byte ≡ b
 
-  -- the data area of the record r, from `start` on
-  pub record Owned (start : ℕ) (r : Record) : Type 0 where
-    -- an index in range and a path to a plain type name the run of the type's bytes at document 01's place ..
-    pub by-formula : (x p : List ℕ) (k : TypeStr) → inRange (r .shape) x ≡ true → plainAt (r .dtype) p ≡ gives k
-        → (y : Y) → Call x p y → y ≡ at (runFrom (place start r x p) k)
-    -- .. which is inside the data area
-    pub inside : (x p : List ℕ) (k : TypeStr) → inRange (r .shape) x ≡ true → plainAt (r .dtype) p ≡ gives k
-        → (start ≤ place start r x p) × (place start r x p + plainBytes k ≤ start + dataBytes r)
-    -- all else is 26
-    pub elsewhere : (x p : List ℕ) → ((k : TypeStr) → inRange (r .shape) x ≡ true → plainAt (r .dtype) p ≡ gives k → ⊥) → (y : Y) → Call x p y → y ≡ nowhere
-    -- each byte of the data area is named, and only once
-    pub each-byte : (b : ℕ) → b < dataBytes r → (a : Ask) × Named-by (start + b) a
-    pub once : (b : ℕ) (a a′ : Ask) → Named-by b a → Named-by b a′ → a ≡ a′
+-- The data area of the record r, from `start` on, and a place's function: `Call x p y` where a call with the index x and the path p has the result y. `at` is the result for
+-- a run, `nowhere` the one for 26.
+pub record Owned {Y : Type 0} (Call : (x p : List ℕ) → Y → Type 0) (at : Run → Y) (nowhere : Y) (start : ℕ) (r : Record) : Type 0 where
+  -- an index in range and a path to a plain type name the run of the type's bytes at document 01's place ..
+  pub by-formula : (x p : List ℕ) (k : TypeStr) → inRange (r .shape) x ≡ true → plainAt (r .dtype) p ≡ gives k
+      → (y : Y) → Call x p y → y ≡ at (runFrom (place start r x p) k)
+  -- .. which is inside the data area
+  pub inside : (x p : List ℕ) (k : TypeStr) → inRange (r .shape) x ≡ true → plainAt (r .dtype) p ≡ gives k
+      → (start ≤ place start r x p) × (place start r x p + plainBytes k ≤ start + dataBytes r)
+  -- all else is 26
+  pub elsewhere : (x p : List ℕ) → ((k : TypeStr) → inRange (r .shape) x ≡ true → plainAt (r .dtype) p ≡ gives k → ⊥) → (y : Y) → Call x p y → y ≡ nowhere
+  -- each byte of the data area belongs to such a run, and only once
+  pub each-byte : (b : ℕ) → b < dataBytes r → (a : Ask) × Owns start r a (start + b)
+  pub once : (b : ℕ) (a a′ : Ask) → Owns start r a b → Owns start r a′ b → a ≡ a′
 
--- the first claim, of every caller's record that the check accepts, whoever made it, and every file that holds its data
+-- the first claim, of every caller's record that is valid, whoever made it, and every file that holds its data
 abbrev pub Record-owned : Type 0
 Record-owned =
-    (file start : ℕ) (t ns s : List ℕ) (o : Order) (r : Record) → checkedRecord t ns s o ≡ gives r → hasObject (r .dtype) ≡ false → start + dataBytes r ≤ file
+    (file start : ℕ) (t ns s : List ℕ) (o : Order) (r : Record) → Valid t ns s o r → hasObject (r .dtype) ≡ false → start + dataBytes r ≤ file
     → Owned (Place file start t ns s o) Placed.At (Placed.Refused Refusal.Nowhere) start r
 
 -- the same in C: 0 and the run's values, or 26 and the values' room `run` as it was
 abbrev pub Record-owned-in-C : Type 0
 Record-owned-in-C =
-    (file start : ℕ) (t ns s : List ℕ) (o : Order) (r : Record) → checkedRecord t ns s o ≡ gives r → hasObject (r .dtype) ≡ false → start + dataBytes r ≤ file
+    (file start : ℕ) (t ns s : List ℕ) (o : Order) (r : Record) → Valid t ns s o r → hasObject (r .dtype) ≡ false → start + dataBytes r ≤ file
     → (run : List ℕ)
     → Owned {Y = ℕ × List ℕ} (λ x p y. Npy-place file start t ns s (orderNumber o) x p run (y .0) (y .1)) (λ u. (0, runValues u)) (26, run) start r
 
@@ -74,7 +74,7 @@ pub record Header-stored : Type 0 where
   pub npy-read : (file : List ℕ) (l l′ : Lent) (said said′ : List ℕ) → Npy-read file l said 0 l′ said′
       → (h : Header) × (said′ ≡ headerValues (headerInfo h)) × (l′ ≡ holding (h .says) l)
 
--- after the header h was read: the rooms hold its record, which the check accepts, and its data area, if it has no `O` and the file is long enough, is owned
+-- after the header h was read: the rooms hold its record, which is valid, and its data area, if it has no `O` and the file is long enough, is owned
 pub record Data-owned-by (file : List ℕ) (h : Header) (l′ : Lent) (Area : (start : ℕ) → Record → Type 0) : Type 0 where
   pub holds : Holds (h .says) (infoOf (h .says)) l′
   pub owned : hasObject (h .says .dtype) ≡ false → h .data-start + dataBytes (h .says) ≤ length file → Area (h .data-start) (h .says)

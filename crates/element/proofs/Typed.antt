@@ -17,6 +17,7 @@ use Rattle.dtype.specs.Record.{Record}
 use Rattle.dtype.specs.Paths.{plainAt}
 use Rattle.dtype.specs.Places.{dataBytes, place}
 use Rattle.check_table.specs.Reading.{untyped}
+use Rattle.check_table.proofs.Readable.{readable-typed}
 use Rattle.check_record.specs.Checked.{checkedRecord}
 use Rattle.check_record.proofs.Accepts.{accepts-valid}
 use Rattle.place_area.specs.declared.Run.{Run}
@@ -53,7 +54,7 @@ module _ (file start : ℕ) (x p : List ℕ) (u : Run) where
       go : (c : Outcome Record) → checkedRecord t ns s o ≡ c → then c (λ r. placed file start r x p) ≡ gives u → isType (u .kind) ≡ true
       go (gives r) e k =
           let v = accepts-valid t ns s o r e in
-          in-record-typed r (ap (λ (y : Record). untyped (y .dtype)) (v .1) ∙ v .2 .typed) k
+          in-record-typed r (ap (λ (y : Record). untyped (y .dtype)) (v .1) ∙ readable-typed (v .0) (v .2 .readable)) k
       go (refused n) e k = refused-gives k
 
 -- ---- so of an element

@@ -29,6 +29,7 @@ use Rattle.header.specs.declared.Header.{Header}
 use Rattle.header.specs.declared.HeaderRead.{HeaderRead}
 use Rattle.header.specs.Reads.{HeaderInfo, headerInfo, headerIs, afterPrefix, heldInto, ReadsHeld}
 use Rattle.list_record.specs.Answer as lists
+use Rattle.check_record.proofs.Accepts.{checked-valid, valid-checked}
 use Rattle.read_back.specs.Rooms.{tableIn, namesIn, shapeIn, Holds}
 use Rattle.list_file.specs.Report.{held-bytes, fresh, refusedLine, textFor, reportOf, WritesText, Reports}
 use Rattle.read_back.proofs.Accepted.{read-checked}
@@ -61,7 +62,7 @@ held-whole longer file l h e = go (prefix file) e
 module _ (v : Version) (start : ℕ) (r : Record) (info : RecordInfo) (l : Lent) (room room′ : List ℕ) (h : Holds r info l) where
   text-of : (x : BytesAnswer) → lists.Lists v start (tableIn info l) (namesIn info l) (shapeIn info l) (info .order) room x room′
       → WritesText (listing v start r []) room x room′
-  text-of x w = owes-same _ _ room _ _ (ap (λ (o : Outcome Record). then o (λ z. roomed 28 room (listing v start z []))) (h .accepted)) w
+  text-of x w = owes-same _ _ room _ _ (ap (λ (o : Outcome Record). then o (λ z. roomed 28 room (listing v start z []))) (valid-checked _ _ _ _ _ (h .valid))) w
 
   -- the fronts, as the functions gave them
   module _ (t ns s : List ℕ) (x : BytesAnswer) (et : t ≡ tableIn info l) (en : ns ≡ namesIn info l) (es : s ≡ shapeIn info l) (w : lists.Lists v start t ns s (info .order) room x room′) where
@@ -120,7 +121,7 @@ module _ (longer : Bool) (file : List ℕ) (l : Lent) (a : length (l .table) ≡
             given = sym held-fresh ∙ e;
             version-is = ap (λ (t : HeaderInfo). t .version) same;
             start-is = ap (λ (t : HeaderInfo). t .data-start) same;
-            holds = record { fronts = s; accepted = checked-fronts (k .says) (h .info) l′ s (read-checked reading reading-keeps file (roomsOf l) k (held-whole longer file l k e)) };
+            holds = record { fronts = s; valid = checked-valid _ _ _ _ (k .says) (checked-fronts (k .says) (h .info) l′ s (read-checked reading reading-keeps file (roomsOf l) k (held-whole longer file l k e))) };
           }
       go (refused n) e p q = absurd (let z : _≡_ {A = ℕ} 0 1 = cc in omega arith)
 

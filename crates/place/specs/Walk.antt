@@ -15,7 +15,7 @@ use Rattle.dtype.specs.PlainBytes.{plainBytes}
 use Rattle.dtype.specs.Shape.{product}
 use Rattle.dtype.specs.declared.Order.{Order}
 use Rattle.counts.specs.declared.Items.{Items}
-use Rattle.check_record.specs.Valid.{Valid}
+use Rattle.check_record.specs.Valid.{made, Valid}
 use Rattle.check_record.specs.Answer.{itemSize}
 use Rattle.check_record.specs.declared.ItemSize.{ItemSize}
 use Rattle.dtype.specs.Paths.{plainAt, offset}
@@ -43,6 +43,6 @@ Finds d p (Placed.Refused why) = plainAt d p ≡ refused (numberOf why)
 
 -- what the check of a record has shown of it
 pub record Accepted (t ns s : List ℕ) (o : Order) (d : Dtype) (size : ItemSize) (count : Items) : Type 0 where
-  pub valid : Valid t ns s o d
+  pub valid : Valid t ns s o (made d s o)
   pub size-is : size ≡ itemSize d
   pub count-is : count .0 ≡ product s

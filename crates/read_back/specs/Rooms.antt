@@ -5,11 +5,10 @@ use mathlib.Core.Path.{_≡_}
 use mathlib.Core.List.{List}
 use lib.ListN.{length, take}
 use Rattle.dtype.specs.declared.Order.{Order}
-use Rattle.counts.specs.Outcome.{gives}
 use Rattle.dtype.specs.Flat.{entry-width}
 use Rattle.dtype.specs.Record.{Record, table, names}
 use Rattle.record.specs.Rooms.{Lent}
-use Rattle.check_record.specs.Checked.{checkedRecord}
+use Rattle.check_record.specs.Valid.{Valid}
 use Rattle.header.specs.declared.RecordInfo.{RecordInfo}
 
 -- the fronts
@@ -32,7 +31,7 @@ pub record Fronts (t ns s : List ℕ) (o : Order) (info : RecordInfo) (l : Lent)
   pub name-bytes-are : info .names ≡ length ns
   pub rank-is : info .rank ≡ length s
 
--- the fronts are a record's own parts, and the check accepts them
+-- the fronts are a record's own parts, and valid
 pub record Holds (r : Record) (info : RecordInfo) (l : Lent) : Type 0 where
   pub fronts : Fronts (table (r .dtype)) (names (r .dtype)) (r .shape) (r .order) info l
-  pub accepted : checkedRecord (tableIn info l) (namesIn info l) (shapeIn info l) (info .order) ≡ gives r
+  pub valid : Valid (tableIn info l) (namesIn info l) (shapeIn info l) (info .order) r

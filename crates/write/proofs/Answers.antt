@@ -22,7 +22,6 @@ use Rattle.refusal.specs.declared.BytesAnswer.{BytesAnswer}
 use Rattle.emit.specs.Emits.{Emits}
 use Rattle.literal_grammar.specs.Print.{spaces, print, valueOf}
 use Rattle.dtype.specs.declared.Order.{Order}
-use Rattle.dtype.specs.Dtype.{Dtype}
 use Rattle.dtype.specs.Limits.{limited}
 use Rattle.dtype.specs.Record.{Record}
 use Rattle.record.specs.Version.{textStart}
@@ -34,8 +33,7 @@ use Rattle.record.specs.File.{bareText, version, text, textLength, fileBy, file
 use Rattle.record.specs.Writing.{writing}
 use Rattle.record.proofs.RoundTrips.{file-whole}
 use Rattle.check_record.specs.Checked.{checkedRecord}
-use Rattle.check_record.specs.Valid.{made, Valid}
-use Rattle.check_record.proofs.Accepts.{accepts-valid}
+use Rattle.check_record.proofs.Accepts.{accepts-valid, checked-valid, valid-limits}
 use Rattle.write_depth.specs.Printable.{printable}
 use Rattle.write_depth.proofs.Views.{View, unread, too-deep, shown, view}
 use Rattle.write_text.specs.declared.Printed.{Printed}
@@ -109,13 +107,9 @@ placed-whole x p f room l out q h =
     h .stored [] ∙ rw e (sets-eq (fileOf x) room 0 (omega arith) ∙ ap (λ (i : ℕ). fileOf x ++ drop i room) z)
 
 -- ---- a record whose text can be printed
-limits-hold : (t ns s : List ℕ) (o : Order) (d : Dtype) → Valid t ns s o d → limited (made d s o) ≡ gives (made d s o)
-unfolding limited
-limits-hold t ns s o d v = simp (v .dimensions, v .entries, v .sizes, v .shape-fits)
-
 module _ (t ns s : List ℕ) (o : Order) (x : Record) (can : checkedRecord t ns s o ≡ gives x) where
   limits-are : limited x ≡ gives x
-  limits-are = let u = accepts-valid t ns s o x can in rw (u .1) (limits-hold t ns s o (u .0) (u .2))
+  limits-are = valid-limits t ns s o x (checked-valid t ns s o x can)
 
   ascii-is : (a : Bool) → a ≡ isAscii ns → a ≡ isAscii (bareText x)
   ascii-is a e = let u = accepts-valid t ns s o x can in rw (u .1) (e ∙ ap isAscii (u .2 .names-are) ∙ text-ascii (u .0) s o)

@@ -25,7 +25,7 @@ use Rattle.write_depth.proofs.Nesting.{shape-within}
 pub same-number : {A B : Type 0} (n m : ℕ) → _≡_ {A = Outcome A} (refused n) (refused m) → _≡_ {A = Outcome B} (refused n) (refused m)
 same-number n m e = let z : n ≡ m = cc in ap refused z
 
-pub valid-listed : (t ns s : List ℕ) (o : Order) (d : Dtype) → Valid t ns s o d → Listed t 0 d
+pub valid-listed : (t ns s : List ℕ) (o : Order) (d : Dtype) → Valid t ns s o (made d s o) → Listed t 0 d
 valid-listed t ns s o d v = record { up = 0; name = 0; rest = []; is = v .table-is }
 
 -- the dict opens one bracket, and a shape one in it

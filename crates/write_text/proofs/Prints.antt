@@ -12,6 +12,7 @@ use Rattle.dtype.specs.declared.Order.{Order}
 use Rattle.dtype.specs.Dtype.{Dtype}
 use Rattle.dtype.specs.Record.{Record}
 use Rattle.record.specs.Layout.{headerLayout}
+use Rattle.check_table.proofs.Readable.{readable-typed}
 use Rattle.check_record.specs.Answer.{summary}
 use Rattle.check_record.specs.declared.Summary.{Summary}
 use Rattle.check_record.specs.Valid.{made}
@@ -48,7 +49,7 @@ module _ (t ns s : List ℕ) (o : Order) where
       go (shown x c w p) =
           let u = accepts-valid t ns s o x c in
           let v = u .2 in
-          (u .0, p ∙ ap gives (u .1), record { listed = valid-listed t ns s o (u .0) v; later = []; named = v .names-are; inside = omega arith; typed = v .typed })
+          (u .0, p ∙ ap gives (u .1), record { listed = valid-listed t ns s o (u .0) v; later = []; named = v .names-are; inside = omega arith; typed = readable-typed (u .0) (v .readable) })
 
   pub unaccepted : (k : ℕ) → refused k ≡ each summary (printable t ns s o) → printable t ns s o ≡ refused k
   unaccepted k h = go (printable t ns s o) h

@@ -1,4 +1,5 @@
 -- `place::in_record` meets its contract: the item's refusals first, then what the path names in the item.
+use Rattle.check_table.proofs.Readable.{readable-typed}
 use Rattle.place_area.specs.Answer.{answer}
 use Rattle.place_area.specs.Indexed.{indexed}
 use Rattle.place_area.proofs.Answers.{item-shows}
@@ -50,7 +51,7 @@ follow-here : (c : tie.After-follow) (ns : List ℕ) (d : Dtype)
     Accepted (a .table .now) ns (a .shape .now) (a .order) d (a .size) (a .count) → Finds d (a .path .now) (c .follow .result)
 follow-here c ns d a =
     let asks = follow-asks _ ns _ _ d _ _ a _ (item-shows _ _ _ _ _ _ _ _ (item-here (c .before)) .0) in
-    c .follow .ensures d (asks .0) (asks .1) (a .valid .typed)
+    c .follow .ensures d (asks .0) (asks .1) (readable-typed d (a .valid .readable))
 
 returns : tie.Need-returns
 returns c = λ ns d a.
