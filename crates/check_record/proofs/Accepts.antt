@@ -1,7 +1,7 @@
 -- The check accepts exactly the tables and names of a dtype whose types type strings give, whose names are UTF-8, that is no array, and that is with
 -- its shape within the limits.
 use Prim.Native.Nat.{ℕ}
-use mathlib.Core.Path.{_≡_, refl, sym, subst}
+use mathlib.Core.Path.{_≡_, refl, sym, ap, subst, _∙_}
 use mathlib.Core.Bool.{Bool, true, false, _||_}
 use mathlib.Core.List.{List}
 use native.Mathlib.Omega.{arith}
@@ -25,10 +25,19 @@ limits-by r r′ false false true e h = let z : _≡_ {A = ℕ} 0 1 = cc in absu
 limits-by r r′ false false false true h = let z : _≡_ {A = ℕ} 0 1 = cc in absurd (omega arith)
 limits-by r r′ false false false false h = (refl, refl, refl, refl, cc)
 
-limits-back : (d : Dtype) (s : List ℕ) (o : Order) (r : Record) → limited (made d s o) ≡ gives r
-    → ((overDimensions s || overLevels d) ≡ false) × (overEntries d ≡ false) × (overSize d ≡ false) × (overShape o s ≡ false) × (made d s o ≡ r)
+limits-made : (q r : Record) → limited q ≡ gives r → q ≡ r
 unfolding limited
-limits-back d s o r h = limits-by (made d s o) r (overDimensions s || overLevels d) (overEntries d) (overSize d) (overShape o s) h
+limits-made q r h =
+    limits-by q r (overDimensions (q .shape) || overLevels (q .dtype)) (overEntries (q .dtype)) (overSize (q .dtype)) (overShape (q .order) (q .shape)) h .4
+
+-- within 13, 20, 21 and 22
+pub limits-of : (r : Record) → limited r ≡ gives r
+    → ((overDimensions (r .shape) || overLevels (r .dtype)) ≡ false) × (overEntries (r .dtype) ≡ false) × (overSize (r .dtype) ≡ false) × (overShape (r .order) (r .shape) ≡ false)
+unfolding limited
+limits-of r h =
+    let (a, b, c, e, _) =
+    limits-by r r (overDimensions (r .shape) || overLevels (r .dtype)) (overEntries (r .dtype)) (overSize (r .dtype)) (overShape (r .order) (r .shape)) h in
+    (a, b, c, e)
 
 module _ (t ns s : List ℕ) (o : Order) (r : Record) where
   by-test : (d : Dtype) → tableOf t ns ≡ gives d → (b : Bool) → unread d ≡ b → then (unless b 27 (gives d)) (λ u. limited (made u s o)) ≡ gives r
@@ -37,9 +46,9 @@ module _ (t ns s : List ℕ) (o : Order) (r : Record) where
   by-test d p false e k =
       let v = tableOf-right t ns d p in
       let rest = or-right (isArray d) (untyped d || illNamed d) e in
-      let l = limits-back d s o r k in (
+      let same = limits-made (made d s o) r k in (
         d,
-        sym (l .4),
+        sym same,
         record {
           table-is = v .0;
           names-are = v .1;
@@ -47,10 +56,7 @@ module _ (t ns s : List ℕ) (o : Order) (r : Record) where
           order-is = refl;
           no-array = or-left (isArray d) (untyped d || illNamed d) e;
           readable = readable-by d (or-left (untyped d) (illNamed d) rest) (or-right (untyped d) (illNamed d) rest);
-          dimensions = l .0;
-          entries = l .1;
-          sizes = l .2;
-          shape-fits = l .3;
+          limits = k ∙ ap gives (sym same);
         },
       )
 
@@ -68,10 +74,6 @@ module _ (t ns s : List ℕ) (o : Order) (r : Record) where
   checked-valid h = let (d, is, v) = accepts-valid h in subst (λ (x : Record). Valid t ns s o x) (sym is) v
 
   -- .. and what is valid is accepted
-  pub valid-limits : Valid t ns s o r → limited r ≡ gives r
-  unfolding limited
-  valid-limits v = simp (v .dimensions, v .entries, v .sizes, v .shape-fits)
-
   valid-read : Valid t ns s o r → readDtype t ns ≡ gives (r .dtype)
   unfolding readDtype
   valid-read v =
@@ -80,4 +82,4 @@ module _ (t ns s : List ℕ) (o : Order) (r : Record) where
 
   pub valid-checked : Valid t ns s o r → checkedRecord t ns s o ≡ gives r
   unfolding checkedRecord
-  valid-checked v = rw (checkedRecord, valid-read v, v .shape-is, v .order-is) (valid-limits v)
+  valid-checked v = rw (checkedRecord, valid-read v, v .shape-is, v .order-is) (v .limits)

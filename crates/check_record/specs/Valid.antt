@@ -1,13 +1,15 @@
--- A table, names, a shape and an order that make a record: those of a dtype whose types type strings give, whose names are UTF-8 and that is no array,
--- within the limits 13, 20, 21 and 22. That the check accepts exactly these is proofs/Accepts.antt.
+-- Document 01, "The refusal numbers": 27, "caller's record or type that no reading gives (13, 20 to 22, 7, 4 aside), or outermost an array", and "Places: the given record's 27,
+-- 13, 20, 21, 22". As a relation between a caller's table, names, shape and order and a record. `checkedRecord` (Checked.antt) gives the record, or the first of these
+-- numbers; that it gives exactly the valid ones is proofs/Accepts.antt.
 use Prim.Native.Nat.{ℕ}
 use mathlib.Core.Path.{_≡_}
-use mathlib.Core.Bool.{false, _||_}
+use mathlib.Core.Bool.{false}
 use mathlib.Core.List.{List}
+use Rattle.counts.specs.Outcome.{gives}
 use Rattle.dtype.specs.declared.Order.{Order}
 use Rattle.dtype.specs.Dtype.{Dtype}
 use Rattle.dtype.specs.Record.{Record, table, names}
-use Rattle.dtype.specs.Limits.{overDimensions, overLevels, overEntries, overSize, overShape}
+use Rattle.dtype.specs.Limits.{limited}
 use Rattle.check_table.specs.Reading.{Readable, isArray}
 
 -- a record by its parts
@@ -22,7 +24,4 @@ pub record Valid (t ns s : List ℕ) (o : Order) (r : Record) : Type 0 where
   pub order-is : o ≡ r .order
   pub no-array : isArray (r .dtype) ≡ false
   pub readable : Readable (r .dtype)
-  pub dimensions : (overDimensions (r .shape) || overLevels (r .dtype)) ≡ false
-  pub entries : overEntries (r .dtype) ≡ false
-  pub sizes : overSize (r .dtype) ≡ false
-  pub shape-fits : overShape (r .order) (r .shape) ≡ false
+  pub limits : limited r ≡ gives r

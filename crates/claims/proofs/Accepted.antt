@@ -25,7 +25,7 @@ use Rattle.record.proofs.RoundTrips.{text-readable, headerFor, file-all-bytes, 
 use Rattle.check_record.specs.declared.Summary.{Summary}
 use Rattle.check_record.specs.Answer.{summary}
 use Rattle.check_record.specs.Checked.{checkedRecord}
-use Rattle.check_record.proofs.Accepts.{checked-valid, valid-limits, valid-checked}
+use Rattle.check_record.proofs.Accepts.{checked-valid, valid-checked}
 use Rattle.header_prefix.specs.declared.Version.{Version}
 use Rattle.header_prefix.specs.Answer.{versionIs}
 use Rattle.judge.specs.Judged.{reading}
@@ -45,8 +45,9 @@ use Rattle.claims.proofs.Roomy.{roomy-fits}
 use Rattle.claims.proofs.Doors.{Fails, rattle-fails, c-fails, c-returned, succeeded}
 use Rattle.claims.proofs.Found.{told-value, order-back, read-was, in-rooms-checked}
 use Rattle.claims.specs.Exact.{In-text, Printable}
-use Rattle.claims.proofs.Printable.{printable-shallow}
-use Rattle.claims.proofs.Exact.{in-text-read, fitted-in-text}
+use Rattle.claims.proofs.Printable.{printable-shallow, printable-short}
+use Rattle.claims.proofs.Exact.{in-text-read}
+use Rattle.claims.proofs.Further.{fitted-in-text}
 use Rattle.record.proofs.Numbers.{each-numbered}
 use Rattle.claims.proofs.Numbers.{record-checked-numbered, text-numbered}
 use Rattle.claims.proofs.Readings.{read-tied}
@@ -66,7 +67,7 @@ all-read t ns s o f =
 -- ---- what is accepted is read from its own header's bytes
 writing-own : (r : Record) → limited r ≡ gives r → Printable r → writing r (fileOf r) ≡ gives (fileOf r)
 unfolding writing
-writing-own r l p = rw (writing, l, printable-shallow r p, le-ltb _ _ (p .short)) (roomed-whole 28 (fileOf r) (fileOf r) (omega arith))
+writing-own r l p = rw (writing, l, printable-shallow r p, le-ltb _ _ (printable-short r p)) (roomed-whole 28 (fileOf r) (fileOf r) (omega arith))
 
 declared : version.Version → Version
 declared version.one-zero = Version.OneZero
@@ -124,7 +125,7 @@ only-read t ns s o small-t small-s r e =
     record {
       valid = v;
       from-file = λ p.
-          file-moved (v .table-is) (v .names-are) (v .shape-is) (v .order-is) (own-file r (valid-sound t ns s o r v small-t small-s) (valid-limits t ns s o r v) p);
+          file-moved (v .table-is) (v .names-are) (v .shape-is) (v .order-is) (own-file r (valid-sound t ns s o r v small-t small-s) (v .limits) p);
     }
 
 -- ---- for either door

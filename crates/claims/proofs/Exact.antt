@@ -32,12 +32,11 @@ use Rattle.record.specs.Version.{Version}
 use Rattle.record.specs.FromValue.{recordOf}
 use Rattle.record.specs.Rooms.{needs, tooSmall, Lent, roomsOf, holding}
 use Rattle.record.specs.Header as header
-use Rattle.record.specs.File.{textLength, fileOf, headerLength}
+use Rattle.record.specs.File.{textLength, fileOf}
 use Rattle.record.specs.Writing.{tooDeep, writing}
 use Rattle.record.proofs.Files.{record-in-by}
-use Rattle.record.proofs.RoundTrips.{file-whole}
 use Rattle.check_record.specs.Checked.{checkedRecord}
-use Rattle.check_record.proofs.Accepts.{checked-valid, valid-limits, valid-checked}
+use Rattle.check_record.proofs.Accepts.{checked-valid, valid-checked}
 use Rattle.judge.specs.Judged.{reading}
 use Rattle.judge.proofs.Top.{reading-keeps}
 use Rattle.header.specs.Reads.{HeaderInfo, headerInfo, infoOf, heldInto}
@@ -55,9 +54,9 @@ use Rattle.npy_codes.specs.Codes.{alone}
 use Rattle.npy_codes.specs.Numbers.{orderNumber, orderFor, typeFor, typeValues, textValues, headerValues, runValues}
 use Rattle.npy.specs.Calls.{Puts}
 use Rattle.claims.specs.Doors.{Door, in-rattle, in-c}
-use Rattle.claims.specs.Exact.{In-text, In-file, Fits, Reads-exactly, Reads-text-exactly, Writable, Writes-exactly, Named, Element, bytes-within, points-within, Takes-exactly, By-itself, bytes-out, points-out, By-number, By-order, By-type, Exact, Exact-in-C}
+use Rattle.claims.specs.Exact.{In-text, In-file, Fits, Reads-exactly, Writable, Writes-exactly, Named, Element, bytes-within, points-within, Takes-exactly, By-itself, bytes-out, points-out, By-number, By-order, By-type, Exact, Exact-in-C}
 use Rattle.claims.proofs.Found.{order-named, order-back, type-for-values, values-for-type}
-use Rattle.claims.proofs.Printable.{printable-shallow, shallow-printable}
+use Rattle.claims.proofs.Printable.{printable-shallow, printable-short, shallow-printable}
 use Rattle.claims.proofs.Doors.{Fails, rattle-fails, c-fails, c-returned, exactly-by}
 use Rattle.record.proofs.Numbers.{Numbered, each-numbered, then-numbered}
 use Rattle.claims.proofs.Numbers.{for-numbered, held-header-numbered, text-numbered, header-written-numbered, place-numbered, element-bytes-numbered, type-for-numbered, read-bytes-numbered, read-points-numbered, write-bytes-numbered, write-points-numbered, element-points-numbered}
@@ -142,32 +141,13 @@ module _ (longer : Bool) (file : List ℕ) (l : Lent) where
       (λ h d. let e = in-file-read h (d .0) (d .1) in (ap (each headerInfo) e, after ∙ ap (λ (o : Outcome header.Header). afterwards header.holdingHeader o l) e))
       (λ i e. let (h, is-header, _) = each-back headerInfo (heldInto longer file l) i e in (h, read-in-file h is-header))
 
-module _ (text : List ℕ) (l : Lent) where
-  in-text-fitted : (r : Record) → In-text text r → Fits l r → header.textBy reading text l ≡ gives r
-  in-text-fitted r s fits = let e = in-text-read text r s in let small = roomy-fits r l fits in simp (e, small)
-
-  pub fitted-in-text : (r : Record) → header.textBy reading text l ≡ gives r → In-text text r × Fits l r
-  fitted-in-text r e =
-      let (q, is, of-room) = then-back (header.recordIn reading text) _ r e in
-      let (fits, same) = unless-back (tooSmall (roomsOf l) (needs q)) 23 _ r of-room in
-      let equal : q ≡ r = gives-apart same in
-      (subst (In-text text) equal (read-in-text text q is), subst (Fits l) equal (fits-roomy q l fits))
-
-  reads-text-exactly : {R : Type 0} (door : Door _ R) (y : R) (l′ : Lent) → y ≡ door .returned (each infoOf (header.textBy reading text l)) → l′ ≡ afterwards holding (header.textBy reading text l) l
-      → Fails door (each infoOf (header.textBy reading text l)) → Reads-text-exactly door text l y l′
-  reads-text-exactly door y l′ is after fails =
-      exactly-by door (λ r. In-text text r × Fits l r) infoOf holding l y l′ (each infoOf (header.textBy reading text l)) is fails
-      (λ r d. let e = in-text-fitted r (d .0) (d .1) in (ap (each infoOf) e, after ∙ ap (λ (o : Outcome Record). afterwards holding o l) e))
-      (λ i e. let (r, is-record, _) = each-back infoOf (header.textBy reading text l) i e in (r, fitted-in-text r is-record))
-
 -- ---- writing
 module _ (t ns s : List ℕ) (o : Order) (room : List ℕ) where
   writable-writes : (r : Record) → Writable t ns s o room r → headerWritten t ns s o room ≡ gives (fileOf r)
   unfolding headerWritten writing
   writable-writes r w =
-      let fits : length (fileOf r) ≤ length room = subst (λ (k : ℕ). k ≤ length room) (sym (file-whole r)) (w .fits) in
       let p = w .printable in
-      rw (headerWritten, valid-checked t ns s o r (w .valid), writing, valid-limits t ns s o r (w .valid), printable-shallow r p, le-ltb _ _ (p .short)) (roomed-whole 28 room (fileOf r) fits)
+      rw (headerWritten, valid-checked t ns s o r (w .valid), writing, w .valid .limits, printable-shallow r p, le-ltb _ _ (printable-short r p)) (roomed-whole 28 room (fileOf r) (w .fits))
 
   writes-writable : (bytes : List ℕ) → headerWritten t ns s o room ≡ gives bytes → (r : Record) × Writable t ns s o room r
   unfolding headerWritten writing roomed
@@ -181,7 +161,7 @@ module _ (t ns s : List ℕ) (o : Order) (room : List ℕ) where
         record {
           valid = checked-valid t ns s o r accepted;
           printable = shallow-printable r shallow (ltb-false _ _ few);
-          fits = subst (λ (k : ℕ). k ≤ length room) (file-whole r) (ltb-false _ _ fits);
+          fits = ltb-false _ _ fits;
         },
       )
 
@@ -190,8 +170,8 @@ writes-exactly : {R : Type 0} (door : Door ℕ R) (Due : Record → Type 0) (roo
     → y ≡ door .returned (each length put) → room′ ≡ afterwards atFront put room → Fails door (each length put)
     → ((r : Record) → Due r → put ≡ gives (fileOf r)) → ((bytes : List ℕ) → put ≡ gives bytes → (r : Record) × Due r) → Writes-exactly door Due room y room′
 writes-exactly door Due room y room′ put is held fails due back =
-    exactly-by door Due headerLength (λ r. atFront (fileOf r)) room y room′ (each length put) is fails
-    (λ r d. let e = due r d in (ap (each length) e ∙ ap gives (file-whole r), held ∙ ap (λ (o : Outcome (List ℕ)). afterwards atFront o room) e))
+    exactly-by door Due (λ r. length (fileOf r)) (λ r. atFront (fileOf r)) room y room′ (each length put) is fails
+    (λ r d. let e = due r d in (ap (each length) e, held ∙ ap (λ (o : Outcome (List ℕ)). afterwards atFront o room) e))
     (λ n e. let (bytes, given-is, _) = each-back length put n e in back bytes given-is)
 
 -- ---- places
@@ -275,14 +255,6 @@ module _ (k : TypeStr) (given : Outcome (List ℕ)) (n : ℕ) (room : List ℕ) 
         fits = subst (λ (y : List ℕ). length y ≤ length room) same (ltb-false _ _ fits);
       }
 
-read-bytes-put : (k : TypeStr) (run room : List ℕ) → readBytes k run room ≡ unless (not (isType k)) 27 (then (bytes-within k run) (roomed 23 room))
-unfolding readBytes
-read-bytes-put k run room = refl
-
-read-points-put : (k : TypeStr) (run room : List ℕ) → readPoints k run room ≡ unless (not (isType k)) 27 (then (points-within k run) (roomed 23 room))
-unfolding readPoints
-read-points-put k run room = refl
-
 write-bytes-put : (k : TypeStr) (value room : List ℕ) → writeBytes k value room ≡ unless (not (isType k)) 27 (then (bytes-out k value) (roomed 28 room))
 unfolding writeBytes
 write-bytes-put k value room = refl
@@ -293,11 +265,11 @@ write-points-put k value room = refl
 
 -- ---- from C, where the numbers of an order or a type come first
 -- the numbers that `named` takes an N from are the values of exactly that N, where something is due of it
-record Names {N A : Type 0} (named : Outcome N) (numbers : List ℕ) (values : N → List ℕ) (Due : N → A → Type 0) : Type 0 where
-  is : (n : N) (a : A) → numbers ≡ values n → Due n a → named ≡ gives n
-  back : (n : N) → named ≡ gives n → numbers ≡ values n
+pub record Names {N A : Type 0} (named : Outcome N) (numbers : List ℕ) (values : N → List ℕ) (Due : N → A → Type 0) : Type 0 where
+  pub is : (n : N) (a : A) → numbers ≡ values n → Due n a → named ≡ gives n
+  pub back : (n : N) → named ≡ gives n → numbers ≡ values n
 
-order-names : {A : Type 0} (order : ℕ) (Due : Order → A → Type 0) → Names (orderFor order) (order ∷ []) (λ o. orderNumber o ∷ []) Due
+pub order-names : {A : Type 0} (order : ℕ) (Due : Order → A → Type 0) → Names (orderFor order) (order ∷ []) (λ o. orderNumber o ∷ []) Due
 order-names order Due =
     record {
       is = λ o a e d. ap (λ (l : List ℕ). orderFor (getD l 0 0)) e ∙ order-back o;
@@ -325,9 +297,9 @@ module _ {N A B : Type 0} (named : Outcome N) (numbers : List ℕ) (values : N �
       (a, (n, names .back n named-is, d))
 
 -- ---- the functions of elements put what is due, and only that
-record Puts-due (put : Outcome (List ℕ)) (Due : List ℕ → Type 0) : Type 0 where
-  due : (c : List ℕ) → Due c → put ≡ gives c
-  back : (c : List ℕ) → put ≡ gives c → Due c
+pub record Puts-due (put : Outcome (List ℕ)) (Due : List ℕ → Type 0) : Type 0 where
+  pub due : (c : List ℕ) → Due c → put ≡ gives c
+  pub back : (c : List ℕ) → put ≡ gives c → Due c
 
 module _ (file : List ℕ) (start : ℕ) (t ns s : List ℕ) (x p out : List ℕ) (o : Order) where
   element-bytes-due : Puts-due (elementBytes file start t ns s o x p out) (Element bytes-within file start t ns s o x p out)
@@ -340,24 +312,18 @@ module _ (file : List ℕ) (start : ℕ) (t ns s : List ℕ) (x p out : List ℕ
       let is = points-after file start t ns s o x p out in
       record { due = λ c d. is ∙ element-put points-within file start t ns s o x p out c d; back = λ c e. put-element points-within file start t ns s o x p out c (sym is ∙ e) }
 
-by-itself-due : (k : TypeStr) (given : Outcome (List ℕ)) (n : ℕ) (room : List ℕ) (put : Outcome (List ℕ)) → put ≡ unless (not (isType k)) 27 (then given (roomed n room))
+pub by-itself-due : (k : TypeStr) (given : Outcome (List ℕ)) (n : ℕ) (room : List ℕ) (put : Outcome (List ℕ)) → put ≡ unless (not (isType k)) 27 (then given (roomed n room))
     → Puts-due put (By-itself k given room)
 by-itself-due k given n room put is = record { due = λ c d. is ∙ by-itself-put k given n room c d; back = λ c e. put-by-itself k given n room c (sym is ∙ e) }
 
 module _ (out : List ℕ) (k : TypeStr) where
-  read-bytes-due : (run : List ℕ) → Puts-due (readBytes k run out) (By-itself k (bytes-within k run) out)
-  read-bytes-due run = by-itself-due k (bytes-within k run) 23 out (readBytes k run out) (read-bytes-put k run out)
-
-  read-points-due : (run : List ℕ) → Puts-due (readPoints k run out) (By-itself k (points-within k run) out)
-  read-points-due run = by-itself-due k (points-within k run) 23 out (readPoints k run out) (read-points-put k run out)
-
   write-bytes-due : (value : List ℕ) → Puts-due (writeBytes k value out) (By-itself k (bytes-out k value) out)
   write-bytes-due value = by-itself-due k (bytes-out k value) 28 out (writeBytes k value out) (write-bytes-put k value out)
 
   write-points-due : (value : List ℕ) → Puts-due (writePoints k value out) (By-itself k (points-out k value) out)
   write-points-due value = by-itself-due k (points-out k value) 28 out (writePoints k value out) (write-points-put k value out)
 
-takes-in-rattle : {put : Outcome (List ℕ)} {Due : List ℕ → Type 0} → Puts-due put Due → {room room′ : List ℕ} {y : Outcome ℕ} → Owes put room y room′
+pub takes-in-rattle : {put : Outcome (List ℕ)} {Due : List ℕ → Type 0} → Puts-due put Due → {room room′ : List ℕ} {y : Outcome ℕ} → Owes put room y room′
     → Takes-exactly in-rattle Due room y room′
 takes-in-rattle {put = put} {Due = Due} p {room = room} {room′ = room′} {y = y} h =
     takes-exactly in-rattle Due room y room′ put (h .answered) (h .room-after) (rattle-fails _) (p .due) (p .back)
@@ -367,8 +333,6 @@ exact =
     record {
       read-held = λ longer file l x l′ h.
           reads-exactly longer file l in-rattle _ l′ (h .answered reading reading-keeps) (h .after reading reading-keeps) (rattle-fails _);
-      read-text = λ text l x l′ h.
-          reads-text-exactly text l in-rattle _ l′ (h .answered reading reading-keeps) (h .after reading reading-keeps) (rattle-fails _);
       write-header = λ t ns s o out w out′ h.
           writes-exactly in-rattle (Writable t ns s o out) out _ out′ (headerWritten t ns s o out) (h .writes .answered) (h .writes .room-after) (rattle-fails _)
           (writable-writes t ns s o out) (writes-writable t ns s o out);
@@ -377,14 +341,12 @@ exact =
           (λ a d. (named-place file start t ns s o x p a d, refl)) (place-due file start t ns s o x p);
       element-bytes = λ file start t ns s o x p out y out′ h. takes-in-rattle (element-bytes-due file start t ns s x p out o) h;
       element-points = λ file start t ns s o x p out y out′ h. takes-in-rattle (element-points-due file start t ns s x p out o) h;
-      read-bytes = λ run k out y out′ h. takes-in-rattle (read-bytes-due out k run) h;
-      read-points = λ run k out y out′ h. takes-in-rattle (read-points-due out k run) h;
       write-bytes = λ k value out y out′ h. takes-in-rattle (write-bytes-due out k value) h;
       write-points = λ k value out y out′ h. takes-in-rattle (write-points-due out k value) h;
     }
 
 -- ---- the same in C
-takes-in-c : {N : Type 0} (named : Outcome N) (numbers : List ℕ) (values : N → List ℕ) (Due : N → List ℕ → Type 0) → Names named numbers values Due
+pub takes-in-c : {N : Type 0} (named : Outcome N) (numbers : List ℕ) (values : N → List ℕ) (Due : N → List ℕ → Type 0) → Names named numbers values Due
     → (next : N → Outcome (List ℕ)) (out : List ℕ) → Numbered named → ((n : N) → Numbered (next n)) → ((n : N) → Puts-due (next n) (Due n)) → (count : List ℕ) (r : ℕ) (out′ count′ : List ℕ)
     → Puts (then named next) out count r out′ count′ → Takes-exactly (in-c alone count) (By-number numbers values Due) out (r, count′) out′
 takes-in-c named numbers values Due names next out first numbered puts count r out′ count′ h =
@@ -397,7 +359,7 @@ takes-by-order : (order : ℕ) (Due : Order → List ℕ → Type 0) (next : Ord
     → (count : List ℕ) (r : ℕ) (out′ count′ : List ℕ) → Puts (then (orderFor order) next) out count r out′ count′ → Takes-exactly (in-c alone count) (By-order order Due) out (r, count′) out′
 takes-by-order order Due next out numbered puts = takes-in-c (orderFor order) _ _ Due (order-names order Due) next out (for-numbered order) numbered puts
 
-takes-by-type : (order letter size units : ℕ) (given : TypeStr → Outcome (List ℕ)) (next : TypeStr → Outcome (List ℕ)) (out : List ℕ) → ((k : TypeStr) → Numbered (next k))
+pub takes-by-type : (order letter size units : ℕ) (given : TypeStr → Outcome (List ℕ)) (next : TypeStr → Outcome (List ℕ)) (out : List ℕ) → ((k : TypeStr) → Numbered (next k))
     → ((k : TypeStr) → Puts-due (next k) (By-itself k (given k) out)) → (count : List ℕ) (r : ℕ) (out′ count′ : List ℕ)
     → Puts (then (typeFor order letter size units) next) out count r out′ count′
     → Takes-exactly (in-c alone count) (By-type order letter size units (λ k. By-itself k (given k) out)) out (r, count′) out′
@@ -411,9 +373,6 @@ exact-in-c =
       npy-read-held = λ longer file l said r l′ said′ h.
           reads-exactly longer file l (in-c headerValues said) (r, said′) l′ (c-returned (h .answered reading reading-keeps)) (h .after reading reading-keeps)
           (c-fails headerValues said _ (each-numbered headerInfo _ (held-header-numbered reading longer file l)));
-      npy-read-text = λ text l said r l′ said′ h.
-          reads-text-exactly text l (in-c textValues said) (r, said′) l′ (c-returned (h .answered reading reading-keeps)) (h .after reading reading-keeps)
-          (c-fails textValues said _ (each-numbered infoOf _ (text-numbered reading text l)));
       npy-write-header = λ t ns s order out count r out′ count′ h.
           let Due : Order → Record → Type 0 = λ o. Writable t ns s o out in
           let next : Order → Outcome (List ℕ) = λ o. headerWritten t ns s o out in
@@ -432,10 +391,6 @@ exact-in-c =
           takes-by-order order _ (λ o. elementBytes file start t ns s o x p out) out (λ o. element-bytes-numbered file start t ns s o x p out) (element-bytes-due file start t ns s x p out);
       npy-element-points = λ file start t ns s order x p out.
           takes-by-order order _ (λ o. elementPoints file start t ns s o x p out) out (λ o. element-points-numbered file start t ns s o x p out) (element-points-due file start t ns s x p out);
-      npy-read-bytes = λ run order letter size units out.
-          takes-by-type order letter size units (λ k. bytes-within k run) (λ k. readBytes k run out) out (λ k. read-bytes-numbered k run out) (λ k. read-bytes-due out k run);
-      npy-read-points = λ run order letter size units out.
-          takes-by-type order letter size units (λ k. points-within k run) (λ k. readPoints k run out) out (λ k. read-points-numbered k run out) (λ k. read-points-due out k run);
       npy-write-bytes = λ order letter size units value out.
           takes-by-type order letter size units (λ k. bytes-out k value) (λ k. writeBytes k value out) out (λ k. write-bytes-numbered k value out) (λ k. write-bytes-due out k value);
       npy-write-points = λ order letter size units value out.

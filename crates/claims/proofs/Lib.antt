@@ -7,6 +7,7 @@ pub mod Doors
 mod Printable
 pub mod Found
 pub mod Exact
+pub mod Further
 pub mod WasRead
 pub mod RoundTrips
 pub mod Places

@@ -40,7 +40,7 @@ use Rattle.npy_codes.proofs.Named.{retold}
 use Rattle.claims.specs.Functions.{Place}
 use Rattle.claims.specs.InC.{Npy-place}
 use Rattle.claims.specs.Places.{Owns, Owned, Record-owned, Record-owned-in-C, Header-stored, Data-owned, Data-owned-in-C}
-use Rattle.claims.proofs.WasRead.{values-one, holds-own}
+use Rattle.claims.proofs.WasRead.{values-one, valid-own}
 use Rattle.claims.specs.Doors.{in-rattle}
 use Rattle.claims.proofs.Doors.{rattle-fails, succeeded}
 use Rattle.claims.proofs.Found.{told-value, order-back, read-was, npy-read-was}
@@ -169,18 +169,18 @@ header-stored =
 pub data-owned : Data-owned
 data-owned file l l′ x h c e held =
     let w = read-was file l l′ x (headerInfo h) c e in
-    let own = holds-own file l l′ (headerInfo h) w h refl held in
+    let own = valid-own file l l′ (headerInfo h) w h refl held in
     record {
-      holds = own;
-      owned = record-owned (length file) (h .data-start) _ _ _ (infoOf (h .says) .order) (h .says) (own .valid);
+      valid = own;
+      owned = record-owned (length file) (h .data-start) _ _ _ (infoOf (h .says) .order) (h .says) own;
     }
 
 pub data-owned-in-c : Data-owned-in-C
 data-owned-in-c file l l′ said said′ h c e held run =
     let (i, v, w) = npy-read-was file l l′ said said′ c in
     let info-is = values-one i (headerInfo h) (sym v ∙ e) .0 in
-    let own = holds-own file l l′ i w h info-is held in
+    let own = valid-own file l l′ i w h info-is held in
     record {
-      holds = own;
-      owned = λ no-object long. record-owned-in-c (length file) (h .data-start) _ _ _ (infoOf (h .says) .order) (h .says) (own .valid) no-object long run;
+      valid = own;
+      owned = λ no-object long. record-owned-in-c (length file) (h .data-start) _ _ _ (infoOf (h .says) .order) (h .says) own no-object long run;
     }

@@ -1,6 +1,6 @@
 -- The text of a record's header gives one value, the layout's own. So it opens at most 32 brackets at once exactly if 7 does not apply.
-use Prim.Native.Nat.{_≤_}
-use mathlib.Core.Path.{_≡_, ap, subst}
+use Prim.Native.Nat.{ℕ, _≤_}
+use mathlib.Core.Path.{_≡_, sym, ap, subst}
 use mathlib.Core.Bool.{false, not}
 use mathlib.Core.List.{[]}
 use borrow.Author.Tests.{not-false}
@@ -16,6 +16,7 @@ use Rattle.record.specs.File.{bareText, textLength}
 use Rattle.record.specs.Prefix.{most-text}
 use Rattle.record.specs.Within.{within}
 use Rattle.record.specs.Writing.{tooDeep}
+use Rattle.record.proofs.Printed.{text-length}
 use Rattle.record.proofs.Nested.{within-true, true-within}
 use Rattle.claims.specs.Exact.{Printable}
 
@@ -31,6 +32,13 @@ module _ (r : Record) where
       let same = one-value (bareText r) (p .value) own (p .shallow .0) text-gives in
       ap not (within-true own most-open (subst (λ (v : Value). Within v most-open) same (p .shallow .1)))
 
+  pub printable-short : Printable r → textLength r ≤ most-text
+  printable-short p = subst (λ (n : ℕ). n ≤ most-text) (text-length r) (p .short)
+
   pub shallow-printable : tooDeep r ≡ false → textLength r ≤ most-text → Printable r
   shallow-printable e short =
-      record { value = own; shallow = (text-gives, true-within own most-open (not-false (within own most-open) e)); short = short }
+      record {
+        value = own;
+        shallow = (text-gives, true-within own most-open (not-false (within own most-open) e));
+        short = subst (λ (n : ℕ). n ≤ most-text) (sym (text-length r)) short;
+      }

@@ -1,7 +1,7 @@
 -- Both round trips of demand 2 (specs/RoundTrips.antt), of the Rattle functions and of the C functions. What was written is the header of the record that the check
 -- accepted, which is sound; and crate record shows that the bytes of a sound record are read back. What was read is sound, and the check accepts it: so it
 -- is written, apart from 4 and 28, and the same holds for its bytes.
-use Prim.Native.Nat.{ℕ}
+use Prim.Native.Nat.{ℕ, _<_, _≤_}
 use native.Mathlib.Omega.{arith}
 use mathlib.Core.Path.{_≡_, refl, sym, ap, subst, _∙_}
 use mathlib.Core.List.{List, _++_}
@@ -24,11 +24,12 @@ use Rattle.record.specs.Prefix.{most-text}
 use Rattle.record.specs.Within.{within}
 use Rattle.record.specs.Rooms.{needs, tooSmall, Lent, roomsOf}
 use Rattle.record.specs.Header as header
-use Rattle.record.specs.File.{textLength, fileOf, headerLength}
+use Rattle.record.specs.File.{textLength, fileOf}
 use Rattle.record.specs.Writing.{writing}
 use Rattle.record.specs.Sound.{Small}
 use Rattle.record.proofs.Sound.{Sound}
-use Rattle.record.proofs.RoundTrips.{headerFor, file-whole, written-read, read-readable, read-written}
+use Rattle.record.proofs.Printed.{text-length}
+use Rattle.record.proofs.RoundTrips.{headerFor, file-whole, read-readable, written-read as record-written-read, read-written as record-read-written}
 use Rattle.check_record.specs.Checked.{checkedRecord}
 use Rattle.check_record.specs.Valid.{Valid}
 use Rattle.check_record.proofs.Accepts.{checked-valid, valid-checked}
@@ -37,8 +38,8 @@ use Rattle.judge.proofs.Top.{reading-keeps}
 use Rattle.header.specs.Reads.{HeaderInfo, headerInfo, answer, heldInto, infoOf}
 use Rattle.write.specs.Writes.{headerWritten}
 use Rattle.read_back.specs.Rooms.{tableIn, namesIn, shapeIn}
-use Rattle.read_back.proofs.Accepted.{valid-sound}
-use Rattle.read_back.proofs.Rooms.{front, fronts-by}
+use Rattle.read_back.proofs.Accepted.{valid-sound, sound-checked}
+use Rattle.read_back.proofs.Rooms.{front}
 use Rattle.npy_codes.specs.Codes.{alone}
 use Rattle.npy_codes.specs.Numbers.{orderFor, headerValues}
 use Rattle.npy_codes.proofs.Named.{retold}
@@ -48,7 +49,7 @@ use Rattle.claims.proofs.Doors.{c-returned}
 use Rattle.claims.proofs.Found.{told-value, order-named, order-back, Was-read, read-was, npy-read-was, by-whole}
 use Rattle.record.proofs.Numbers.{each-numbered, then-numbered}
 use Rattle.claims.proofs.Numbers.{for-numbered, header-written-numbered}
-use Rattle.claims.proofs.WasRead.{values-one, says-is, holds-own}
+use Rattle.claims.proofs.WasRead.{values-one, says-is, valid-own}
 use Rattle.claims.proofs.Roomy.{roomy-fits, fits-roomy}
 
 -- ---- what was written is the header of the record that was accepted
@@ -61,7 +62,7 @@ writing-whole r room =
     (λ b. unless-holds (λ b. b ≡ fileOf r) (ltb (length room) (length (fileOf r))) 28 (gives (fileOf r)) (λ c. refl))))
 
 -- ---- the bytes of a sound record are read back
-module _ {R : Type 0} (door : Door HeaderInfo R) (r : Record) (l l′ : Lent) (y : R) where
+module _ {R : Type 0} (door : Door HeaderInfo R) (r : Record) (valid : Valid (table (r .dtype)) (names (r .dtype)) (r .shape) (r .order) r) (l l′ : Lent) (y : R) where
   comes-back : (o : Outcome header.Header) → o ≡ unless (tooSmall (roomsOf l) (needs r)) 23 (gives (headerFor r)) → y ≡ door .returned (each headerInfo o)
       → l′ ≡ afterwards header.holdingHeader o l → Comes-back door (table (r .dtype)) (names (r .dtype)) (r .shape) (r .order) (length (fileOf r)) l y l′
   comes-back o e a b = go (tooSmall (roomsOf l) (needs r)) refl e
@@ -77,25 +78,29 @@ module _ {R : Type 0} (door : Door HeaderInfo R) (r : Record) (l l′ : Lent) (y
           record {
             roomy = λ h.
                 record {
-                  header = headerInfo (headerFor r);
-                  is = a ∙ ap (λ (q : Outcome header.Header). door .returned (each headerInfo q)) k;
+                  header = headerFor r;
+                  valid = valid;
                   starts = sym (file-whole r);
-                  holds = fronts-by r l l′ (headerInfo (headerFor r) .info) refl (b ∙ ap (λ (q : Outcome header.Header). afterwards header.holdingHeader q l) k);
+                  is = a ∙ ap (λ (q : Outcome header.Header). door .returned (each headerInfo q)) k;
+                  stored = b ∙ ap (λ (q : Outcome header.Header). afterwards header.holdingHeader q l) k;
                 };
             no-room = λ h. absurd (h (fits-roomy r l fits));
           }
 
-module _ (r : Record) (sound : Sound r) (room : List ℕ) (e : writing r room ≡ gives (fileOf r)) where
+module _ (r : Record) (sound : Sound r) (limits : limited r ≡ gives r) (room : List ℕ) (e : writing r room ≡ gives (fileOf r)) where
+  own-valid : Valid (table (r .dtype)) (names (r .dtype)) (r .shape) (r .order) r
+  own-valid = checked-valid _ _ _ _ r (sound-checked r sound limits)
+
   sound-read : (rest : List ℕ) (l : Lent) → heldInto false (fileOf r ++ rest) l ≡ unless (tooSmall (roomsOf l) (needs r)) 23 (gives (headerFor r))
-  sound-read rest l = written-read reading reading-keeps r sound room (fileOf r) e rest (roomsOf l)
+  sound-read rest l = record-written-read reading reading-keeps r sound room (fileOf r) e rest (roomsOf l)
 
   sound-back : Read-back (fileOf r) (table (r .dtype)) (names (r .dtype)) (r .shape) (r .order)
   sound-back rest l l′ x h =
-      comes-back in-rattle r l l′ (answer x) (heldInto false (fileOf r ++ rest) l) (sound-read rest l) (h .answered reading reading-keeps) (h .after reading reading-keeps)
+      comes-back in-rattle r own-valid l l′ (answer x) (heldInto false (fileOf r ++ rest) l) (sound-read rest l) (h .answered reading reading-keeps) (h .after reading reading-keeps)
 
   npy-sound-back : Npy-read-back (fileOf r) (table (r .dtype)) (names (r .dtype)) (r .shape) (r .order)
   npy-sound-back rest l l′ said said′ c h =
-      comes-back (in-c headerValues said) r l l′ (c, said′) (heldInto false (fileOf r ++ rest) l) (sound-read rest l) (c-returned (h .answered reading reading-keeps))
+      comes-back (in-c headerValues said) r own-valid l l′ (c, said′) (heldInto false (fileOf r ++ rest) l) (sound-read rest l) (c-returned (h .answered reading reading-keeps))
       (h .after reading reading-keeps)
 
 -- ---- in the caller's own words
@@ -128,21 +133,21 @@ module _ (t ns s : List ℕ) (o : Order) (room : List ℕ) (n : ℕ) (room′ : 
   taken-length = ap length (w .bytes) ∙ w .long
 
   own-back : Read-back (take n room′) t ns s o
-  own-back = rw (w .valid .table-is, w .valid .names-are, w .valid .shape-is, w .valid .order-is, w .bytes) (sound-back (w .says) (w .sound) room (w .writes))
+  own-back = rw (w .valid .table-is, w .valid .names-are, w .valid .shape-is, w .valid .order-is, w .bytes) (sound-back (w .says) (w .sound) (w .valid .limits) room (w .writes))
 
   npy-own-back : Npy-read-back (take n room′) t ns s o
-  npy-own-back = rw (w .valid .table-is, w .valid .names-are, w .valid .shape-is, w .valid .order-is, w .bytes) (npy-sound-back (w .says) (w .sound) room (w .writes))
+  npy-own-back = rw (w .valid .table-is, w .valid .names-are, w .valid .shape-is, w .valid .order-is, w .bytes) (npy-sound-back (w .says) (w .sound) (w .valid .limits) room (w .writes))
 
 -- WHAT WAS WRITTEN IS READ BACK
-pub written-back : Written-read
-written-back t ns s o out out′ n h =
+pub written-read : Written-read
+written-read t ns s o out out′ n h =
     let (bytes, e, len) = each-back length (headerWritten t ns s o out) n (sym (h .writes .answered)) in
     let w =
     wrote t ns s o out bytes n out′ (h .small-table) (h .small-shape) e len (h .writes .room-after ∙ ap (λ (y : Outcome (List ℕ)). afterwards atFront y out) e) in
     (taken-length t ns s o out n out′ w, own-back t ns s o out n out′ w)
 
-pub written-back-in-c : Written-read-in-C
-written-back-in-c t ns s order out out′ count n h =
+pub written-read-in-c : Written-read-in-C
+written-read-in-c t ns s order out out′ count n h =
     let put = then (orderFor order) (λ o. headerWritten t ns s o out) in
     let numbered = then-numbered (orderFor order) (λ o. headerWritten t ns s o out) (for-numbered order) (λ o. header-written-numbered t ns s o out) in
     let (m, e, v) = told-value (each length put) (each-numbered length put numbered) (h .writes .answered) in
@@ -161,19 +166,17 @@ unfolding roomed
 goes-again door r out w out′ Again only is after again =
     let returned : (o : Outcome (List ℕ)) → writing r out ≡ o → w ≡ door .returned (each length o) = λ o e. is ∙ ap (λ (y : Outcome (List ℕ)). door .returned (each length y)) e in
     let held : (o : Outcome (List ℕ)) → writing r out ≡ o → out′ ≡ afterwards atFront o out = λ o e. after ∙ ap (λ (y : Outcome (List ℕ)). afterwards atFront y out) e in
-    let len = file-whole r in
+    let long-is = text-length r in
     record {
       long = λ h.
-          let e : writing r out ≡ refused 4 = only ∙ rw (lt-ltb _ _ h) refl in
+          let e : writing r out ≡ refused 4 = only ∙ rw (lt-ltb _ _ (subst (λ (n : ℕ). most-text < n) long-is h)) refl in
           (returned (refused 4) e, held (refused 4) e);
       no-room = λ h k.
-          let e : writing r out ≡ refused 28 = only ∙ rw (le-ltb _ _ h, roomed-short 28 out (fileOf r) (rw len k)) refl in
+          let e : writing r out ≡ refused 28 = only ∙ rw (le-ltb _ _ (subst (λ (n : ℕ). n ≤ most-text) long-is h), roomed-short 28 out (fileOf r) k) refl in
           (returned (refused 28) e, held (refused 28) e);
       written = λ h k.
-          let e : writing r out ≡ gives (fileOf r) = only ∙ rw (le-ltb _ _ h, roomed-whole 28 out (fileOf r) (rw len k)) refl in (
-            returned (gives (fileOf r)) e ∙ ap (λ (n : ℕ). door .returned (gives n)) len,
-            subst Again (sym (ap (take (headerLength r)) (held (gives (fileOf r)) e) ∙ front (headerLength r) (fileOf r) out (sym len))) (again e),
-          );
+          let e : writing r out ≡ gives (fileOf r) = only ∙ rw (le-ltb _ _ (subst (λ (n : ℕ). n ≤ most-text) long-is h), roomed-whole 28 out (fileOf r) k) refl in
+          (returned (gives (fileOf r)) e, held (gives (fileOf r)) e, again e);
     }
 
 -- the writer's outcome for a record that was read
@@ -183,30 +186,30 @@ writes-so file l l′ i w r e =
     let given-is = by-whole file l l′ i w in
     subst (λ (r : Record). Sound r × ((out : List ℕ) → writing r out ≡ unless (ltb most-text (textLength r)) 4 (roomed 28 out (fileOf r)))) e (
       read-readable reading reading-keeps file (roomsOf l) (w .header-is) given-is .writable .sound,
-      λ out. read-written reading reading-keeps file (roomsOf l) (w .header-is) given-is out .refused-only,
+      λ out. record-read-written reading reading-keeps file (roomsOf l) (w .header-is) given-is out .refused-only,
     )
 
 -- WHAT WAS READ CAN BE WRITTEN, 4 AND 28 ASIDE, AND COMES BACK
-pub read-back : Read-written
+pub read-written : Read-written
 unfolding headerWritten
-read-back file l l′ x h c e held out out′ v k =
+read-written file l l′ x h c e held out out′ v k =
     let w = read-was file l l′ x (headerInfo h) c e in
-    let own = holds-own file l l′ (headerInfo h) w h refl held in
+    let own = valid-own file l l′ (headerInfo h) w h refl held in
     let (sound, only) = writes-so file l l′ (headerInfo h) w (h .says) (says-is file l l′ (headerInfo h) w h refl held) in
-    let is = ap (λ (c : Outcome Record). then c (λ r. writing r out)) (valid-checked _ _ _ _ _ (own .valid)) in
+    let is = ap (λ (c : Outcome Record). then c (λ r. writing r out)) (valid-checked _ _ _ _ _ own) in
     goes-again in-rattle (h .says) out (bytesAnswer v) out′ _ (only out) (k .writes .answered ∙ ap (each length) is)
-    (k .writes .room-after ∙ ap (λ (o : Outcome (List ℕ)). afterwards atFront o out) is) (λ e. sound-back (h .says) sound out e)
+    (k .writes .room-after ∙ ap (λ (o : Outcome (List ℕ)). afterwards atFront o out) is) (λ e. sound-back (h .says) sound (own .limits) out e)
 
-pub read-back-in-c : Read-written-in-C
+pub read-written-in-c : Read-written-in-C
 unfolding headerWritten
-read-back-in-c file l l′ said said′ h c e held out out′ count count′ v k =
+read-written-in-c file l l′ said said′ h c e held out out′ count count′ v k =
     let (i, values, w) = npy-read-was file l l′ said said′ c in
     let info-is = values-one i (headerInfo h) (sym values ∙ e) .0 in
-    let own = holds-own file l l′ i w h info-is held in
+    let own = valid-own file l l′ i w h info-is held in
     let (sound, only) = writes-so file l l′ i w (h .says) (says-is file l l′ i w h info-is held) in
     let n = infoOf (h .says) in
     let is =
     ap (λ (g : Outcome Order). then g (λ o. headerWritten (tableIn n l′) (namesIn n l′) (shapeIn n l′) o out)) (order-back (n .order))
-    ∙ ap (λ (c : Outcome Record). then c (λ r. writing r out)) (valid-checked _ _ _ _ _ (own .valid)) in
+    ∙ ap (λ (c : Outcome Record). then c (λ r. writing r out)) (valid-checked _ _ _ _ _ own) in
     goes-again (in-c alone count) (h .says) out (v, count′) out′ _ (only out) (c-returned (retold (ap (each length) is) (k .writes .answered)))
-    (k .writes .room-after ∙ ap (λ (o : Outcome (List ℕ)). afterwards atFront o out) is) (λ e. npy-sound-back (h .says) sound out e)
+    (k .writes .room-after ∙ ap (λ (o : Outcome (List ℕ)). afterwards atFront o out) is) (λ e. npy-sound-back (h .says) sound (own .limits) out e)

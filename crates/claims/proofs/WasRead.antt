@@ -10,13 +10,14 @@ use Rattle.dtype.specs.Record.{Record}
 use Rattle.dtype.proofs.Record.{parts-equal}
 use Rattle.record.specs.Rooms.{Lent, holding}
 use Rattle.record.specs.Header.{Header}
+use Rattle.check_record.specs.Valid.{Valid}
 use Rattle.check_record.proofs.Accepts.{checked-valid}
 use Rattle.header.specs.declared.RecordInfo.{RecordInfo}
 use Rattle.header.specs.Reads.{HeaderInfo, infoOf}
-use Rattle.read_back.specs.Rooms.{Holds}
+use Rattle.read_back.specs.Rooms.{tableIn, namesIn, shapeIn}
 use Rattle.read_back.proofs.Rooms.{fronts-by}
 use Rattle.npy_codes.specs.Numbers.{orderNumber, orderFor, headerValues}
-use Rattle.claims.proofs.Found.{order-back, Was-read, in-rooms, in-rooms-checked}
+use Rattle.claims.proofs.Found.{order-back, Was-read, in-rooms-checked}
 
 -- ---- the values in C determine all but the version
 order-number-one : (o p : Order) → orderNumber o ≡ orderNumber p → o ≡ p
@@ -50,8 +51,11 @@ module _ (file : List ℕ) (l l′ : Lent) (i : HeaderInfo) (w : Was-read file l
   pub says-is : w .header-is .says ≡ h .says
   says-is = says-one (w .header-is .says) (h .says) l l′ (sym (ap (λ (t : HeaderInfo). t .info) (w .values)) ∙ info-is) (w .held) held
 
-  -- the rooms hold the record of h
-  pub holds-own : Holds (h .says) (infoOf (h .says)) l′
-  holds-own =
-      let f : Holds (w .header-is .says) (i .info) l′ = record { fronts = in-rooms file l l′ i w; valid = checked-valid _ _ _ _ _ (in-rooms-checked file l l′ i w) } in
-      subst (λ (t : RecordInfo). Holds (h .says) t l′) info-is (subst (λ (r : Record). Holds r (i .info) l′) says-is f)
+  -- the fronts of the rooms are the record of h, which is valid
+  abbrev fronts-valid : Record → RecordInfo → Type 0
+  fronts-valid r i = Valid (tableIn i l′) (namesIn i l′) (shapeIn i l′) (i .order) r
+
+  pub valid-own : fronts-valid (h .says) (infoOf (h .says))
+  valid-own =
+      subst (λ (t : RecordInfo). fronts-valid (h .says) t) info-is
+      (subst (λ (r : Record). fronts-valid r (i .info)) says-is (checked-valid _ _ _ _ _ (in-rooms-checked file l l′ i w)))

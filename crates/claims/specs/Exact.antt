@@ -1,7 +1,7 @@
 -- Demand 2, in both directions. Document 01, "What counts as an answer": "Demand 2 excludes a reader that refuses everything, one that returns a single fixed record, and a
 -- writer that writes nothing: acceptance, record and bytes are all given here." Each function that reads a header, writes one, finds a place, reads an element or writes one accepts
 -- exactly the inputs that document 01 accepts, and returns exactly their record, bytes, place or element. What a text gives is said by the grammar. With which number
--- any other input is refused is said by the function's predicate (Functions.antt, InC.antt).
+-- any other input is refused is said by the function's predicate (Functions.antt, InC.antt). The other functions are in Further.antt.
 use Prim.Native.Nat.{ℕ, _+_, _≤_}
 use mathlib.Core.Path.{_≡_}
 use mathlib.Core.Bool.{Bool, true, false}
@@ -28,12 +28,10 @@ use Rattle.record.specs.Prefix.{most-text, Prefix, dataStart, prefix, textOf}
 use Rattle.record.specs.FromValue.{recordOf}
 use Rattle.record.specs.Rooms.{Lent, holding}
 use Rattle.record.specs.Header.{Header}
-use Rattle.record.specs.File.{bareText, textLength, fileOf, headerLength}
+use Rattle.record.specs.File.{bareText, text as headerText, fileOf}
 use Rattle.check_record.specs.Valid.{Valid}
-use Rattle.header.specs.declared.TextRead.{TextRead}
 use Rattle.header.specs.declared.HeaderRead.{HeaderRead}
-use Rattle.header.specs.declared.RecordInfo.{RecordInfo}
-use Rattle.header.specs.Reads.{HeaderInfo, infoOf, headerInfo, answer, textAnswer}
+use Rattle.header.specs.Reads.{HeaderInfo, headerInfo, answer}
 use Rattle.place_area.specs.declared.Run.{Run}
 use Rattle.place.specs.declared.Placed.{Placed}
 use Rattle.place.specs.Answer as place-answer
@@ -42,11 +40,11 @@ use Rattle.string_value.specs.Elements.{kindOf, bytesIn, pointsIn}
 use Rattle.string_value.specs.Runs.{bytesOut, pointsOut}
 use Rattle.element.specs.Bytes.{runBytes}
 use Rattle.npy_codes.specs.Codes.{alone}
-use Rattle.npy_codes.specs.Numbers.{orderNumber, typeValues, textValues, headerValues, runValues}
+use Rattle.npy_codes.specs.Numbers.{orderNumber, typeValues, headerValues, runValues}
 use Rattle.claims.specs.Doors.{Door, in-rattle, in-c}
 use Rattle.claims.specs.Roomy.{Roomy}
-use Rattle.claims.specs.Functions.{Read-held, Read-text, Write-header, Place, Element-bytes, Element-points, Read-bytes, Read-points, Write-bytes, Write-points}
-use Rattle.claims.specs.InC.{Npy-read-held, Npy-read-text, Npy-write-header, Npy-place, Npy-element-bytes, Npy-element-points, Npy-read-bytes, Npy-read-points, Npy-write-bytes, Npy-write-points}
+use Rattle.claims.specs.Functions.{Read-held, Write-header, Place, Element-bytes, Element-points, Write-bytes, Write-points}
+use Rattle.claims.specs.InC.{Npy-read-held, Npy-write-header, Npy-place, Npy-element-bytes, Npy-element-points, Npy-write-bytes, Npy-write-points}
 
 -- a call that returned y and left `after`: it succeeded exactly where some a is due, and then it returned a's value and stored a
 pub record Exactly {A B M R : Type 0} (door : Door B R) (Due : A → Type 0) (value : A → B) (store : A → M → M) (before : M) (y : R) (after : M) : Type 0 where
@@ -79,26 +77,22 @@ Fits l r = Roomy (table (r .dtype)) (names (r .dtype)) (r .shape) l
 abbrev pub Reads-exactly : {R : Type 0} → Door HeaderInfo R → (file : List ℕ) (l : Lent) (y : R) (l′ : Lent) → Type 0
 Reads-exactly door file l = Exactly door (λ h. In-file file h × Fits l (h .says)) headerInfo (λ h. holding (h .says)) l
 
--- a text likewise
-abbrev pub Reads-text-exactly : {R : Type 0} → Door RecordInfo R → (text : List ℕ) (l : Lent) (y : R) (l′ : Lent) → Type 0
-Reads-text-exactly door text l = Exactly door (λ r. In-text text r × Fits l r) infoOf holding l
-
 -- ---- writing
 -- the text of a record's header is a value with at most 32 brackets open at once (7), and padded it has at most 131,072 bytes (4)
 pub record Printable (r : Record) : Type 0 where
   pub value : Value
   pub shallow : GivesIn most-open (bareText r) value
-  pub short : textLength r ≤ most-text
+  pub short : length (headerText r) ≤ most-text
 
 -- the caller's record is r, its header can be printed, and there is room for all of it
 pub record Writable (t ns s : List ℕ) (o : Order) (room : List ℕ) (r : Record) : Type 0 where
   pub valid : Valid t ns s o r
   pub printable : Printable r
-  pub fits : headerLength r ≤ length room
+  pub fits : length (fileOf r) ≤ length room
 
 -- a header is written exactly of those, and its bytes are exactly the header's
 abbrev pub Writes-exactly : {R : Type 0} → Door ℕ R → (Due : Record → Type 0) (room : List ℕ) (y : R) (room′ : List ℕ) → Type 0
-Writes-exactly door Due = Exactly door Due headerLength (λ r. atFront (fileOf r))
+Writes-exactly door Due = Exactly door Due (λ r. length (fileOf r)) (λ r. atFront (fileOf r))
 
 -- ---- places
 -- the caller's record is r, without an `O`; the file is long enough for its data; the index x is in range, and the path p leads to the plain type k
@@ -129,7 +123,7 @@ bytes-within k = bytesIn (kindOf (k .letter))
 abbrev pub points-within : TypeStr → List ℕ → Outcome (List ℕ)
 points-within k = pointsIn (kindOf (k .letter)) (k .order)
 
--- an element by itself: its type k is one that readings give, the definition gives its content, or its run, and that fits the room
+-- an element by itself: its type k is one that readings give, the definition gives its run (or its content, Further.antt), and that fits the room
 pub record By-itself (k : TypeStr) (given : Outcome (List ℕ)) (room content : List ℕ) : Type 0 where
   pub typed : isType k ≡ true
   pub is : given ≡ gives content
@@ -142,7 +136,7 @@ bytes-out k = bytesOut (kindOf (k .letter)) (k .size)
 abbrev pub points-out : TypeStr → List ℕ → Outcome (List ℕ)
 points-out k = pointsOut (kindOf (k .letter)) (k .order) (k .size)
 
--- an element is read, or its run written, exactly there, and what goes to the room is exactly the content
+-- an element is read, or written, exactly there, and what goes to the room is exactly its content, or its run
 abbrev pub Takes-exactly : {R : Type 0} → Door ℕ R → (Due : List ℕ → Type 0) (room : List ℕ) (y : R) (room′ : List ℕ) → Type 0
 Takes-exactly door Due = Exactly door Due length atFront
 
@@ -162,7 +156,6 @@ By-type order letter size units = By-number (order ∷ letter ∷ size ∷ units
 pub record Exact : Type 0 where
   -- `header::read_held`, and `header::read`, which is the same of a file that is not longer
   pub read-held : (longer : Bool) (file : List ℕ) (l : Lent) (x : HeaderRead) (l′ : Lent) → Read-held longer file l x l′ → Reads-exactly in-rattle file l (answer x) l′
-  pub read-text : (text : List ℕ) (l : Lent) (x : TextRead) (l′ : Lent) → Read-text text l x l′ → Reads-text-exactly in-rattle text l (textAnswer x) l′
   pub write-header : (t ns s : List ℕ) (o : Order) (out : List ℕ) (w : BytesAnswer) (out′ : List ℕ) → Write-header t ns s o out w out′
       → Writes-exactly in-rattle (Writable t ns s o out) out (bytesAnswer w) out′
   pub place : (file start : ℕ) (t ns s : List ℕ) (o : Order) (x p : List ℕ) (y : Placed) → Place file start t ns s o x p y
@@ -173,11 +166,7 @@ pub record Exact : Type 0 where
   pub element-points : (file : List ℕ) (start : ℕ) (t ns s : List ℕ) (o : Order) (x p out : List ℕ) (y : PointsAnswer) (out′ : List ℕ)
       → Element-points file start t ns s o x p out y out′
       → Takes-exactly in-rattle (Element points-within file start t ns s o x p out) out (pointsAnswer y) out′
-  -- `string_element::read_bytes`, `read_points`, `write_bytes`, `write_points`
-  pub read-bytes : (run : List ℕ) (k : TypeStr) (out : List ℕ) (y : BytesAnswer) (out′ : List ℕ) → Read-bytes run k out y out′
-      → Takes-exactly in-rattle (By-itself k (bytes-within k run) out) out (bytesAnswer y) out′
-  pub read-points : (run : List ℕ) (k : TypeStr) (out : List ℕ) (y : PointsAnswer) (out′ : List ℕ) → Read-points run k out y out′
-      → Takes-exactly in-rattle (By-itself k (points-within k run) out) out (pointsAnswer y) out′
+  -- `string_element::write_bytes`, `write_points`
   pub write-bytes : (k : TypeStr) (value out : List ℕ) (y : BytesAnswer) (out′ : List ℕ) → Write-bytes k value out y out′
       → Takes-exactly in-rattle (By-itself k (bytes-out k value) out) out (bytesAnswer y) out′
   pub write-points : (k : TypeStr) (value out : List ℕ) (y : BytesAnswer) (out′ : List ℕ) → Write-points k value out y out′
@@ -188,8 +177,6 @@ pub record Exact-in-C : Type 0 where
   -- `npy_read_held`, and `npy_read`, which is the same of a file that is not longer
   pub npy-read-held : (longer : Bool) (file : List ℕ) (l : Lent) (said : List ℕ) (r : ℕ) (l′ : Lent) (said′ : List ℕ) → Npy-read-held longer file l said r l′ said′
       → Reads-exactly (in-c headerValues said) file l (r, said′) l′
-  pub npy-read-text : (text : List ℕ) (l : Lent) (said : List ℕ) (r : ℕ) (l′ : Lent) (said′ : List ℕ) → Npy-read-text text l said r l′ said′
-      → Reads-text-exactly (in-c textValues said) text l (r, said′) l′
   pub npy-write-header : (t ns s : List ℕ) (order : ℕ) (out count : List ℕ) (r : ℕ) (out′ count′ : List ℕ) → Npy-write-header t ns s order out count r out′ count′
       → Writes-exactly (in-c alone count) (By-order order (λ o. Writable t ns s o out)) out (r, count′) out′
   pub npy-place : (file start : ℕ) (t ns s : List ℕ) (order : ℕ) (x p run : List ℕ) (r : ℕ) (run′ : List ℕ) → Npy-place file start t ns s order x p run r run′
@@ -200,12 +187,6 @@ pub record Exact-in-C : Type 0 where
   pub npy-element-points : (file : List ℕ) (start : ℕ) (t ns s : List ℕ) (order : ℕ) (x p out count : List ℕ) (r : ℕ) (out′ count′ : List ℕ)
       → Npy-element-points file start t ns s order x p out count r out′ count′
       → Takes-exactly (in-c alone count) (By-order order (λ o. Element points-within file start t ns s o x p out)) out (r, count′) out′
-  pub npy-read-bytes : (run : List ℕ) (order letter size units : ℕ) (out count : List ℕ) (r : ℕ) (out′ count′ : List ℕ)
-      → Npy-read-bytes run order letter size units out count r out′ count′
-      → Takes-exactly (in-c alone count) (By-type order letter size units (λ k. By-itself k (bytes-within k run) out)) out (r, count′) out′
-  pub npy-read-points : (run : List ℕ) (order letter size units : ℕ) (out count : List ℕ) (r : ℕ) (out′ count′ : List ℕ)
-      → Npy-read-points run order letter size units out count r out′ count′
-      → Takes-exactly (in-c alone count) (By-type order letter size units (λ k. By-itself k (points-within k run) out)) out (r, count′) out′
   pub npy-write-bytes : (order letter size units : ℕ) (value out count : List ℕ) (r : ℕ) (out′ count′ : List ℕ)
       → Npy-write-bytes order letter size units value out count r out′ count′
       → Takes-exactly (in-c alone count) (By-type order letter size units (λ k. By-itself k (bytes-out k value) out)) out (r, count′) out′

@@ -3,6 +3,7 @@ pub mod InC
 pub mod Doors
 pub mod Roomy
 pub mod Exact
+pub mod Further
 pub mod RoundTrips
 pub mod Places
 pub mod Refusals

@@ -26,7 +26,7 @@ use Rattle.place.specs.declared.Placed.{Placed}
 use Rattle.place.specs.Place.{runFrom}
 use Rattle.header.specs.declared.HeaderRead.{HeaderRead}
 use Rattle.header.specs.Reads.{infoOf, headerInfo, answer}
-use Rattle.read_back.specs.Rooms.{tableIn, namesIn, shapeIn, Holds}
+use Rattle.read_back.specs.Rooms.{tableIn, namesIn, shapeIn}
 use Rattle.npy_codes.specs.Numbers.{orderNumber, headerValues, runValues}
 use Rattle.claims.specs.Functions.{Read, Place}
 use Rattle.claims.specs.InC.{Npy-read, Npy-place}
@@ -76,7 +76,9 @@ pub record Header-stored : Type 0 where
 
 -- after the header h was read: the rooms hold its record, which is valid, and its data area, if it has no `O` and the file is long enough, is owned
 pub record Data-owned-by (file : List ℕ) (h : Header) (l′ : Lent) (Area : (start : ℕ) → Record → Type 0) : Type 0 where
-  pub holds : Holds (h .says) (infoOf (h .says)) l′
+  pub valid :
+      let i = infoOf (h .says) in
+      Valid (tableIn i l′) (namesIn i l′) (shapeIn i l′) (i .order) (h .says)
   pub owned : hasObject (h .says .dtype) ≡ false → h .data-start + dataBytes (h .says) ≤ length file → Area (h .data-start) (h .says)
 
 -- the second claim, for every file that is read: h is the header whose values were returned and whose record was stored. There is one (`Header-stored`), and by Exact.antt the file

@@ -1,13 +1,14 @@
 -- Demand 2: what is written is read back, and what was read is written and read back. Stated of `write::write_header` and `header::read`, and of `npy_write_header` and
 -- `npy_read`. `Written-read`: the bytes that were written, with anything after them, are read as the caller's table, names, shape and order, and the data
 -- starts after them; or the result is 23, if a room is too small. `Read-written`: the record that a reading left in the rooms is refused by the writer with 4 exactly if its
--- text is over 131,072 bytes, then with 28 exactly if the output room is too small; else it is written and read back. That headers are accepted and
--- written at all follows from the definitions, and is computed for document 01's 80 bytes: `table-holds` and `eighty-bytes` in record/proofs/Examples.antt.
+-- text is over 131,072 bytes, then with 28 exactly if the output room is too small; else it is written and read back. That some header is
+-- read and written at all is claimed of document 01's 80 bytes (`eighty-read` and `eighty-written`, Edges.antt).
 use Prim.Native.Nat.{ℕ, _<_, _≤_}
 use mathlib.Core.Path.{_≡_}
 use mathlib.Core.List.{List, [], _∷_, _++_}
 use lib.ListN.{length, take}
 use Rattle.counts.specs.Outcome.{gives, refused}
+use Rattle.counts.specs.Front.{atFront}
 use Rattle.refusal.specs.declared.BytesAnswer.{BytesAnswer}
 use Rattle.refusal.specs.Answers.{bytesAnswer}
 use Rattle.dtype.specs.declared.Order.{Order}
@@ -15,10 +16,11 @@ use Rattle.dtype.specs.Record.{Record, table, names}
 use Rattle.record.specs.Prefix.{most-text}
 use Rattle.record.specs.Rooms.{Lent, holding}
 use Rattle.record.specs.Header.{Header}
-use Rattle.record.specs.File.{textLength, headerLength}
+use Rattle.record.specs.File.{text as headerText, fileOf}
+use Rattle.check_record.specs.Valid.{Valid}
 use Rattle.header.specs.declared.HeaderRead.{HeaderRead}
 use Rattle.header.specs.Reads.{HeaderInfo, infoOf, headerInfo, answer}
-use Rattle.read_back.specs.Rooms.{tableIn, namesIn, shapeIn, Fronts}
+use Rattle.read_back.specs.Rooms.{tableIn, namesIn, shapeIn}
 use Rattle.npy_codes.specs.Codes.{alone}
 use Rattle.npy_codes.specs.Numbers.{orderNumber, headerValues}
 use Rattle.claims.specs.Doors.{Door, in-rattle, in-c}
@@ -27,16 +29,17 @@ use Rattle.claims.specs.Functions.{Read, Write-header}
 use Rattle.claims.specs.InC.{Npy-read, Npy-write-header}
 
 -- ---- what was written is read back
--- a header was read: its data starts at `start`, and the rooms hold this table, these names and this shape
-pub record Gives {R : Type 0} (door : Door HeaderInfo R) (t ns s : List ℕ) (o : Order) (start : ℕ) (y : R) (l′ : Lent) : Type 0 where
-  pub header : HeaderInfo
-  pub is : y ≡ door .returned (gives header)
+-- a header was read whose record is these parts and whose data starts at `start`: its values are returned, and the rooms hold its record
+pub record Read-as {R : Type 0} (door : Door HeaderInfo R) (t ns s : List ℕ) (o : Order) (start : ℕ) (l : Lent) (y : R) (l′ : Lent) : Type 0 where
+  pub header : Header
+  pub valid : Valid t ns s o (header .says)
   pub starts : header .data-start ≡ start
-  pub holds : Fronts t ns s o (header .info) l′
+  pub is : y ≡ door .returned (gives (headerInfo header))
+  pub stored : l′ ≡ holding (header .says) l
 
 -- .. if the rooms are large enough; else 23, and the rooms are unchanged
 pub record Comes-back {R : Type 0} (door : Door HeaderInfo R) (t ns s : List ℕ) (o : Order) (start : ℕ) (l : Lent) (y : R) (l′ : Lent) : Type 0 where
-  pub roomy : Roomy t ns s l → Gives door t ns s o start y l′
+  pub roomy : Roomy t ns s l → Read-as door t ns s o start l y l′
   pub no-room : (Roomy t ns s l → ⊥) → (y ≡ door .returned (refused 23)) × (l′ ≡ l)
 
 -- whatever follows these bytes and whatever rooms are lent, reading them gives this record, by `header::read` and by `npy_read`
@@ -64,9 +67,10 @@ Written-read-in-C =
 -- ---- what was read is written and read back
 -- the result w of writing a record r: 4, 28, or the bytes of a header for which `Again` holds
 pub record Goes-again {R : Type 0} (door : Door ℕ R) (r : Record) (out : List ℕ) (w : R) (out′ : List ℕ) (Again : (bytes : List ℕ) → Type 0) : Type 0 where
-  pub long : most-text < textLength r → (w ≡ door .returned (refused 4)) × (out′ ≡ out)
-  pub no-room : textLength r ≤ most-text → length out < headerLength r → (w ≡ door .returned (refused 28)) × (out′ ≡ out)
-  pub written : textLength r ≤ most-text → headerLength r ≤ length out → (w ≡ door .returned (gives (headerLength r))) × Again (take (headerLength r) out′)
+  pub long : most-text < length (headerText r) → (w ≡ door .returned (refused 4)) × (out′ ≡ out)
+  pub no-room : length (headerText r) ≤ most-text → length out < length (fileOf r) → (w ≡ door .returned (refused 28)) × (out′ ≡ out)
+  pub written : length (headerText r) ≤ most-text → length (fileOf r) ≤ length out
+      → (w ≡ door .returned (gives (length (fileOf r)))) × (out′ ≡ atFront (fileOf r) out) × Again (fileOf r)
 
 -- reading the bytes gives the record r
 abbrev pub Same-record : ((bytes t ns s : List ℕ) → Order → Type 0) → Record → (bytes : List ℕ) → Type 0

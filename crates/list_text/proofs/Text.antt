@@ -25,6 +25,7 @@ use Rattle.refusal.specs.declared.ItemsAnswer.{ItemsAnswer}
 use Rattle.record.specs.Version.{Version}
 use Rattle.check_record.specs.Answer.{itemSize}
 use Rattle.check_record.specs.Valid.{made}
+use Rattle.check_record.proofs.Accepts.{limits-of}
 use Rattle.check_record.specs.declared.ItemSize.{ItemSize}
 use Rattle.place.specs.Walk.{Accepted}
 use Rattle.list_text.specs.Listing.{versionLine, orderLine, shapeLine, stridesLine, countLine, itemLine, dataLine, entryLines, listing}
@@ -54,8 +55,8 @@ module _ (t ns s : List ℕ) (o : Order) (d : Dtype) (size : ItemSize) (count : 
   pub strided : Strided o s
   strided =
       record {
-        few = ltb-false 32 (length s) (or-left (overDimensions s) (overLevels d) (a .valid .dimensions));
-        fits = a .valid .shape-fits;
+        few = ltb-false 32 (length s) (or-left (overDimensions s) (overLevels d) (limits-of (made d s o) (a .valid .limits) .0));
+        fits = limits-of (made d s o) (a .valid .limits) .3;
       }
 
   entries-there : length t / entry-width ≡ entriesOf d

@@ -33,7 +33,7 @@ use Rattle.check_record.specs.declared.ItemSize.{ItemSize}
 use Rattle.check_record.specs.declared.ItemSize.the-variants.{Sized, Unsized}
 use Rattle.check_record.specs.declared.Summary.{Summary}
 use Rattle.check_record.specs.Valid.{made}
-use Rattle.check_record.proofs.Accepts.{accepts-valid}
+use Rattle.check_record.proofs.Accepts.{limits-of, accepts-valid}
 use Rattle.place_area.specs.declared.Run.{Run}
 use Rattle.place_area.specs.declared.Numbered.{Numbered}
 use Rattle.place_area.specs.Indexed.{numbered, indexed}
@@ -50,17 +50,17 @@ use Rattle.place.proofs.Walks.{plain-path}
 -- ---- `in_record`
 module _ (t ns s : List ℕ) (o : Order) (d : Dtype) (size : ItemSize) (count : Items) (a : Accepted t ns s o d size count) where
   pub shape-short : length s ≤ 32
-  shape-short = ltb-false 32 (length s) (or-left (overDimensions s) (overLevels d) (a .valid .dimensions))
+  shape-short = ltb-false 32 (length s) (or-left (overDimensions s) (overLevels d) (limits-of (made d s o) (a .valid .limits) .0))
 
   pub shape-fits : overShape o s ≡ false
-  shape-fits = a .valid .shape-fits
+  shape-fits = limits-of (made d s o) (a .valid .limits) .3
 
   size-by : (b : Bool) → overSize d ≡ false → hasObject d ≡ b → b ≡ false → someOver d ≡ false
   size-by true f e g = true-false g
   size-by false f e g = simp e at f
 
   none-over : hasObject d ≡ false → someOver d ≡ false
-  none-over e = size-by (hasObject d) (a .valid .sizes) refl e
+  none-over e = size-by (hasObject d) (limits-of (made d s o) (a .valid .limits) .2) refl e
 
   sized-by : (n : Bytes) (b : Bool) → Sized n ≡ cond b Unsized (Sized (record { 0 = sizeOf d })) → (b ≡ false) × (n .0 ≡ sizeOf d)
   sized-by n true e = let z : _≡_ {A = ℕ} 0 1 = cc in absurd (omega arith)

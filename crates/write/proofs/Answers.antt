@@ -33,7 +33,7 @@ use Rattle.record.specs.File.{bareText, version, text, textLength, fileBy, file
 use Rattle.record.specs.Writing.{writing}
 use Rattle.record.proofs.RoundTrips.{file-whole}
 use Rattle.check_record.specs.Checked.{checkedRecord}
-use Rattle.check_record.proofs.Accepts.{accepts-valid, checked-valid, valid-limits}
+use Rattle.check_record.proofs.Accepts.{accepts-valid, checked-valid}
 use Rattle.write_depth.specs.Printable.{printable}
 use Rattle.write_depth.proofs.Views.{View, unread, too-deep, shown, view}
 use Rattle.write_text.specs.declared.Printed.{Printed}
@@ -109,7 +109,7 @@ placed-whole x p f room l out q h =
 -- ---- a record whose text can be printed
 module _ (t ns s : List ℕ) (o : Order) (x : Record) (can : checkedRecord t ns s o ≡ gives x) where
   limits-are : limited x ≡ gives x
-  limits-are = valid-limits t ns s o x (checked-valid t ns s o x can)
+  limits-are = checked-valid t ns s o x can .limits
 
   ascii-is : (a : Bool) → a ≡ isAscii ns → a ≡ isAscii (bareText x)
   ascii-is a e = let u = accepts-valid t ns s o x can in rw (u .1) (e ∙ ap isAscii (u .2 .names-are) ∙ text-ascii (u .0) s o)
