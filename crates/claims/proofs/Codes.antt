@@ -5,6 +5,7 @@ use mathlib.Core.Path.{_≡_, refl, sym, ap, _∙_}
 use mathlib.Core.List.{List, [], _∷_}
 use lib.ListN.{length, drop, getD}
 use borrow.Author.Tests.{leb-true}
+use Rattle.refusal.specs.Numbers.{last-number}
 use Rattle.counts.specs.Outcome.{Outcome, gives, refused, then, each, afterwards}
 use Rattle.counts.specs.Front.{atFront}
 use Rattle.counts.proofs.Owes.{afterwards-refused, owes-rest}
@@ -51,7 +52,7 @@ module _ {A M : Type 0} (values : A → List ℕ) {before after : M} {said said�
             record {
               is = ap refused (sym (t .answered));
               from-one = rw (t .answered) (leb-true 1 n (h .so .0));
-              to-thirty = rw (t .answered) (leb-true n 30 (h .so .1));
+              to-last = rw (t .answered) (leb-true n last-number (h .so .1));
               unchanged = k n refl (t .after);
             };
       }
@@ -128,7 +129,7 @@ zero-answers =
     }
 
 coded-alone : {A M : Type 0} {values : A → List ℕ} {o : Outcome A} {before after : M} {r : ℕ} {said : List ℕ} → Coded values o before r after said → Refused-alone before r after
-coded-alone c h = let w = c .other h in (w .from-one, w .to-thirty, w .unchanged)
+coded-alone c h = let w = c .other h in (w .from-one, w .to-last, w .unchanged)
 
 pub alone-in-c : Alone-in-C
 alone-in-c =

@@ -7,6 +7,7 @@ use mathlib.Core.Path.{_≡_}
 use mathlib.Core.Bool.{Bool}
 use mathlib.Core.List.{List, [], _∷_}
 use lib.ListN.{length, drop}
+use Rattle.refusal.specs.Numbers.{last-number}
 use Rattle.counts.specs.Outcome.{Outcome, gives, refused, then, each}
 use Rattle.type_str.specs.TypeString.{typeString}
 use Rattle.type_str.specs.Text.{typePrinted}
@@ -30,11 +31,11 @@ use Rattle.claims.specs.Beyond.{Same-rest}
 use Rattle.claims.specs.Functions.{By-grammar}
 use Rattle.claims.specs.InC.{Npy-read-held, Npy-read-text, Npy-check, Npy-write-header, Npy-list, Npy-count, Npy-strides, Npy-item-number, Npy-place, Npy-element-bytes, Npy-element-points, Npy-read-bytes, Npy-read-points, Npy-write-bytes, Npy-write-points, Npy-type-read, Npy-type-print}
 
--- a refusal: the definition refuses with r, which is one of the thirty numbers, and all lent memory is as it was
+-- a refusal: the definition refuses with r, which is one of the numbers from 1 to the last, and all lent memory is as it was
 pub record Refuses {A M : Type 0} (o : Outcome A) (before : M) (r : ℕ) (after : M) : Type 0 where
   pub is : o ≡ refused r
   pub from-one : 1 ≤ r
-  pub to-thirty : r ≤ 30
+  pub to-last : r ≤ last-number
   pub unchanged : after ≡ before
 
 -- r is 0 exactly if the definition o gives a value, and the numbers lent for the values then hold it; any other r is a refusal
@@ -90,9 +91,9 @@ pub record Zero-answers : Type 0 where
   pub npy-type-print : (order letter size units : ℕ) (out count : List ℕ)
       → CodedPuts (then (typeFor order letter size units) (λ k. typePrinted k out)) (Npy-type-print order letter size units out count) out count
 
--- demand 1 by itself, whatever the definitions say: a number other than 0 is one of the thirty, and all lent memory is as it was
+-- demand 1 by itself, whatever the definitions say: a number other than 0 is one from 1 to the last, and all lent memory is as it was
 abbrev pub Refused-alone : {M : Type 0} → (before : M) (r : ℕ) (after : M) → Type 0
-Refused-alone before r after = (r ≡ 0 → ⊥) → (1 ≤ r) × (r ≤ 30) × (after ≡ before)
+Refused-alone before r after = (r ≡ 0 → ⊥) → (1 ≤ r) × (r ≤ last-number) × (after ≡ before)
 
 -- of a function that is lent only numbers for its values, and of one that is lent rooms besides
 abbrev pub AloneValues : (Call : ℕ → List ℕ → Type 0) → (said : List ℕ) → Type 0

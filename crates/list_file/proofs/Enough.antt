@@ -10,6 +10,7 @@ use lib.Dec.{ltb}
 use lib.ListN.{length, take, drop, length-append, length-take, length-replicate}
 use lib.Seq.{take-take}
 use borrow.Author.Tests.{lt-ltb, le-ltb, leb-true, ltb-false}
+use Rattle.refusal.specs.Numbers.{last-number}
 use Rattle.counts.specs.Outcome.{Outcome, gives, refused, each, afterwards}
 use Rattle.counts.specs.Front.{atFront}
 use Rattle.counts.specs.Owes.{roomed}
@@ -123,7 +124,7 @@ held-fits longer file (gives h) short e =
       fresh-names,
     )
 held-fits longer file (refused n) short e =
-    let low = leb-true n 30 (subst (λ (o : Outcome Header). Numbered o) e (held-numbered longer file fresh) .so .1) in
+    let low = leb-true n last-number (subst (λ (o : Outcome Header). Numbered o) e (held-numbered longer file fresh) .so .1) in
     omega (arith, printed-u64 n (10 ∷ []) (omega (arith, low)))
 
 pub report-fits : Report-fits

@@ -1,4 +1,4 @@
--- THE NUMBERS OF A READING'S REFUSALS ARE DOCUMENT 01'S, 1 to 30: along the composition of each definition, by one law for each way of composing outcomes.
+-- THE NUMBERS OF A READING'S REFUSALS ARE DOCUMENT 01'S, 1 to `last-number`: along the composition of each definition, by one law for each way of composing outcomes.
 use Prim.Native.Nat.{ℕ, zero, suc, _^_}
 use mathlib.Core.Path.{_≡_, refl}
 use mathlib.Core.Bool.{Bool, true, false, cond, not, _&&_, _||_}
@@ -8,6 +8,7 @@ use lib.Dec.{leb, ltb, eqb}
 use lib.ListN.{length, getD, take, drop}
 use Rattle.counts.specs.Outcome.{Outcome, gives, refused, then, each, unless}
 use Rattle.counts.specs.Same.{same}
+use Rattle.refusal.specs.Numbers.{last-number}
 use Rattle.utf8.specs.Decode.{unlessIll, firstIll, utf8}
 use Rattle.decimal.specs.Decimal.{digitsOf, afterDigits, decimal}
 use Rattle.type_letters.specs.Orders.{orders, orderByte, orderOf}
@@ -38,7 +39,7 @@ use Rattle.record.specs.Header.{Reading, valueRead, recordIn, stored}
 
 -- one of document 01's numbers
 abbrev pub Number : ℕ → Type 0
-Number n = (leb 1 n ≡ true) × (leb n 30 ≡ true)
+Number n = (leb 1 n ≡ true) × (leb n last-number ≡ true)
 
 abbrev pub NumberedBy : {A : Type 0} → Outcome A → Type 0
 NumberedBy (gives a) = Unit {0}
