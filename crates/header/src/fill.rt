@@ -300,7 +300,7 @@ fn end_place(p: Parsed) -> usize
 {
     match p {
         Parsed::Value(e) => e,
-        // neither is reached by its callers: the text was judged, so its strings end
+        // not reached by its callers, nor is `Deep`: the text was judged, so its strings end
         Parsed::Fault(e) => e,
         Parsed::Deep(e) => e,
     }
