@@ -68,7 +68,7 @@ def goals(found, names):
         most = max(found['stack'][what].values())
         yield f'stack of {what}: under {MOST_STACK:,} bytes', f'{most:,.0f}', most < MOST_STACK
     asked = found['asks']['symbol']
-    yield 'no heap', 'asks for ' + (', '.join(sorted(asked)) or 'no function of others'), not HEAP & set(asked)
+    yield 'no heap', 'calls ' + (', '.join(sorted(asked)) or 'no outside function'), not HEAP & set(asked)
 
 
 def machine():
@@ -133,7 +133,7 @@ Beside the rooms that a caller lends, the stack: a thread's stack is painted bef
 '''
     stack = found['stack']
     yield table(('Input', 'Reading', 'Writing', 'Places', 'C reader'), [(name, *(f'{stack[what][name]:,.0f}' if name in stack[what] else '–' for what in ('read', 'write', 'places', 'plain'))) for name in names])
-    yield f"\nThe library asks for these functions of others: {', '.join(f'`{one}`' for one in sorted(found['asks']['symbol'])) or 'none'}.\n"
+    yield f"\nOutside functions that the library calls: {', '.join(f'`{one}`' for one in sorted(found['asks']['symbol'])) or 'none'}.\n"
     yield f"\n## The gate's time for each crate\n\n{KEPT[0]}\n{kept}\n{KEPT[1]}\n"
 
 

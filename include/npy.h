@@ -9,13 +9,14 @@
  * reads or writes outside the rooms. The pointers of one call must not overlap where one of them is written to, and must not be null or misaligned,
  * also where the count is 0; a bool is 0 or 1: that is the caller's part, which no proof can see.
  *
- * Link with target/staticlib/libnpy.a, which `rt staticlib npy` proves and writes, for x86-64. No name of this header is one of NumPy's own C headers.
+ * Link with target/staticlib/libnpy.a, which `rt staticlib npy` proves and writes, for x86-64. No name of this header is in
+ * NumPy's own C headers (compared with NumPy 1.24.2).
  *
  * A record is what a header says: a dtype table, the names of its fields end to end, a shape and an order.
  *     table    NPY_ENTRY numbers for each entry, depth first, an entry before those below it: enum npy_entry. The outermost entry has parent 0 and is no array
- *     order    NPY_ORDER_C or NPY_ORDER_FORTRAN; another number is refused by NPY_NO_READING
+ *     order    NPY_ORDER_C or NPY_ORDER_FORTRAN; another number is refused with NPY_NO_READING
  *     type     four numbers: the byte of its order ('<', '>' or '|'), the byte of its letter, its size (0 for 'O'), its units (0 for none, then 1 to 13
- *              for Y M W D h m s ms us ns ps fs as); numbers that no type string gives are refused by NPY_NO_READING
+ *              for Y M W D h m s ms us ns ps fs as); numbers that no type string gives are refused with NPY_NO_READING
  */
 #ifndef NPY_H
 #define NPY_H
@@ -120,15 +121,16 @@ enum npy_run {
 extern "C" {
 #endif
 
-/* ---- reading: 1 to 22, and 23 last, where a room is too small. */
+/* ---- reading: 1 to 22, and 23 last, where a room is too small. Always enough: NPY_MOST_ENTRIES * NPY_ENTRY numbers for the table, NPY_MOST_NAMES bytes for the names,
+ * NPY_MOST_RANK numbers for the shape. */
 
 /* The header that a file begins with. Its record goes to the front of the three rooms.
  * said: enum npy_read_said. */
 uint8_t npy_read(const uint8_t *file, size_t file_len, uint64_t *table, size_t table_len, uint8_t *names, size_t names_len,
                  uint64_t *shape, size_t shape_len, uint64_t said[NPY_READ_SAID]);
 
-/* The same of a file whose first bytes are held, and which is longer or is not: of a longer file 23, right after 4, where its header ends past them. Where fewer are held
- * than the prefix has (10 for version 1, 12 for the others), 1, 2 or 3, as if the file ended there, whether or not it is longer. */
+/* The same for a file of which the first file_len bytes are held. longer: whether the file has more bytes than these. Where the header ends past the held bytes, the result is
+ * 23 if longer is true, right after 4, and else 3. With fewer bytes than the prefix has, 10 for version 1 and 12 for the others, it is 1, 2 or 3 as if the file ended there. */
 uint8_t npy_read_held(const uint8_t *file, size_t file_len, bool longer, uint64_t *table, size_t table_len, uint8_t *names, size_t names_len,
                       uint64_t *shape, size_t shape_len, uint64_t said[NPY_READ_SAID]);
 
@@ -142,19 +144,20 @@ uint8_t npy_read_text(const uint8_t *text, size_t text_len, uint64_t *table, siz
 uint8_t npy_check(const uint64_t *table, size_t table_len, const uint8_t *names, size_t names_len, const uint64_t *shape, size_t shape_len,
                   uint64_t order, uint64_t said[NPY_CHECK_SAID]);
 
-/* The record's header, at the front of out: then 7, 4, 28. count: its length. */
+/* The record's header, at the front of out: then 7, 4, 28. count: its length. NPY_MOST_HEADER bytes are always enough. */
 uint8_t npy_write_header(const uint64_t *table, size_t table_len, const uint8_t *names, size_t names_len, const uint64_t *shape, size_t shape_len,
                          uint64_t order, uint8_t *out, size_t out_len, uint64_t count[1]);
 
-/* The record's listing, at the front of out: 2 for a version other than 1, 2, 3, then the record's, then 28. count: its length. */
+/* The record's listing, at the front of out: 2 for a version other than 1, 2, 3, then the record's, then 28. count: its length. 172,484 bytes are always enough: 1,476 before
+ * the table, 78 for each of NPY_MOST_ENTRIES entries, two for each of NPY_MOST_NAMES name bytes. */
 uint8_t npy_list(uint64_t version, uint64_t start, const uint64_t *table, size_t table_len, const uint8_t *names, size_t names_len,
                  const uint64_t *shape, size_t shape_len, uint64_t order, uint8_t *out, size_t out_len, uint64_t count[1]);
 
-/* ---- shapes: 22 where the count or a stride of the order is over 2^64-1. 13 is asked of records, and here by npy_item_number alone. */
+/* ---- shapes: 22 where the count or a stride of the order is over 2^64-1. 13 is checked for records, and here by npy_item_number alone. */
 
 uint8_t npy_count(const uint64_t *shape, size_t shape_len, uint64_t order, uint64_t count[1]);
 
-/* The strides in items, at the front of out: 22, 23. count: the item count. */
+/* The strides in items, at the front of out: 22, 23. count: the item count. shape_len numbers are enough. */
 uint8_t npy_strides(const uint64_t *shape, size_t shape_len, uint64_t order, uint64_t *out, size_t out_len, uint64_t count[1]);
 
 /* The number of the item that an index names: 13, 22, 26. */
@@ -162,12 +165,13 @@ uint8_t npy_item_number(const uint64_t *shape, size_t shape_len, uint64_t order,
 
 /* ---- places: the record's refusals, then 24, 25, 26. */
 
-/* The bytes that an index and a path name in a file of so many bytes whose data starts at start. run: enum npy_run. */
+/* The bytes that an index and a path name in a file of file_len bytes whose data starts at start. run: enum npy_run. */
 uint8_t npy_place(uint64_t file_len, uint64_t start, const uint64_t *table, size_t table_len, const uint8_t *names, size_t names_len,
                   const uint64_t *shape, size_t shape_len, uint64_t order, const uint64_t *index, size_t index_len,
                   const uint64_t *path, size_t path_len, uint64_t run[NPY_RUN]);
 
-/* The element S or V at a place, and the element U as code points, at the front of out: 26 for another type, then 29 (U), 23. count: how many are left. */
+/* The element S or V at a place, and the element U as code points, at the front of out: 26 for another type, then 29 (U), 23. count: how many bytes (S, V)
+ * or code points (U) were written. As many as the size of the type are always enough. */
 uint8_t npy_element_bytes(const uint8_t *file, size_t file_len, uint64_t start, const uint64_t *table, size_t table_len, const uint8_t *names,
                           size_t names_len, const uint64_t *shape, size_t shape_len, uint64_t order, const uint64_t *index, size_t index_len,
                           const uint64_t *path, size_t path_len, uint8_t *out, size_t out_len, uint64_t count[1]);
@@ -177,13 +181,14 @@ uint8_t npy_element_points(const uint8_t *file, size_t file_len, uint64_t start,
 
 /* ---- string elements by themselves: 27 for no type, 26 for another type. */
 
-/* Reading a run of bytes: then 29 (U), 23. The run is all that is read: size is not compared with run_len. count: how many bytes or code points are left. */
+/* Reading a run of bytes: then 29 (U), 23. The run is all that is read: size is not compared with run_len. count: how many bytes (S, V) or code points (U)
+ * were written. run_len bytes, or run_len / 4 code points, are always enough. */
 uint8_t npy_read_bytes(const uint8_t *run, size_t run_len, uint64_t order, uint64_t letter, uint64_t size, uint64_t units,
                        uint8_t *out, size_t out_len, uint64_t count[1]);
 uint8_t npy_read_points(const uint8_t *run, size_t run_len, uint64_t order, uint64_t letter, uint64_t size, uint64_t units,
                         uint32_t *out, size_t out_len, uint64_t count[1]);
 
-/* Writing one: then 29 (U), 30, 28. count: how many bytes. */
+/* Writing one: then 29 (U), 30, 28. count: how many bytes: size for S and V, 4 * size for U. */
 uint8_t npy_write_bytes(uint64_t order, uint64_t letter, uint64_t size, uint64_t units, const uint8_t *value, size_t value_len,
                         uint8_t *out, size_t out_len, uint64_t count[1]);
 uint8_t npy_write_points(uint64_t order, uint64_t letter, uint64_t size, uint64_t units, const uint32_t *value, size_t value_len,
@@ -194,7 +199,7 @@ uint8_t npy_write_points(uint64_t order, uint64_t letter, uint64_t size, uint64_
 /* 15 to 19. type: its four numbers. */
 uint8_t npy_type_read(const uint8_t *text, size_t text_len, uint64_t type[4]);
 
-/* The type string, at the front of out: 27, 28. count: its length. */
+/* The type string, at the front of out: 27, 28. count: its length. 26 bytes are always enough. */
 uint8_t npy_type_print(uint64_t order, uint64_t letter, uint64_t size, uint64_t units, uint8_t *out, size_t out_len, uint64_t count[1]);
 
 #ifdef __cplusplus

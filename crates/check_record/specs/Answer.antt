@@ -1,5 +1,5 @@
--- What each answer of this crate stands for: document 01's number; or the item size, of the dtype, and the summary, of the record. Document 01, "The record": "With an `O`
--- anywhere there is no item size." No two answers stand for the same (proofs/Outcomes.antt).
+-- What each answer of this crate means: document 01's number; or the item size, of the dtype, and the summary, of the record. Document 01, "The record": "With an `O`
+-- anywhere there is no item size." No two answers mean the same (proofs/Outcomes.antt).
 use Prim.Native.Nat.{ℕ}
 use mathlib.Core.Bool.{cond}
 use mathlib.Core.List.{List}

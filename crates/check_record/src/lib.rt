@@ -42,7 +42,7 @@ pub struct Summary {
     pub count: Items,
 }
 
-// What a record has that some header can be read as; or 27, 13, 20, 21, 22, and of write_depth also 7.
+// The summary of a record that some header gives; or 27, 13, 20, 21, 22, and of write_depth also 7.
 pub enum Checked {
     Accepted(Summary),
     Refused(Refusal),
@@ -84,7 +84,7 @@ pub fn check(table: &[u64], names: &[u8], shape: &[u64], order: Order) -> Checke
     }
 }
 
-// What a record of so many entries and this item size has, or 22.
+// The summary of a record of `entries` entries and this item size, or 22.
 fn counted(entries: usize, size: ItemSize, shape: &[u64], order: Order) -> Checked
     ensures { λ r. ⌜ answer r ≡ each (summaryOf entries size (now (shape .entry))) (itemCount order (now (shape .entry))) ⌝ }
 {

@@ -1,5 +1,5 @@
-// The parts of the checks 13 and 21 (document 01, "The refusal numbers") that a walk over any table decides: nested array levels, objects, and sizes over 2^64-1.
-// Called by check_record.
+// Whether any table has over 32 nested array levels, or an object; whether a plain type has over 2^64-1 bytes: parts of the checks 13 and 21 (document 01, "The refusal
+// numbers"). Called by check_record.
 use counts::Points;
 ghost use mathlib.Core.Path.{_≡_};
 ghost use mathlib.Core.Bool.{cond};

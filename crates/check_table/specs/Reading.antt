@@ -4,13 +4,12 @@ use Prim.Native.Nat.{ℕ}
 use mathlib.Core.Path.{_≡_}
 use mathlib.Core.Bool.{Bool, true, false, _||_, not}
 use mathlib.Core.List.{List}
-use lib.Dec.{ltb}
 use Rattle.counts.specs.Outcome.{Outcome, gives, then, unless}
 use Rattle.type_str.specs.Text.{isType}
 use Rattle.utf8.specs.Utf8.{WellFormed}
 use Rattle.utf8.specs.Decode.{utf8}
 use Rattle.dtype.specs.Dtype.{Dtype, Fields, plain, array, record-of, end-of-fields, field-then}
-use Rattle.dtype.specs.Entries.{levels, someEntry, plainOnly}
+use Rattle.dtype.specs.Entries.{someEntry, plainOnly}
 use Rattle.dtype.specs.Names.{someName}
 use Rattle.dtype.specs.Record.{tableOf}
 use Rattle.check_table.specs.Decides.{refuses}
@@ -36,7 +35,9 @@ abbrev mutual
 
 -- "outermost an array"
 abbrev pub isArray : Dtype → Bool
-isArray d = ltb 0 (levels d)
+isArray (plain t) = false
+isArray (array n d) = true
+isArray (record-of fs) = false
 
 -- whether no reading gives the dtype, or it is an array
 abbrev pub unread : Dtype → Bool

@@ -62,7 +62,7 @@ pub(crate) fn judge(text: &[u8], at: usize, room: usize) -> DescrJudged
     }
 }
 
-// The verdict on the fields of a record, up to its closing bracket.
+// The verdict on the fields of a record, up to its closing bracket (93 is `]`).
 fn fields(text: &[u8], from: usize, room: usize) -> DescrJudged
     ensures { λ r. ⌜ JudgesFrom room (now (text .entry)) 93 (gapAt (now (text .entry)) from 93) (λ vs. each totalsIn (fieldsOf vs)) r ⌝ }
 {

@@ -112,6 +112,7 @@ pub fn second_at(text: &[u8], at: usize, close: u8) -> Gap
     match c {
         Parsed::Value(e) => gap_at(text, e, b')'),
         Parsed::Fault(p) => Gap::Stray(p),
+        // not reached: `need` reads one byte, and no bracket
         Parsed::Deep(p) => Gap::Stray(p),
     }
 }

@@ -167,7 +167,7 @@ pub fn typed(t: TypeRead) -> DescrVerdict
     }
 }
 
-// The totals of a name of so many bytes.
+// The totals of a name of `len` bytes.
 pub fn named(len: usize) -> Totals
     ensures { λ r. ⌜ r ≡ nameTotals len ⌝ }
 {

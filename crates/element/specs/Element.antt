@@ -1,4 +1,4 @@
--- Document 01, "The refusal numbers": "A string element is read after its place: 29, 23." The element's bytes are those of its place; what they stand for, 26 for
+-- Document 01, "The refusal numbers": "A string element is read after its place: 29, 23." The element's bytes are those of its place; what they mean, 26 for
 -- another type, 29 and 23 are string_value/specs/Rooms.antt, and all refusals before them place/specs/Place.antt. No element has the 27 of Rooms.antt: a place has a type
 -- that readings give (proofs/Typed.antt).
 use Prim.Native.Nat.{ℕ}

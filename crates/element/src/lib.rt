@@ -1,5 +1,5 @@
-// String elements at their places (document 01, "String elements"): a file, where its data starts, its record, an index and a path in; what the element there stands for out to
-// lent room, or the place's refusal, then 26 for another type, 29, 23. A refusal leaves the room as it was. Called by the C interface.
+// Reads the string element that an index and a path name in a file (document 01, "String elements") into lent room; or the place's refusal, then 26 for another type, 29, 23. A
+// refusal leaves the room as it was. Called by the C interface.
 use counts::Bytes;
 use dtype::Order;
 use place::Placed;

@@ -75,7 +75,7 @@ pub record FilledField (e entry up byte : ℕ) (f : Field) (table names table′
   pub table-after : table′ ≡ sets table (entry-width * entry) (flat (f .type) entry up (length (f .name)) [])
   pub names-after : names′ ≡ sets names byte (f .name ++ namesOf (f .type) [])
 
--- an answer that stands for a type is that type
+-- an answer that means a type is that type
 pub read-back : (r : TypeRead) (t : TypeStr) → answer r ≡ gives t → r ≡ TypeRead.Read t
 read-back (TypeRead.Read u) t h = let z : u ≡ t = cc in ap TypeRead.Read z
 read-back (TypeRead.Refused why) t h = refused-gives h

@@ -454,7 +454,7 @@ fields-due k s at entry byte table names n e d h l =
       name-room = omega (arith, h .name-room, m2);
     }
 
--- ---- a descr as a whole, by what stands at `at`
+-- ---- a descr as a whole, by what is at `at`
 module _ (k : ℕ) (s : List ℕ) (at entry up m byte : ℕ) (table names : List ℕ) (n : Node) (e : ℕ) (d : Dtype) (h : Due k s at entry table byte names n e d) where
   module _ (hq : isString (kindOf (byteAt s at)) ≡ true) where
     pub text-in : at < length s

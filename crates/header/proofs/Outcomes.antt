@@ -21,7 +21,7 @@ use Rattle.header.specs.declared.TextRead.{TextRead}
 use Rattle.header.specs.declared.HeaderRead.{HeaderRead}
 use Rattle.header.specs.Reads.{infoOf, textAnswer, ReadsTextBy, ReadsText, HeaderInfo, headerInfo, answer, ReadsBy, ReadsHeld, Reads}
 
--- ---- an answer can be found again from what it stands for
+-- ---- an answer can be found again from what it means
 text-same : (a : TextRead) → answerFor TextRead.Read TextRead.Refused (textAnswer a) ≡ a
 text-same (TextRead.Read info) = refl
 text-same (TextRead.Refused why) = ap TextRead.Refused (refusal-back why)

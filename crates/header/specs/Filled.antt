@@ -109,7 +109,7 @@ pub record Filled (e entry up m byte : ℕ) (d : Dtype) (table names table′ na
   pub names-after : names′ ≡ sets names byte (namesOf d [])
 
 -- ---- the fields of a record
--- the items from `from` on are fields that give fs, and there is room for fs
+-- the items from `from` on, up to `]` (93), are fields that give fs, and there is room for fs
 pub record DueFields (k : ℕ) (s : List ℕ) (from entry : ℕ) (table : List ℕ) (byte : ℕ) (names : List ℕ) (ns : List Node) (e : ℕ) (fs : Fields) : Type 0 where
   pub row : Row (value k s) s 93 ns (gapAt s from 93) e
   pub is : fieldsOf (forgetAll (nodes ns)) ≡ gives fs

@@ -48,7 +48,7 @@ struct DescrFilled {
     size: Bytes,
 }
 
-// The same of fields, and how many they are.
+// The same for fields, and how many they are.
 struct FieldsFilled {
     end: usize,
     entry: usize,
@@ -64,7 +64,8 @@ struct NameFilled {
     inner: usize,
 }
 
-// What is known of an accepted record beside the lent rooms, to which its parts are written; or 23, and nothing is written.
+// Writes the table, the names and the shape of an accepted record to the lent rooms, and returns its order and how much of each room it takes; or 23, and nothing is
+// written.
 pub(crate) fn store_record(
     text: &[u8],
     plan: FoundRecord,
@@ -96,8 +97,7 @@ pub(crate) fn store_record(
     })
 }
 
-// Whether a table room of so many numbers, a name room of so many bytes and a shape room of so many numbers are too small for so many entries, name bytes and
-// dimensions.
+// Whether rooms of `table` numbers, `names` bytes and `shape` numbers are too small for `entries` entries, `bytes` name bytes and `rank` dimensions.
 fn too_small(
     table: usize,
     names: usize,
@@ -111,7 +111,7 @@ fn too_small(
     (table / dtype::ENTRY < entries) | (names < bytes) | (shape < rank)
 }
 
-// Writes the table and the names of the descr at `at`, from entry `entry` and from byte `byte` on. Its parent is the entry `up`, and its name has so many
+// Writes the table and the names of the descr at `at`, from entry `entry` and from byte `byte` on. Its parent is the entry `up`, and its name has `name`
 // bytes.
 fn fill(
     text: &[u8],
@@ -133,7 +133,7 @@ fn fill(
     fill_record(text, at, room, table, entry, up, name, names, byte)
 }
 
-// The same of a string, which is a type string: its entry, and no names.
+// The same for a string, which is a type string: its entry, and no names.
 fn fill_plain(
     text: &[u8],
     at: usize,
@@ -159,7 +159,7 @@ fn fill_plain(
     }
 }
 
-// The same of anything else, which is a list of fields.
+// The same for anything else, which is a list of fields.
 fn fill_record(
     text: &[u8],
     at: usize,
@@ -229,7 +229,8 @@ fn fields(
     }
 }
 
-// The name of the field at `at`, which `close` shuts, written from byte `byte` on; and where its inner descr begins.
+// Writes the name of the field at `at`, whose closing bracket is `close`, from byte `byte` on; returns its length, the byte after it, and where the inner
+// descr begins.
 fn head_at(text: &[u8], at: usize, close: u8, names: &mut [u8], byte: usize) -> NameFilled
     requires { ⌜ DueHead (now text) at close byte (now names) ⌝ }
     ensures { λ r. ⌜ Headed (now (text .entry)) at close byte (now (names .entry)) (now (names .exit)) r ⌝ }
@@ -245,7 +246,8 @@ fn head_at(text: &[u8], at: usize, close: u8, names: &mut [u8], byte: usize) -> 
     }
 }
 
-// The levels of the sub-shape after a type that ended at `r`, where there is one, written above its entries, which move on for them.
+// Writes the array levels of the sub-shape, if there is one after the inner descr that was filled as `r`, before the entries of that descr, which are moved
+// to make room; returns the same as `r` for the whole field.
 fn shaped(
     text: &[u8],
     close: u8,
@@ -298,6 +300,7 @@ fn end_place(p: Parsed) -> usize
 {
     match p {
         Parsed::Value(e) => e,
+        // not reached by its callers, nor is `Deep`: the text was judged, so its strings end
         Parsed::Fault(e) => e,
         Parsed::Deep(e) => e,
     }

@@ -49,7 +49,7 @@ pub fn read(file: &[u8], table: &mut [u64], names: &mut [u8], shape: &mut [u64])
     read_held(file, false, table, names, shape)
 }
 
-// The same of a file of which only the first bytes are held: `longer` if it has more.
+// The same for a file of which only the first bytes are held: `longer` if it has more.
 pub fn read_held(
     file: &[u8],
     longer: bool,

@@ -21,7 +21,7 @@ use Rattle.header_prefix.specs.declared.Prefix.{Prefix}
 use Rattle.header_prefix.specs.declared.PrefixRead.{PrefixRead}
 use Rattle.header_prefix.specs.Answer.{versionIs, answer}
 
--- a version can be found again from what it stands for
+-- a version can be found again from what it means
 pub versionBack : version.Version → Version
 versionBack version.one-zero = Version.OneZero
 versionBack version.two-zero = Version.TwoZero

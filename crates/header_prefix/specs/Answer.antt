@@ -1,5 +1,5 @@
--- What each answer of this crate stands for: document 01's number, or what comes before the text. "NPY versions (1,0), (2,0), (3,0)". By proofs/Outcomes.antt no
--- two answers stand for the same.
+-- What each answer of this crate means: document 01's number, or what comes before the text. "NPY versions (1,0), (2,0), (3,0)". By proofs/Outcomes.antt no
+-- two answers mean the same.
 use Rattle.counts.specs.Outcome.{Outcome, gives, refused}
 use Rattle.refusal.specs.Numbers.{numberOf}
 use Rattle.record.specs.Version as version

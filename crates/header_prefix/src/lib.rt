@@ -11,7 +11,7 @@ ghost use Rattle.record.specs.Version.{major, lengthWidth, textStart, versionOf
 ghost use Rattle.record.specs.Prefix.{magic, lengthRead, prefix};
 ghost use Rattle.header_prefix.specs.Answer.{versionIs, versionAnswer, answer};
 
-// The most bytes that a text may have: a longer one is refused by 4.
+// The most bytes that a text may have: a longer one is refused with 4.
 pub const MOST_TEXT: u64 = 131072;
 
 // The versions (1,0), (2,0) and (3,0).
@@ -124,6 +124,7 @@ fn text_length(version: Version, file: &[u8]) -> PrefixRead
     }
     let n = number_bytes::read(&file[8..start], Endianness::Little);
     let Number::Is(length) = n else {
+        // not reached: the length field has at most four bytes
         return PrefixRead::Refused(Refusal::LongText);
     };
     if MOST_TEXT < length {

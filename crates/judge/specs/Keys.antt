@@ -33,7 +33,7 @@ pub record KeysAt (k : ℕ) (s : List ℕ) (r : Walked) (strings : Bool) (node :
   pub of-order : OrderIs (r .order) (node key-order)
   pub of-shape : ShapeFoundIs k s (r .shape) (node key-shape)
 
--- the same of the value at a position
+-- the same for the value at a position
 abbrev pub KeysIn : (text : List ℕ) (at : ℕ) → Walked → Type 0
 KeysIn text at r = KeysAt inside text r (keyedAt (value most-open text at)) (λ w. nodeFor w (value most-open text at))
 

@@ -63,7 +63,7 @@ struct Key {
     begins: Parsed,
 }
 
-// The value at `at`, read once.
+// How the value at `at` ends, and what it has for the three keys.
 pub(crate) fn keys(text: &[u8], at: usize) -> Walked
     ensures { λ r. ⌜ Walks (now (text .entry)) at r ⌝ }
 {
@@ -80,7 +80,7 @@ pub(crate) fn keys(text: &[u8], at: usize) -> Walked
     keys_from(text, at + 1, OPEN - 1)
 }
 
-// The pairs from `from` up to the brace. A key that is no string is 8, which comes after any fault of the text: the walk goes on. What was found is in three locals, of which a
+// The pairs from `from` up to the closing brace (125 is `}`). A key that is no string is 8, which comes after any fault of the text: the walk goes on. What was found is in three locals, of which a
 // pair stores the one that it changes: to copy all three at each pair is slow.
 fn keys_from(text: &[u8], from: usize, room: usize) -> Walked
     ensures { λ r. ⌜ WalkedOf room (now (text .entry)) r (listBy (pairBy (valueOf room (now (text .entry))) (now (text .entry))) (now (text .entry)) from 125) ⌝ }
@@ -122,7 +122,7 @@ fn keys_from(text: &[u8], from: usize, room: usize) -> Walked
     }
 }
 
-// A walk that ended so.
+// The result of the walk.
 fn walk_end(
     ended: Parsed,
     strings: bool,

@@ -56,7 +56,7 @@ pub fn list(
     }
 }
 
-// The same of a record that was checked: the text is measured on a scratch byte, and put where there is room.
+// The same for a record that was checked: the text is measured on a scratch byte, and put where there is room.
 fn list_checked(
     version: Version,
     start: Bytes,
@@ -125,7 +125,7 @@ fn put_order(out: &mut [u8], at: usize, order: Order) -> usize
     }
 }
 
-// Puts a line of a word and numbers, each after a space.
+// Puts a line of a word and numbers, each after a space (10 is LF).
 fn put_row(out: &mut [u8], at: usize, word: &[u8], row: &[u64]) -> usize
     ensures { λ r. ⌜ Emits (λ x. now (word .entry) ++ numbers (now (row .entry)) (10 ∷ x)) (now (out .entry)) at (now (out .exit)) r ⌝ }
 {
@@ -219,6 +219,7 @@ fn put_type(out: &mut [u8], at: usize, entry: Entry) -> usize
     ensures { λ r. ⌜ Emits (typeIn (typeOf entry)) (now (out .entry)) at (now (out .exit)) r ⌝ }
 {
     let EntryType::Type(t) = table_entry::type_of(entry) else {
+        // not reached by `list`: in a checked table every plain entry has a type
         return at;
     };
     type_print::put(t, out, at)

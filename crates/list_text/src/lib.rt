@@ -1,5 +1,5 @@
 // What the text of a listing is (document 01, "What the collector buys"): its definition in specs/, its laws in proofs/, and the one part that needs no table, an entry's
-// parent. list_record puts the rest.
+// parent. Called by list_record, which puts the rest.
 use emit::put;
 use emit::put_count;
 ghost use Rattle.emit.specs.Emits.{Emits};

@@ -1,5 +1,5 @@
 -- Document 01, "The literal": "Strings stand in `'` or `"`, hold no raw LF or CR, and know the escapes `\\ \' \" \n \r \t` only." The bytes of a string that
--- stand for themselves.
+-- are copied as they are.
 use Prim.Native.Nat.{ℕ}
 use mathlib.Core.Bool.{Bool, _||_, not}
 use lib.Dec.{eqb}

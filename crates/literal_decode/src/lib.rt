@@ -60,6 +60,7 @@ fn end_by(p: Piece) -> Parsed
 {
     match p {
         Piece::Close(e) => Parsed::Value(e),
+        // not reached by the only caller: it goes on after a byte
         Piece::Byte(_, e) => Parsed::Value(e),
         Piece::Bad(e) => Parsed::Fault(e),
     }

@@ -1,5 +1,5 @@
 -- Document 01, "The literal": "Strings stand in `'` or `"`, hold no raw LF or CR, and know the escapes `\\ \' \" \n \r \t` only." The text after an opening quote, piece by
--- piece: a piece is a byte that stands for itself, an escape, or the closing quote. 92 is the backslash.
+-- piece: a piece is a byte that means itself, an escape, or the closing quote. 92 is the backslash.
 use Prim.Native.Nat.{ℕ, zero, suc, _+_}
 use mathlib.Core.List.{List, [], _∷_}
 use mathlib.Core.Bool.{Bool, false, _||_, cond}
@@ -14,11 +14,11 @@ use Rattle.literal_escapes.specs.declared.Piece.{Piece}
 use Rattle.literal_escapes.specs.declared.Piece.the-variants.{Close, Byte, Bad}
 use Rattle.literal_escapes.specs.declared.Scan.{Scan}
 
--- after a backslash: the byte that the escape stands for, and the position after it; or a fault
+-- after a backslash: the byte that the escape means, and the position after it; or a fault
 unfoldable pub escapeAt : List ℕ → ℕ → Piece
 escapeAt s at = cond (isEscape (byteAt s at)) (Byte (unescape (byteAt s at)) (at + 1)) (Bad at)
 
--- one piece inside the text, in quotes q: the closing quote, a fault at LF or CR, an escape, or a byte that stands for itself
+-- one piece inside the text, in quotes q: the closing quote, a fault at LF or CR, an escape, or a byte that means itself
 abbrev pub pieceBy : ℕ → List ℕ → ℕ → Piece
 pieceBy q s at = cond (eqb (byteAt s at) q) (Close (at + 1)) (cond (isBreak (byteAt s at)) (Bad at) (cond (eqb (byteAt s at) 92) (escapeAt s (at + 1)) (Byte (byteAt s at) (at + 1))))
 
@@ -32,7 +32,7 @@ endBy (Close e) = Value e
 endBy (Byte b e) = Value e
 endBy (Bad e) = Fault e
 
--- a string as read: the bytes that its pieces stand for, whether one of them is an escape, and how it ended
+-- a string as read: the bytes that its pieces mean, whether one of them is an escape, and how it ended
 pub record Spelled : Type 0 where
   pub bytes : List ℕ
   pub escape : Bool
@@ -63,6 +63,6 @@ spelled q s at = pieces (length s + 1) q s at
 abbrev pub stringAt : ℕ → List ℕ → ℕ → Got (List ℕ)
 stringAt q s at = giving (λ e. spelled q s at .bytes) (spelled q s at .ended)
 
--- what the code returns for it: how it ended, how many bytes it stands for, and whether it has an escape
+-- what the code returns for it: how it ended, how many bytes it has decoded, and whether it has an escape
 abbrev pub scanned : Spelled → Scan
 scanned r = record { ended = r .ended; len = length (r .bytes); escape = r .escape }

@@ -7,14 +7,14 @@ ghost use Rattle.literal_escapes.specs.Strings.{escapeAt, pieceAt, spell
 use literal_bytes::Parsed;
 use literal_bytes::is_break;
 
-// The piece at a position of a string: the closing quote, which ends before the position; a byte that the string stands for, and where the next piece begins; or a fault.
+// The piece at a position of a string: the closing quote, which ends before the position; a byte of the decoded string, and where the next piece begins; or a fault.
 pub enum Piece {
     Close(usize),
     Byte(u8, usize),
     Bad(usize),
 }
 
-// What a scan of a string found: how it ended, how many bytes it stands for up to there, and whether it has an escape.
+// What a scan of a string found: how it ended, how many bytes it has decoded up to there, and whether it has an escape.
 pub struct Scan {
     pub ended: Parsed,
     pub len: usize,
@@ -28,7 +28,7 @@ fn is_escape(b: u8) -> bool
     (b == b'\\') | (b == b'\'') | (b == b'"') | (b == b'n') | (b == b'r') | (b == b't')
 }
 
-// The byte that an escape stands for, given the byte after its backslash.
+// The byte that an escape means, given the byte after its backslash.
 fn unescape(b: u8) -> u8
     ensures { λ r. ⌜ r ≡ unescapeOf b ⌝ }
 {

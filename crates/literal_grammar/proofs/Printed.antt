@@ -64,7 +64,7 @@ unfolding isEscape
 spelled-letter zero b r h = true-false (sym h)
 spelled-letter (suc c) b r h = refl
 
--- the letter of its escape stands for the byte
+-- the letter of its escape means the byte
 by-letter : (b : ℕ) → isEscape (escapeOf b) ≡ true → unescape (escapeOf b) ≡ b → Spelt b
 by-letter b ok back = (92 ∷ escapeOf b ∷ [], λ r. spelled-letter (escapeOf b) b r ok, λ u w x. subst (λ y. Quoted 39 (92 ∷ escapeOf b ∷ u) (y ∷ w)) back (escaped ok x))
 

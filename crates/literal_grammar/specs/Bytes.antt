@@ -19,7 +19,7 @@ isBreak b = eqb b 10 || eqb b 13
 unfoldable pub isEscape : ℕ → Bool
 isEscape b = eqb b 92 || eqb b 39 || eqb b 34 || eqb b 110 || eqb b 114 || eqb b 116
 
--- the byte that an escape stands for: LF for `n`, CR for `r`, TAB for `t`, otherwise the byte after the backslash itself
+-- the byte that an escape means: LF for `n`, CR for `r`, TAB for `t`, otherwise the byte after the backslash itself
 unfoldable pub unescape : ℕ → ℕ
 unescape b = cond (eqb b 110) 10 (cond (eqb b 114) 13 (cond (eqb b 116) 9 b))
 

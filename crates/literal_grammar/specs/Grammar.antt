@@ -21,10 +21,10 @@ pub data Natural : List ℕ → ℕ → Type 0 where
   nonzero : {d : ℕ} {u : List ℕ} → isDigit d ≡ true → eqb d 48 ≡ false → All isDigit u → Natural (d ∷ u) (decimal (d ∷ u))
 
 -- "Strings stand in `'` or `"`, hold no raw LF or CR, and know the escapes `\\ \' \" \n \r \t` only.": the text after the opening quote q up to and with the closing
--- one, and the bytes that it stands for (92 is the backslash)
+-- one, and the bytes that it means (92 is the backslash)
 pub data Quoted (q : ℕ) : List ℕ → List ℕ → Type 0 where
   closed : Quoted q (q ∷ []) []
-  -- a byte that stands for itself: not the quote, a backslash, LF or CR
+  -- a byte that means itself: not the quote, a backslash, LF or CR
   raw : {b : ℕ} {u w : List ℕ} → eqb b q ≡ false → eqb b 92 ≡ false → isBreak b ≡ false → Quoted q u w → Quoted q (b ∷ u) (b ∷ w)
   -- a backslash and one of the six letters
   escaped : {b : ℕ} {u w : List ℕ} → isEscape b ≡ true → Quoted q u w → Quoted q (92 ∷ b ∷ u) (unescape b ∷ w)

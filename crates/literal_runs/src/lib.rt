@@ -1,4 +1,4 @@
-// Finds the end of a run of plain bytes in a string: those that stand for themselves, so not the quote, a backslash, LF or CR.
+// Finds the end of a run of plain bytes in a string: those that are copied as they are, so not the quote, a backslash, LF or CR.
 // Called by literal_tokens and literal_decode. `quote` is the string's quote.
 ghost use mathlib.Core.Path.{_≡_};
 ghost use mathlib.Core.Bool.{cond, _&&_};

@@ -1,4 +1,4 @@
--- Where a value stands in the text.
+-- Where a value is in the text.
 use Rattle.literal_tokens.specs.Node.{Span, Node, string, integer, True, False, None, list, tuple, dict}
 
 -- the place of a value in the text

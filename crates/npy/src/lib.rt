@@ -1,6 +1,6 @@
-// The C interface (include/npy.h): each function is one of the crates below, its answer as numbers. It returns 0 and writes its values, or returns document 01's number and
-// leaves all that it was lent as it was. Orders, versions and types are given by their numbers, and any number is an input. (A refusal::Refusal is returned as its number; a
-// type has a type_letters::Endianness, a type_letters::TypeChar and a type_units::TimeUnits.)
+// The C interface (include/npy.h): each function calls one function of the crates below and returns its answer as numbers. Called from C, and by run_npy, run_header and claims.
+// It returns 0 and writes its values, or returns document 01's number and leaves all that it was lent as it was. Orders, versions and types are given by their numbers, and any
+// number is an input. (A refusal::Refusal is returned as its number; a type has a type_letters::Endianness, a type_letters::TypeChar and a type_units::TimeUnits.)
 use counts::Bytes;
 use header_prefix::Version;
 use npy_codes::OrderGiven;
@@ -35,7 +35,7 @@ pub extern "C" fn npy_read(
     npy_codes::tell_header(header::read(file, table, names, shape), said)
 }
 
-// The same of a file of which only the first bytes are held: `longer` if it has more.
+// The same for a file of which only the first bytes are held: `longer` if it has more.
 #[no_mangle]
 pub extern "C" fn npy_read_held(
     file: &[u8],
@@ -190,7 +190,7 @@ pub extern "C" fn npy_item_number(
     }
 }
 
-// The place of an index and a path in a file of so many bytes; `run` is its first byte, how many, and the type's four numbers.
+// The place of an index and a path in a file of `file` bytes; `run` is its first byte, how many, and the type's four numbers.
 #[no_mangle]
 pub extern "C" fn npy_place(
     file: u64,
@@ -223,7 +223,7 @@ pub extern "C" fn npy_place(
     }
 }
 
-// The element S or V at its place in a file, at the front of `out`; `count` is how many bytes are left of it.
+// The element S or V at its place in a file, at the front of `out`; `count` is how many bytes were written.
 #[no_mangle]
 pub extern "C" fn npy_element_bytes(
     file: &[u8],
@@ -248,7 +248,7 @@ pub extern "C" fn npy_element_bytes(
     }
 }
 
-// The element U at its place in a file, at the front of `out`; `count` is how many code points are left of it.
+// The element U at its place in a file, at the front of `out`; `count` is how many code points were written.
 #[no_mangle]
 pub extern "C" fn npy_element_points(
     file: &[u8],
@@ -273,7 +273,7 @@ pub extern "C" fn npy_element_points(
     }
 }
 
-// An element S or V in a run of bytes, and an element U.
+// The element S or V in a run of bytes, at the front of `out`; `count` is how many bytes were written.
 #[no_mangle]
 pub extern "C" fn npy_read_bytes(
     run: &[u8],
@@ -292,6 +292,7 @@ pub extern "C" fn npy_read_bytes(
     }
 }
 
+// The element U in a run of bytes, at the front of `out`; `count` is how many code points were written.
 #[no_mangle]
 pub extern "C" fn npy_read_points(
     run: &[u8],
@@ -313,7 +314,7 @@ pub extern "C" fn npy_read_points(
     }
 }
 
-// The run of an element S or V, and of an element U, at the front of `out`; `count` is its length in bytes.
+// The run of an element S or V, at the front of `out`; `count` is its length in bytes.
 #[no_mangle]
 pub extern "C" fn npy_write_bytes(
     order: u64,
@@ -335,6 +336,7 @@ pub extern "C" fn npy_write_bytes(
     }
 }
 
+// The run of an element U, at the front of `out`; `count` is its length in bytes.
 #[no_mangle]
 pub extern "C" fn npy_write_points(
     order: u64,

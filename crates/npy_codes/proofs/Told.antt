@@ -1,4 +1,4 @@
--- An answer as C gets it: once a pattern has found which answer it is, what it stands for gives the code and the values. And the values of a type, a place and a checked
+-- An answer as C gets it: once a pattern has found which answer it is, what it means gives the code and the values. And the values of a type, a place and a checked
 -- record, number by number.
 use Prim.Native.Nat.{ℕ}
 use mathlib.Core.Path.{_≡_, sym, ap, _∙_}

@@ -1,4 +1,4 @@
--- What the answers of `order_for` and `version_for` stand for: the value, or the number of the refusal.
+-- What the answers of `order_for` and `version_for` mean: the value, or the number of the refusal.
 use Rattle.counts.specs.Outcome.{Outcome, gives, refused}
 use Rattle.refusal.specs.Numbers.{numberOf}
 use Rattle.dtype.specs.declared.Order.{Order}

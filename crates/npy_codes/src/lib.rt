@@ -84,7 +84,7 @@ pub fn type_for(order: u64, letter: u64, size: u64, units: u64) -> TypeRead
     }
 }
 
-// A number of items, or an item's number.
+// Writes a number of items, or an item's number, to `said` and returns 0, or returns the refusal's number.
 pub fn tell_items(a: ItemsAnswer, said: &mut [u64; 1]) -> u8
     ensures { λ r. ⌜ Tells alone (itemsAnswer a) (now (said .entry)) r (now (said .exit)) ⌝ }
 {
@@ -97,7 +97,7 @@ pub fn tell_items(a: ItemsAnswer, said: &mut [u64; 1]) -> u8
     }
 }
 
-// A number of bytes.
+// Writes a number of bytes to `said` and returns 0, or returns the refusal's number.
 pub fn tell_bytes(a: BytesAnswer, said: &mut [u64; 1]) -> u8
     ensures { λ r. ⌜ Tells alone (bytesAnswer a) (now (said .entry)) r (now (said .exit)) ⌝ }
 {
@@ -110,7 +110,7 @@ pub fn tell_bytes(a: BytesAnswer, said: &mut [u64; 1]) -> u8
     }
 }
 
-// A number of code points.
+// Writes a number of code points to `said` and returns 0, or returns the refusal's number.
 pub fn tell_points(a: PointsAnswer, said: &mut [u64; 1]) -> u8
     ensures { λ r. ⌜ Tells alone (pointsAnswer a) (now (said .entry)) r (now (said .exit)) ⌝ }
 {
@@ -123,7 +123,7 @@ pub fn tell_points(a: PointsAnswer, said: &mut [u64; 1]) -> u8
     }
 }
 
-// A type: its four numbers.
+// Writes the four numbers of a type to `said` and returns 0, or returns the refusal's number.
 pub fn tell_type(a: TypeRead, said: &mut [u64; 4]) -> u8
     ensures { λ r. ⌜ Tells typeValues (typed.answer a) (now (said .entry)) r (now (said .exit)) ⌝ }
 {
@@ -137,7 +137,7 @@ pub fn tell_type(a: TypeRead, said: &mut [u64; 4]) -> u8
     }
 }
 
-// The record of a header's text: order, rank, entries, name bytes.
+// Writes order, rank, entries and name bytes of the record of a header's text to `said` and returns 0, or returns the refusal's number.
 pub fn tell_text(a: TextRead, said: &mut [u64; 4]) -> u8
     ensures { λ r. ⌜ Tells textValues (header.textAnswer a) (now (said .entry)) r (now (said .exit)) ⌝ }
 {
@@ -165,7 +165,7 @@ fn order_number(order: Order) -> u64
     }
 }
 
-// A header: its version, what `tell_text` writes of its record, where the data starts.
+// Writes a header's version, what `tell_text` writes of its record, and where the data starts to `said` and returns 0, or returns the refusal's number.
 pub fn tell_header(a: HeaderRead, said: &mut [u64; 6]) -> u8
     ensures { λ r. ⌜ Tells headerValues (header.answer a) (now (said .entry)) r (now (said .exit)) ⌝ }
 {
@@ -195,7 +195,7 @@ fn put_header(h: Header, said: &mut [u64; 6])
     ];
 }
 
-// A record that was checked: rank, entries, 1 and the item size or 0 and 0, item count.
+// Writes rank, entries, 1 and the item size or 0 and 0, and the item count of a record that was checked to `said` and returns 0, or returns the refusal's number.
 pub fn tell_checked(a: Checked, said: &mut [u64; 5]) -> u8
     ensures { λ r. ⌜ Tells summaryValues (checked.answer a) (now (said .entry)) r (now (said .exit)) ⌝ }
 {
@@ -225,7 +225,7 @@ fn put_summary(s: Summary, said: &mut [u64; 5])
     }
 }
 
-// A place: its first byte, how many, the four numbers of its type.
+// Writes a place's first byte, how many bytes it has, and the four numbers of its type to `said` and returns 0, or returns the refusal's number.
 pub fn tell_place(a: Placed, said: &mut [u64; 6]) -> u8
     ensures { λ r. ⌜ Tells runValues (placed.answer a) (now (said .entry)) r (now (said .exit)) ⌝ }
 {

@@ -3,7 +3,7 @@ use counts::Bytes;
 use libc::STDIN_FILENO;
 use libc::STDOUT_FILENO;
 
-// One byte more than is held shows whether the file is longer: so many first bytes give the text of the whole file (`front-reports` in list_file/proofs/Enough.antt).
+// One byte more than is held shows whether the file is longer: the first `HELD + 1` bytes give the text of the whole file (`front-reports` in list_file/proofs/Enough.antt).
 // The room is enough for every text (`report-fits`), so 28 is never printed.
 fn main() {
     let mut file = [0u8; list_file::HELD + 1];

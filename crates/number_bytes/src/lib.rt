@@ -31,6 +31,7 @@ fn byte_in(run: &[u8], order: Endianness, k: usize) -> u8
     ensures { λ r. ⌜ r ≡ getD (leastFirst order (now (run .entry))) k 0 ⌝ }
 {
     if run.len() <= k {
+        // not reached by the only caller: k is below the run's length
         return 0;
     }
     match order {
@@ -64,6 +65,7 @@ fn byte_out(order: Endianness, width: u8, n: u64, i: u8) -> u8
     ensures { λ r. ⌜ r ≡ getD (outOrder order width n) i 0 ⌝ }
 {
     if width <= i {
+        // not reached by the only caller: i is below the width
         return 0;
     }
     match order {

@@ -91,6 +91,7 @@ fn in_record(
             let which = item.which;
             let size = item.size;
             let ByteCount::Is(first) = place_area::first_byte(start, which, size, run.first) else {
+                // not reached: the place is inside the file, which has at most 2^64-1 bytes
                 return Placed::Refused(Refusal::Nowhere);
             };
             let len = run.len;

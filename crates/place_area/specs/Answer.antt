@@ -1,4 +1,4 @@
--- What each answer of `item` stands for: document 01's number, or the item. No two answers stand for the same (proofs/Outcomes.antt).
+-- What each answer of `item` means: document 01's number, or the item. No two answers mean the same (proofs/Outcomes.antt).
 use Rattle.counts.specs.Outcome.{Outcome, gives, refused}
 use Rattle.refusal.specs.Numbers.{numberOf}
 use Rattle.place_area.specs.declared.Numbered.{Numbered}

@@ -1,4 +1,4 @@
-// The data area of a file (document 01, "The record"): the item that an index names there, or 24, 25, then 13, 22, 26 of its number; the first byte of what an item has at an offset; and the bytes
+// The data area of a file (document 01, "The record"): the item that an index names there, or 24, 25, then 13, 22, 26 of its number; where a part of an item starts; and the bytes
 // of a place. Called by place, which gives it a checked record's size, count and shape, so that only 26 is left of the three; and by element.
 use check_record::ItemSize;
 use counts::ByteCount;

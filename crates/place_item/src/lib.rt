@@ -29,6 +29,7 @@ pub fn item_number(shape: &[u64], order: Order, index: &[u64]) -> ItemsAnswer
     }
     match sum_of_products(index, &strides) {
         ItemCount::Is(number) => ItemsAnswer::Is(number),
+        // not reached: the number of an item in range is below the item count
         ItemCount::Over => ItemsAnswer::Refused(Refusal::Nowhere),
     }
 }
@@ -41,13 +42,16 @@ fn sum_of_products(index: &[u64], strides: &[u64]) -> ItemCount
     let mut k: usize = 0;
     while k < index.len() {
         if strides.len() <= k {
+            // not reached by the only caller: it has room for 32 strides, and an index of at most 32 numbers
             return ItemCount::Is(sum);
         }
         let stride = Items(strides[k]);
         let ItemCount::Is(more) = stride.times(index[k]) else {
+            // not reached by the only caller: the index is in range
             return ItemCount::Over;
         };
         let ItemCount::Is(next) = sum.plus(more) else {
+            // not reached by the only caller: the index is in range
             return ItemCount::Over;
         };
         sum = next;

@@ -59,6 +59,7 @@ fn at_most(run: &[u8], most: usize) -> usize
     ensures { λ r. ⌜ r ≤ most ⌝ }
 {
     let Number::Is(n) = number_bytes::read(run, Endianness::Little) else {
+        // not reached by the only caller: the number in four bytes is below 2^32
         return most;
     };
     least(n, most)

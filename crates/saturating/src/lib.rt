@@ -1,4 +1,4 @@
-// Sizes in bytes as an entry of the dtype table holds them: 2^64-1 where they are larger. The table itself holds them as numbers.
+// Sizes in bytes as an entry of the dtype table holds them: 2^64-1 where they are larger.
 // Called by the crates that fill a table (table_entry, table_fill, header) and by check_table, which checks one.
 use counts::Bytes;
 use counts::Items;

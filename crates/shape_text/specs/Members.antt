@@ -20,7 +20,7 @@ use Rattle.refusal.specs.declared.Refusal.{Refusal}
 use Rattle.shape_verdict.specs.Answer.{sized}
 use Rattle.shape_verdict.specs.Signs.{positiveOf, negativeOf}
 
--- the closing bracket of a list or a tuple, by the kind of its first byte, or 0
+-- the closing bracket of a list (93 is `]`) or a tuple (41 is `)`), by the kind of its first byte, or 0
 abbrev pub closingOf : ValueKind → ℕ
 closingOf Square = 93
 closingOf Round = 41
@@ -37,6 +37,6 @@ closingOf Other = 0
 abbrev pub SizeAt : List ℕ → ℕ → Member → Type 0
 SizeAt s at r = (k : ℕ) (n : Node) (e : ℕ) → value k s at ≡ got n e → sized r ≡ dimension (forget n)
 
--- the dimension that the digits at a position are, or those after a `-`; any other byte begins none
+-- the dimension that the digits at a position are, or those after a `-` (45); any other byte begins none
 abbrev pub memberAt : List ℕ → ℕ → Member
 memberAt s at = cond (isDigit (byteAt s at)) (positiveOf (numeralAt s at .number)) (cond (eqb (byteAt s at) 45) (negativeOf (numeralAt s (at + 1) .number)) (Member.Refused Refusal.NotShape))

@@ -206,6 +206,7 @@ fn shut(g: Gap, verdict: ShapeVerdict) -> ShapeJudged
             ended: Parsed::Value(e),
             verdict: verdict,
         },
+        // not reached by its callers: they read the member there
         Gap::Item(p) => ShapeJudged {
             ended: Parsed::Fault(p),
             verdict: ShapeVerdict::Refused(Refusal::NotShape),
@@ -223,8 +224,8 @@ pub struct DimsStored {
     pub stop: Gap,
 }
 
-// Writes the dimensions of the shape at `at` to the front of `out`, as many as have room there, and returns how many they are and where the shape ends. Of a list or tuple
-// that is no shape these are the members before the first that is no dimension, and they stop there. Of anything else there are none, and they stop at `at`.
+// Writes the dimensions of the shape at `at` to the front of `out`, as many as have room there, and returns how many there are and where the shape ends. In a list or tuple
+// that is not a shape it stops at the first member that is not a dimension; for anything else there are none, and it stops at `at`.
 pub fn fill(text: &[u8], at: usize, room: usize, out: &mut [u64]) -> DimsStored
     ensures { λ r. ⌜ Stored (frontAt room (now (text .entry)) at) (stopAt room (now (text .entry)) at) (now (out .entry)) r (now (out .exit)) ⌝ }
 {

@@ -152,7 +152,7 @@ fn extended(o: Outline, n: u64) -> Outline
     }
 }
 
-// The next rank; 2^64-1 stays as it is, but no text has so many dimensions.
+// The rank plus 1, capped at 2^64-1, which no text reaches.
 fn next(rank: usize) -> usize
     ensures { λ r. ⌜ r ≡ capped (rank + 1) ⌝ }
 {

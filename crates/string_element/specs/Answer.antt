@@ -1,4 +1,4 @@
--- What four bytes stand for: a code point, or 29. The other answers of this crate are counts (refusal/specs/Answers.antt). No two answers stand for the same
+-- What four bytes mean: a code point, or 29. The other answers of this crate are counts (refusal/specs/Answers.antt). No two answers mean the same
 -- (proofs/Outcomes.antt).
 use Prim.Native.Nat.{ℕ}
 use Rattle.counts.specs.Outcome.{Outcome, gives, refused}

@@ -1,5 +1,5 @@
-// String elements (document 01, "String elements"): the run of one element and its type in, what it stands for out to lent room, and back. The run is all the bytes of the
-// element, as its place in a file gives them. Called by the crate element and by the C interface.
+// Reads the value of a string element from its bytes into lent room, and writes one (document 01, "String elements"). The run is all the bytes of the element, as its place in a
+// file gives them. Called by the crate element and by the C interface.
 use counts::ByteCount;
 use counts::Bytes;
 use counts::Number;
@@ -115,6 +115,7 @@ pub fn point_at(run: &[u8], order: Endianness, at: usize) -> PointRead
     }
     let end = at + 4;
     let Number::Is(n) = number_bytes::read(&run[at..end], order) else {
+        // not reached: the number in four bytes is below 2^32
         return PointRead::BadScalar;
     };
     if n > 0x10FFFF {
@@ -137,6 +138,7 @@ fn copy_points(run: &[u8], order: Endianness, n: Points, out: &mut [u32]) -> Poi
     let mut i: usize = 0;
     while i < count {
         let PointRead::Scalar(p) = point_at(run, order, at) else {
+            // not reached: the run was judged
             return PointsAnswer::Refused(Refusal::Scalar);
         };
         out[i] = p;
@@ -173,7 +175,7 @@ pub fn write_bytes(t: TypeStr, value: &[u8], out: &mut [u8]) -> BytesAnswer
     }
 }
 
-// Writes a value that fits, filled up with zeros, and returns its size; or 28. Nothing is written unless all of it has room, so the loop never runs over a size that has none.
+// Writes a value that fits, filled up with zeros, and returns its size; or 28. Nothing is written unless all of it has room, so the loop runs over no more bytes than the room has.
 fn place_bytes(size: Bytes, value: &[u8], out: &mut [u8]) -> BytesAnswer
     requires { ⌜ length (now value) ≤ size .0 ⌝ }
     ensures { λ r. ⌜ Owes (roomed 28 (now (out .entry)) (zeroFilled (size .0) (now (value .entry)))) (now (out .entry)) (bytesAnswer r) (now (out .exit)) ⌝ }

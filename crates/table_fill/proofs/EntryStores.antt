@@ -27,7 +27,7 @@ part-sets l zero xs = refl
 part-sets [] (suc k) xs = sym (sets-nothing 0 xs) ∙ sets-nothing (suc k) xs
 part-sets (y ∷ l) (suc k) xs = ap (λ (r : List ℕ). y ∷ r) (part-sets l k xs) ∙ shift y l k xs
 
--- the same of the part up to the end, put back in its place
+-- the same for the part up to the end, put back in its place
 pub part-stored : (l : List ℕ) (k : ℕ) (xs : List ℕ) → k ≤ length l → putMid k (length l - k) l (sets (midOf k (length l - k) l) 0 xs) ≡ sets l k xs
 part-stored l k xs le =
     let n = length-drop k l in

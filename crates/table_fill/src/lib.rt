@@ -98,6 +98,7 @@ pub fn type_of(r: TypeRead) -> TypeStr
 {
     match r {
         TypeRead::Read(t) => t,
+        // not reached by the only caller, header: its text was judged
         TypeRead::Refused(_) => no_type(),
     }
 }

@@ -59,6 +59,7 @@ impl TimeUnits {
         ensures { λ r. ⌜ r ≡ getD (unitName self) 0 0 ⌝ }
     {
         match self {
+            // not reached by the only caller: it puts nothing for absent units
             TimeUnits::Absent => 0,
             TimeUnits::Year => b'Y',
             TimeUnits::Month => b'M',

@@ -38,7 +38,7 @@ fn is_ascii(s: &[u8]) -> bool
     true
 }
 
-// Puts the dict's text and returns the place after it. It is called once the text was measured, so it is not refused; where it is, nothing is put.
+// Puts the dict's text and returns the place after it. Where it is refused, nothing is put.
 fn put_text(
     table: &[u64],
     names: &[u8],
@@ -50,12 +50,13 @@ fn put_text(
     ensures { λ r. ⌜ ((x : Record) → printable (now (table .entry)) (now (names .entry)) (now (shape .entry)) order ≡ gives x → Emits (print (headerLayout x)) (now (out .entry)) at (now (out .exit)) r) ⌝ }
 {
     let Printed::End(end) = write_text::put_text(table, names, shape, order, out, at) else {
+        // not reached by the only caller: the same text was measured before
         return at;
     };
     end
 }
 
-// Puts the whole header at the front of room that is long enough.
+// Puts the whole header at the front of room that is long enough (10 is LF).
 fn put_header(
     plan: PaddingPlan,
     table: &[u64],

@@ -21,7 +21,7 @@ ghost use Rattle.write_depth.specs.Printable.{printable};
 // How many brackets may be open at once inside the dict's own.
 const IN_DICT: u64 = literal_grammar::OPEN as u64 - 1;
 
-// What check_record says of the record, and then 7.
+// The check of check_record, and then 7.
 pub fn check(table: &[u64], names: &[u8], shape: &[u64], order: Order) -> Checked
     ensures { λ r. ⌜ answer r ≡ each summary (printable (now (table .entry)) (now (names .entry)) (now (shape .entry)) order) ⌝ }
 {
@@ -66,7 +66,7 @@ fn within(table: &[u64], e: usize, k: u64) -> bool
     fields_within(table, entry.number, under + 1, k - 1)
 }
 
-// The same of so many fields, the first at entry e.
+// The same for `count` fields, the first at entry e.
 fn fields_within(table: &[u64], count: u64, e: usize, k: u64) -> bool
     requires { ⌜ ((fs : Fields) × (count ≡ fieldCount fs) × ListedIn (now table) e fs) ⌝ }
     ensures { λ r. ⌜ ((fs : Fields) → count ≡ fieldCount fs → ListedIn (now (table .entry)) e fs → r ≡ allWithin (valuesOf (fieldRow fs)) k) ⌝ }

@@ -112,7 +112,7 @@ fn put_spaces(out: &mut [u8], at: usize, n: usize) -> usize
     p
 }
 
-// Puts what comes after a text: n spaces and one LF.
+// Puts what comes after a text: n spaces and one LF (10).
 pub fn put_padding(out: &mut [u8], at: usize, n: usize) -> usize
     ensures { λ r. ⌜ Emits (λ z. spaces n (10 ∷ z)) (now (out .entry)) at (now (out .exit)) r ⌝ }
 {

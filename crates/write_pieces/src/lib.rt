@@ -112,7 +112,7 @@ pub fn open_field(out: &mut [u8], at: usize, name: &[u8]) -> usize
     emit::put_bytes(out, after_name, b", ")
 }
 
-// Puts a dimension and its comma.
+// Puts a dimension and its comma (44).
 fn put_dimension(out: &mut [u8], at: usize, n: u64) -> usize
     ensures { λ r. ⌜ Emits (λ x. printed n (44 ∷ x)) (now (out .entry)) at (now (out .exit)) r ⌝ }
 {

@@ -130,7 +130,7 @@ field-text : (name : List ℕ) (l : Layout) (s z : List ℕ)
 field-text name l [] z = refl
 field-text name l (n ∷ s) z = refl
 
--- what is left of the fields, and where they stand
+-- what is left of the fields, and where they are
 pub record Going (t ns : List ℕ) (e b : ℕ) (old : List ℕ) (at : ℕ) (out : List ℕ) (c start p left : ℕ) (fs : Fields) : Type 0 where
   pub still : Fields
   pub stands : ListedNamedIn t ns c start still

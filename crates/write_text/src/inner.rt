@@ -44,7 +44,7 @@ fn put_descr(table: &[u64], names: &[u8], e: usize, b: usize, out: &mut [u8], at
     }
 }
 
-// Puts so many fields, the first at entry e; their names begin at byte b.
+// Puts `count` fields, the first at entry e; their names begin at byte b.
 fn put_fields(
     table: &[u64],
     names: &[u8],
