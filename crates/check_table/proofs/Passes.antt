@@ -13,7 +13,8 @@ use Rattle.utf8.specs.Decode.{utf8, scan}
 use Rattle.dtype.specs.declared.Entry.{Entry}
 use Rattle.dtype.specs.Dtype.{Dtype, plain, array, record-of}
 use Rattle.dtype.specs.Entries.{entriesOf}
-use Rattle.dtype.specs.Flat.{kindColumn, entry-width}
+use Rattle.dtype.specs.Flat.{entry-width}
+use Rattle.dtype.specs.EntryOf.{kindColumn}
 use Rattle.dtype.specs.Record.{table, names, unflat, tableOf}
 use Rattle.dtype.specs.Agrees.{entryAt}
 use Rattle.dtype.proofs.Record.{tableOf-right, tableOf-these}

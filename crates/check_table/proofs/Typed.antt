@@ -11,7 +11,8 @@ use Rattle.type_str.specs.Text.{isType}
 use Rattle.type_str.specs.declared.TypeStr.{TypeStr}
 use Rattle.dtype.specs.Dtype.{Dtype, plain, array, record-of}
 use Rattle.dtype.specs.Entries.{entriesOf, plainOnly}
-use Rattle.dtype.specs.Flat.{entryOf, entry-width, flat}
+use Rattle.dtype.specs.Flat.{entry-width, flat}
+use Rattle.dtype.specs.EntryOf.{entryOf}
 use Rattle.dtype.specs.Record.{table}
 use Rattle.dtype.specs.Agrees.{entryAt}
 use Rattle.dtype.specs.Seen.{someFrom}

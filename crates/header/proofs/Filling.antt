@@ -19,7 +19,8 @@ use Rattle.dtype.specs.Names.{nameBytes, nameBytesIn, namesOf, namesIn}
 use Rattle.counts.specs.Number.{capped}
 use Rattle.counts.proofs.Alike.{false-true}
 use Rattle.counts.proofs.Apart.{refused-gives}
-use Rattle.dtype.specs.Flat.{entry-width, entryOf, numbers, flat, flats}
+use Rattle.dtype.specs.Flat.{entry-width, flat, flats}
+use Rattle.dtype.specs.EntryOf.{entryOf, numbers}
 use Rattle.dtype.proofs.Flat.{some-entry, flat-length, names-length}
 use Rattle.type_str.specs.declared.TypeStr.{TypeStr}
 use Rattle.type_str.specs.Answer.{answer}

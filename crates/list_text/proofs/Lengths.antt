@@ -20,7 +20,8 @@ use Rattle.dtype.specs.declared.Entry.{Entry}
 use Rattle.dtype.specs.Dtype.{Dtype, Fields, plain, array, record-of, end-of-fields, field-then, sizeOf}
 use Rattle.dtype.specs.Entries.{fieldCount, entriesOf, entriesIn, hasObject}
 use Rattle.dtype.specs.Names.{nameBytes, nameBytesIn}
-use Rattle.dtype.specs.Flat.{entry-width, numberColumn, flat, flats}
+use Rattle.dtype.specs.Flat.{entry-width, flat, flats}
+use Rattle.dtype.specs.EntryOf.{numberColumn}
 use Rattle.dtype.specs.Shape.{product, strides}
 use Rattle.dtype.specs.Record.{Record, table, names}
 use Rattle.dtype.specs.Limits.{over, overDimensions, overLevels, overEntries, overSize, someOver, anyOver, overShape, limited}

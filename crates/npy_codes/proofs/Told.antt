@@ -7,7 +7,7 @@ use Rattle.counts.specs.Outcome.{Outcome, gives, refused, afterwards}
 use Rattle.type_str.specs.declared.TypeStr.{TypeStr}
 use Rattle.dtype.specs.declared.Entry.{Entry}
 use Rattle.dtype.specs.Dtype.{plain}
-use Rattle.dtype.specs.Flat.{entryOf}
+use Rattle.dtype.specs.EntryOf.{entryOf}
 use Rattle.npy_codes.specs.Codes.{code, Tells}
 use Rattle.check_record.specs.declared.ItemSize.{ItemSize}
 use Rattle.check_record.specs.declared.Summary.{Summary}

@@ -21,7 +21,8 @@ use Rattle.type_str.specs.Text.{isType}
 use Rattle.dtype.specs.declared.Entry.{Entry}
 use Rattle.dtype.specs.Dtype.{Dtype, Fields, plain, array, record-of, end-of-fields, field-then, sizeOf}
 use Rattle.dtype.specs.Entries.{fieldCount, entriesOf, someEntry, someEntryIn, plainOnly}
-use Rattle.dtype.specs.Flat.{entryOf, entry-width}
+use Rattle.dtype.specs.Flat.{entry-width}
+use Rattle.dtype.specs.EntryOf.{entryOf}
 use Rattle.dtype.specs.Record.{table}
 use Rattle.dtype.specs.Limits.{someOver}
 use Rattle.dtype.specs.Paths.{plainAt, plainOf, offset}

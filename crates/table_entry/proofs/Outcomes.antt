@@ -12,7 +12,7 @@ use Rattle.table_entry.specs.EntryType.{typeOf}
 use Rattle.table_entry.specs.Answer.{typeAnswer}
 use Rattle.table_entry.specs.declared.EntryType.{EntryType}
 use Rattle.dtype.specs.Dtype.{plain}
-use Rattle.dtype.specs.Flat.{entryOf}
+use Rattle.dtype.specs.EntryOf.{entryOf}
 
 type-back : Outcome TypeStr → EntryType
 type-back (gives t) = EntryType.Type t

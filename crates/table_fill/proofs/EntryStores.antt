@@ -11,7 +11,8 @@ pub use Rattle.table_fill.proofs.Stores.{sets-append}
 use Rattle.dtype.specs.Dtype.{Dtype, Fields, plain, array, record-of, end-of-fields, field-then}
 use Rattle.dtype.specs.Entries.{entriesOf}
 use Rattle.dtype.specs.Names.{namesOf, namesIn}
-use Rattle.dtype.specs.Flat.{entryOf, numbers, flat, flats}
+use Rattle.dtype.specs.Flat.{flat, flats}
+use Rattle.dtype.specs.EntryOf.{entryOf, numbers}
 
 -- a store in a part, seen from the whole
 shift : (y : ℕ) (l : List ℕ) (k : ℕ) (xs : List ℕ) → y ∷ sets l k xs ≡ sets (y ∷ l) (suc k) xs

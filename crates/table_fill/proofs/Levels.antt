@@ -13,7 +13,8 @@ use Rattle.dtype.specs.declared.Entry.{Entry}
 use Rattle.dtype.specs.Dtype.{Dtype, array, sizeOf}
 use Rattle.dtype.specs.Entries.{entriesOf}
 use Rattle.counts.specs.Number.{capped}
-use Rattle.dtype.specs.Flat.{entry-width, entryOf, numbers, flat}
+use Rattle.dtype.specs.Flat.{entry-width, flat}
+use Rattle.dtype.specs.EntryOf.{entryOf, numbers}
 use Rattle.dtype.proofs.Whole.{capped-times}
 use Rattle.record.specs.Descr.{arrays}
 use Rattle.table_fill.specs.Written.{put, bare, upOf, nameOf, sizeOver, levelled}

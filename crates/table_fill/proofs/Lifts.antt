@@ -12,7 +12,8 @@ use borrow.Author.Tests.{lt-ltb, le-ltb, eq-eqb, ne-eqb}
 use Rattle.dtype.specs.Dtype.{Dtype, Fields, plain, array, record-of, end-of-fields, field-then}
 use Rattle.dtype.specs.Entries.{entriesOf, entriesIn}
 use Rattle.counts.specs.Number.{capped}
-use Rattle.dtype.specs.Flat.{entry-width, entryOf, numbers, flat, flats}
+use Rattle.dtype.specs.Flat.{entry-width, flat, flats}
+use Rattle.dtype.specs.EntryOf.{entryOf, numbers}
 use Rattle.table_fill.specs.Lifted.{movedNumber, movedFrom, movedOn, relinked, lifted}
 use Rattle.table_fill.proofs.Stores.{set-sets, getD-sets, sets-over}
 

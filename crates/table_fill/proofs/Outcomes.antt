@@ -11,7 +11,7 @@ use Rattle.dtype.specs.Dtype.{plain, sizeOf}
 use Rattle.counts.specs.Number.{capped}
 use Rattle.counts.specs.Counts.{asBytes}
 use Rattle.counts.specs.declared.Bytes.{Bytes}
-use Rattle.dtype.specs.Flat.{entryOf}
+use Rattle.dtype.specs.EntryOf.{entryOf}
 use Rattle.table_fill.specs.Written.{typeIn, put, bare, sizeOver, above}
 
 pub lift-one : (table : List ℕ) (entry count by : ℕ) → OneOutcome {A = List ℕ} (λ l. l ≡ lifted table entry count by)

@@ -14,7 +14,8 @@ use Rattle.type_str.specs.declared.TypeStr.{TypeStr}
 use Rattle.type_str.specs.declared.TypeRead.{TypeRead}
 use Rattle.dtype.specs.declared.Entry.{Entry}
 use Rattle.counts.specs.Number.{capped}
-use Rattle.dtype.specs.Flat.{entry-width, numbers}
+use Rattle.dtype.specs.Flat.{entry-width}
+use Rattle.dtype.specs.EntryOf.{numbers}
 use Rattle.table_fill.specs.Lifted.{lifted}
 
 -- a placeholder where no type was read

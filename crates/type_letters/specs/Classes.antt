@@ -5,18 +5,17 @@ use lib.Dec.{eqb}
 use Rattle.type_letters.specs.Letters.{letterByte}
 use Rattle.type_letters.specs.declared.TypeChar.{TypeChar}
 
--- whether the letter with this byte is `O`
-abbrev pub isObjectByte : ℕ → Bool
-isObjectByte b = eqb b 79
-
 -- whether the letter is `O`
 abbrev pub isObject : TypeChar → Bool
-isObject l = isObjectByte (letterByte l)
-
--- whether the letter with this byte is `U`
-abbrev pub isUnicodeByte : ℕ → Bool
-isUnicodeByte b = eqb b 85
+isObject l = eqb (letterByte l) 79
 
 -- whether the letter is `U`
 abbrev pub isUnicode : TypeChar → Bool
-isUnicode l = isUnicodeByte (letterByte l)
+isUnicode l = eqb (letterByte l) 85
+
+-- the same of a byte, for the letters of entries that are read from a table
+abbrev pub isObjectByte : ℕ → Bool
+isObjectByte b = eqb b 79
+
+abbrev pub isUnicodeByte : ℕ → Bool
+isUnicodeByte b = eqb b 85

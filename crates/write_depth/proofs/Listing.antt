@@ -9,7 +9,8 @@ use Rattle.counts.proofs.Sides.{lt-or-ge}
 use Rattle.dtype.specs.declared.Entry.{Entry}
 use Rattle.dtype.specs.Dtype.{Dtype, Fields, plain, array, record-of, field-then}
 use Rattle.dtype.specs.Entries.{entriesOf}
-use Rattle.dtype.specs.Flat.{kindColumn, entryOf, entry-width, flats}
+use Rattle.dtype.specs.Flat.{entry-width, flats}
+use Rattle.dtype.specs.EntryOf.{kindColumn, entryOf}
 use Rattle.dtype.specs.Agrees.{entryAt}
 use Rattle.dtype.proofs.Flat.{some-entry, flat-length}
 use Rattle.dtype.proofs.Stands.{stands-entry, stands-below, stands-after}

@@ -11,7 +11,7 @@ use Rattle.literal_grammar.specs.Print.{Layout, valueOf, valuesOf}
 use Rattle.dtype.specs.declared.Entry.{Entry}
 use Rattle.dtype.specs.Dtype.{Dtype, Fields, plain, array, record-of, end-of-fields, field-then}
 use Rattle.dtype.specs.Entries.{fieldCount, entriesOf}
-use Rattle.dtype.specs.Flat.{entryOf, kindColumn}
+use Rattle.dtype.specs.EntryOf.{entryOf, kindColumn}
 use Rattle.dtype.specs.Agrees.{entryAt}
 use Rattle.dtype.proofs.Flat.{some-entry}
 use Rattle.record.specs.Layout.{dimensionRow, shapeLayout, levelsOf, fieldLayout, descrLayout, fieldRow}

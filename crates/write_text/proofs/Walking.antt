@@ -19,7 +19,7 @@ use Rattle.dtype.specs.declared.Entry.{Entry}
 use Rattle.dtype.specs.Dtype.{Dtype, Fields, plain, array, record-of, end-of-fields, field-then}
 use Rattle.dtype.specs.Entries.{fieldCount, entriesOf, entriesIn, someEntryIn, plainOnly}
 use Rattle.dtype.specs.Names.{namesOf, namesIn, nameBytes, nameBytesIn}
-use Rattle.dtype.specs.Flat.{entryOf}
+use Rattle.dtype.specs.EntryOf.{entryOf}
 use Rattle.dtype.specs.Agrees.{entryAt}
 use Rattle.dtype.proofs.Flat.{some-entry, names-drop, names-length}
 use Rattle.dtype.proofs.Seen.{or-left, or-right}
