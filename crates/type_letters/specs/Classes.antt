@@ -1,4 +1,5 @@
--- Document 01, "The record": "absent for `O` and needed otherwise", "4 times it for U": the two letters with rules of their own, by their bytes (79 is `O`, 85 `U`).
+-- Document 01, "The record": "absent for `O` and needed otherwise", "4 times it for U"; "String elements": S, U and V. The letters with rules of their own, by their bytes
+-- (79 is `O`, 83 `S`, 85 `U`, 86 `V`).
 use Prim.Native.Nat.{ℕ}
 use mathlib.Core.Bool.{Bool}
 use lib.Dec.{eqb}
@@ -20,3 +21,11 @@ isUnicodeByte b = eqb b 85
 -- whether the letter is `U`
 abbrev pub isUnicode : TypeChar → Bool
 isUnicode l = isUnicodeByte (letterByte l)
+
+-- whether the letter is `S`
+abbrev pub isBytes : TypeChar → Bool
+isBytes l = eqb (letterByte l) 83
+
+-- whether the letter is `V`
+abbrev pub isRaw : TypeChar → Bool
+isRaw l = eqb (letterByte l) 86
