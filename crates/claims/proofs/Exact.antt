@@ -46,6 +46,8 @@ use Rattle.place.specs.Place as place
 use Rattle.place.proofs.Placing.{place-given}
 use Rattle.counts.specs.Owes.{roomed, Owes}
 use Rattle.counts.proofs.Owes.{roomed-whole}
+use Rattle.string_value.specs.Elements.{bytesIn, pointsIn}
+use Rattle.string_value.specs.Runs.{bytesOut, pointsOut}
 use Rattle.string_value.specs.Rooms.{readBytes, readPoints, writeBytes, writePoints}
 use Rattle.element.specs.Bytes.{runBytes}
 use Rattle.element.specs.Element.{elementBytes, elementPoints}
@@ -54,7 +56,7 @@ use Rattle.npy_codes.specs.Codes.{alone}
 use Rattle.npy_codes.specs.Numbers.{orderNumber, orderFor, typeFor, typeValues, textValues, headerValues, runValues}
 use Rattle.npy.specs.Calls.{Puts}
 use Rattle.claims.specs.Doors.{Door, in-rattle, in-c}
-use Rattle.claims.specs.Exact.{In-text, In-file, Fits, Reads-exactly, Writable, Writes-exactly, Named, Element, bytes-within, points-within, Takes-exactly, By-itself, bytes-out, points-out, By-number, By-order, By-type, Exact, Exact-in-C}
+use Rattle.claims.specs.Exact.{In-text, In-file, Fits, Reads-exactly, Writable, Writes-exactly, Named, Element, Takes-exactly, By-itself, By-number, By-order, By-type, Exact, Exact-in-C}
 use Rattle.claims.proofs.Found.{order-named, order-back, type-for-values, values-for-type}
 use Rattle.claims.proofs.Printable.{printable-shallow, printable-short, shallow-printable}
 use Rattle.claims.proofs.Doors.{Fails, rattle-fails, c-fails, c-returned, exactly-by}
@@ -255,11 +257,11 @@ module _ (k : TypeStr) (given : Outcome (List ℕ)) (n : ℕ) (room : List ℕ) 
         fits = subst (λ (y : List ℕ). length y ≤ length room) same (ltb-false _ _ fits);
       }
 
-write-bytes-put : (k : TypeStr) (value room : List ℕ) → writeBytes k value room ≡ unless (not (isType k)) 27 (then (bytes-out k value) (roomed 28 room))
+write-bytes-put : (k : TypeStr) (value room : List ℕ) → writeBytes k value room ≡ unless (not (isType k)) 27 (then (bytesOut k value) (roomed 28 room))
 unfolding writeBytes
 write-bytes-put k value room = refl
 
-write-points-put : (k : TypeStr) (value room : List ℕ) → writePoints k value room ≡ unless (not (isType k)) 27 (then (points-out k value) (roomed 28 room))
+write-points-put : (k : TypeStr) (value room : List ℕ) → writePoints k value room ≡ unless (not (isType k)) 27 (then (pointsOut k value) (roomed 28 room))
 unfolding writePoints
 write-points-put k value room = refl
 
@@ -302,26 +304,26 @@ pub record Puts-due (put : Outcome (List ℕ)) (Due : List ℕ → Type 0) : Typ
   pub back : (c : List ℕ) → put ≡ gives c → Due c
 
 module _ (file : List ℕ) (start : ℕ) (t ns s : List ℕ) (x p out : List ℕ) (o : Order) where
-  element-bytes-due : Puts-due (elementBytes file start t ns s o x p out) (Element bytes-within file start t ns s o x p out)
+  element-bytes-due : Puts-due (elementBytes file start t ns s o x p out) (Element bytesIn file start t ns s o x p out)
   element-bytes-due =
       let is = bytes-after file start t ns s o x p out in
-      record { due = λ c d. is ∙ element-put bytes-within file start t ns s o x p out c d; back = λ c e. put-element bytes-within file start t ns s o x p out c (sym is ∙ e) }
+      record { due = λ c d. is ∙ element-put bytesIn file start t ns s o x p out c d; back = λ c e. put-element bytesIn file start t ns s o x p out c (sym is ∙ e) }
 
-  element-points-due : Puts-due (elementPoints file start t ns s o x p out) (Element points-within file start t ns s o x p out)
+  element-points-due : Puts-due (elementPoints file start t ns s o x p out) (Element pointsIn file start t ns s o x p out)
   element-points-due =
       let is = points-after file start t ns s o x p out in
-      record { due = λ c d. is ∙ element-put points-within file start t ns s o x p out c d; back = λ c e. put-element points-within file start t ns s o x p out c (sym is ∙ e) }
+      record { due = λ c d. is ∙ element-put pointsIn file start t ns s o x p out c d; back = λ c e. put-element pointsIn file start t ns s o x p out c (sym is ∙ e) }
 
 pub by-itself-due : (k : TypeStr) (given : Outcome (List ℕ)) (n : ℕ) (room : List ℕ) (put : Outcome (List ℕ)) → put ≡ unless (not (isType k)) 27 (then given (roomed n room))
     → Puts-due put (By-itself k given room)
 by-itself-due k given n room put is = record { due = λ c d. is ∙ by-itself-put k given n room c d; back = λ c e. put-by-itself k given n room c (sym is ∙ e) }
 
 module _ (out : List ℕ) (k : TypeStr) where
-  write-bytes-due : (value : List ℕ) → Puts-due (writeBytes k value out) (By-itself k (bytes-out k value) out)
-  write-bytes-due value = by-itself-due k (bytes-out k value) 28 out (writeBytes k value out) (write-bytes-put k value out)
+  write-bytes-due : (value : List ℕ) → Puts-due (writeBytes k value out) (By-itself k (bytesOut k value) out)
+  write-bytes-due value = by-itself-due k (bytesOut k value) 28 out (writeBytes k value out) (write-bytes-put k value out)
 
-  write-points-due : (value : List ℕ) → Puts-due (writePoints k value out) (By-itself k (points-out k value) out)
-  write-points-due value = by-itself-due k (points-out k value) 28 out (writePoints k value out) (write-points-put k value out)
+  write-points-due : (value : List ℕ) → Puts-due (writePoints k value out) (By-itself k (pointsOut k value) out)
+  write-points-due value = by-itself-due k (pointsOut k value) 28 out (writePoints k value out) (write-points-put k value out)
 
 pub takes-in-rattle : {put : Outcome (List ℕ)} {Due : List ℕ → Type 0} → Puts-due put Due → {room room′ : List ℕ} {y : Outcome ℕ} → Owes put room y room′
     → Takes-exactly in-rattle Due room y room′
@@ -392,7 +394,7 @@ exact-in-c =
       npy-element-points = λ file start t ns s order x p out.
           takes-by-order order _ (λ o. elementPoints file start t ns s o x p out) out (λ o. element-points-numbered file start t ns s o x p out) (element-points-due file start t ns s x p out);
       npy-write-bytes = λ order letter size units value out.
-          takes-by-type order letter size units (λ k. bytes-out k value) (λ k. writeBytes k value out) out (λ k. write-bytes-numbered k value out) (λ k. write-bytes-due out k value);
+          takes-by-type order letter size units (λ k. bytesOut k value) (λ k. writeBytes k value out) out (λ k. write-bytes-numbered k value out) (λ k. write-bytes-due out k value);
       npy-write-points = λ order letter size units value out.
-          takes-by-type order letter size units (λ k. points-out k value) (λ k. writePoints k value out) out (λ k. write-points-numbered k value out) (λ k. write-points-due out k value);
+          takes-by-type order letter size units (λ k. pointsOut k value) (λ k. writePoints k value out) out (λ k. write-points-numbered k value out) (λ k. write-points-due out k value);
     }

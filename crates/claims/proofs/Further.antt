@@ -32,12 +32,13 @@ use Rattle.judge.proofs.Top.{reading-keeps}
 use Rattle.header.specs.Reads.{infoOf}
 use Rattle.list_text.specs.Listing.{listing}
 use Rattle.list_record.specs.Answer.{listed}
+use Rattle.string_value.specs.Elements.{bytesIn, pointsIn}
 use Rattle.string_value.specs.Rooms.{readBytes, readPoints}
 use Rattle.npy_codes.specs.Codes.{alone}
 use Rattle.npy.specs.Calls.{Puts}
 use Rattle.npy_codes.specs.Numbers.{orderNumber, orderFor, textValues}
 use Rattle.claims.specs.Doors.{Door, in-rattle, in-c}
-use Rattle.claims.specs.Exact.{In-text, Fits, bytes-within, points-within, By-itself}
+use Rattle.claims.specs.Exact.{In-text, Fits, By-itself}
 use Rattle.claims.specs.Functions.{reportBy}
 use Rattle.claims.specs.Further.{Reads-text-exactly, Strides-due, Strides-exactly, Listed, Encoded, Further-exact, Further-exact-in-C}
 use Rattle.claims.proofs.Doors.{Fails, rattle-fails, c-fails, c-returned, exactly-by}
@@ -66,20 +67,20 @@ module _ (text : List ℕ) (l : Lent) where
       (λ i e. let (r, is-record, _) = each-back infoOf (header.textBy reading text l) i e in (r, fitted-in-text r is-record))
 
 -- ---- elements by themselves
-read-bytes-put : (k : TypeStr) (run room : List ℕ) → readBytes k run room ≡ unless (not (isType k)) 27 (then (bytes-within k run) (roomed 23 room))
+read-bytes-put : (k : TypeStr) (run room : List ℕ) → readBytes k run room ≡ unless (not (isType k)) 27 (then (bytesIn k run) (roomed 23 room))
 unfolding readBytes
 read-bytes-put k run room = refl
 
-read-points-put : (k : TypeStr) (run room : List ℕ) → readPoints k run room ≡ unless (not (isType k)) 27 (then (points-within k run) (roomed 23 room))
+read-points-put : (k : TypeStr) (run room : List ℕ) → readPoints k run room ≡ unless (not (isType k)) 27 (then (pointsIn k run) (roomed 23 room))
 unfolding readPoints
 read-points-put k run room = refl
 
 module _ (out : List ℕ) (k : TypeStr) where
-  read-bytes-due : (run : List ℕ) → Puts-due (readBytes k run out) (By-itself k (bytes-within k run) out)
-  read-bytes-due run = by-itself-due k (bytes-within k run) 23 out (readBytes k run out) (read-bytes-put k run out)
+  read-bytes-due : (run : List ℕ) → Puts-due (readBytes k run out) (By-itself k (bytesIn k run) out)
+  read-bytes-due run = by-itself-due k (bytesIn k run) 23 out (readBytes k run out) (read-bytes-put k run out)
 
-  read-points-due : (run : List ℕ) → Puts-due (readPoints k run out) (By-itself k (points-within k run) out)
-  read-points-due run = by-itself-due k (points-within k run) 23 out (readPoints k run out) (read-points-put k run out)
+  read-points-due : (run : List ℕ) → Puts-due (readPoints k run out) (By-itself k (pointsIn k run) out)
+  read-points-due run = by-itself-due k (pointsIn k run) 23 out (readPoints k run out) (read-points-put k run out)
 
   type-print-due : Puts-due (typePrinted k out) (By-itself k (gives (typeText k [])) out)
   unfolding typePrinted
@@ -239,9 +240,9 @@ further-exact-in-c =
           (λ a. listed-numbered (a .0) start t ns s (a .1) out) (λ a. listed-due start t ns s out (a .0) (a .1)) count r out′ count′
           (subst (λ (put : Outcome (List ℕ)). Puts put out count r out′ count′) (by-both next (versionOf version 0) (orderFor order)) h);
       npy-read-bytes = λ run order letter size units out.
-          takes-by-type order letter size units (λ k. bytes-within k run) (λ k. readBytes k run out) out (λ k. read-bytes-numbered k run out) (λ k. read-bytes-due out k run);
+          takes-by-type order letter size units (λ k. bytesIn k run) (λ k. readBytes k run out) out (λ k. read-bytes-numbered k run out) (λ k. read-bytes-due out k run);
       npy-read-points = λ run order letter size units out.
-          takes-by-type order letter size units (λ k. points-within k run) (λ k. readPoints k run out) out (λ k. read-points-numbered k run out) (λ k. read-points-due out k run);
+          takes-by-type order letter size units (λ k. pointsIn k run) (λ k. readPoints k run out) out (λ k. read-points-numbered k run out) (λ k. read-points-due out k run);
       npy-type-print = λ order letter size units out.
           takes-by-type order letter size units (λ k. gives (typeText k [])) (λ k. typePrinted k out) out (λ k. type-printed-numbered k out) (λ k. type-print-due out k);
     }

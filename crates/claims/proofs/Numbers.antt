@@ -11,6 +11,7 @@ use Rattle.counts.specs.Same.{same}
 use Rattle.utf8_scalar.specs.Scalar.{isScalar}
 use Rattle.type_letters.specs.Orders.{orderOf}
 use Rattle.type_letters.specs.Letters.{letterOf}
+use Rattle.type_letters.specs.Classes.{isUnicode, isBytes, isRaw}
 use Rattle.type_letters.specs.declared.Endianness.{Endianness}
 use Rattle.type_units.specs.Units.{units}
 use Rattle.type_str.specs.declared.TypeStr.{TypeStr}
@@ -40,8 +41,7 @@ use Rattle.check_record.specs.Checked.{checkedRecord}
 use Rattle.place_item.specs.Item.{itemOf}
 use Rattle.place.specs.Place.{runFrom, placed, placeOf}
 use Rattle.number_bytes.specs.Numbers.{inOrder}
-use Rattle.string_value.specs.declared.StringKind.{StringKind}
-use Rattle.string_value.specs.Elements.{kindOf, trimmed, bytesIn, scalar, points, pointsIn}
+use Rattle.string_value.specs.Elements.{trimmed, bytesIn, scalar, points, pointsIn}
 use Rattle.string_value.specs.Runs.{zeroFilled, bytesOut, allScalars, pointBytes, pointsOut}
 use Rattle.counts.specs.Owes.{roomed}
 use Rattle.string_value.specs.Rooms.{readBytes, readPoints, writeBytes, writePoints}
@@ -177,57 +177,50 @@ points-numbered order (a ∷ b ∷ c ∷ d ∷ run) =
     then-numbered (scalar first) (λ p. each (λ ps. p ∷ ps) (points order run)) (scalar-numbered first)
     (λ p. each-numbered (λ ps. p ∷ ps) (points order run) (points-numbered order run))
 
-bytes-in-numbered : (k : StringKind) (run : List ℕ) → Numbered (bytesIn k run)
-bytes-in-numbered StringKind.ByteStr run = an-answer (trimmed run)
-bytes-in-numbered StringKind.UnicodeStr run = a-number (refl, refl)
-bytes-in-numbered StringKind.RawData run = an-answer run
-bytes-in-numbered StringKind.Other run = a-number (refl, refl)
+bytes-in-numbered : (t : TypeStr) (run : List ℕ) → Numbered (bytesIn t run)
+unfolding bytesIn
+bytes-in-numbered t run = cond-numbered (isBytes (t .letter)) (an-answer (trimmed run)) (cond-numbered (isRaw (t .letter)) (an-answer run) (a-number (refl, refl)))
 
-points-in-numbered : (k : StringKind) (order : Endianness) (run : List ℕ) → Numbered (pointsIn k order run)
-points-in-numbered StringKind.ByteStr order run = a-number (refl, refl)
-points-in-numbered StringKind.UnicodeStr order run = each-numbered trimmed (points order run) (points-numbered order run)
-points-in-numbered StringKind.RawData order run = a-number (refl, refl)
-points-in-numbered StringKind.Other order run = a-number (refl, refl)
+points-in-numbered : (t : TypeStr) (run : List ℕ) → Numbered (pointsIn t run)
+unfolding pointsIn
+points-in-numbered t run = unless-numbered (not (isUnicode (t .letter))) 26 (refl, refl) (each-numbered trimmed (points (t .order) run) (points-numbered (t .order) run))
 
-bytes-out-numbered : (k : StringKind) (size : ℕ) (value : List ℕ) → Numbered (bytesOut k size value)
+bytes-out-numbered : (t : TypeStr) (value : List ℕ) → Numbered (bytesOut t value)
 unfolding bytesOut
-bytes-out-numbered StringKind.ByteStr size value = unless-numbered (ltb size (length value)) 30 (refl, refl) (an-answer (zeroFilled size value))
-bytes-out-numbered StringKind.UnicodeStr size value = a-number (refl, refl)
-bytes-out-numbered StringKind.RawData size value = unless-numbered (not (eqb size (length value))) 30 (refl, refl) (an-answer value)
-bytes-out-numbered StringKind.Other size value = a-number (refl, refl)
+bytes-out-numbered t value =
+    cond-numbered (isBytes (t .letter)) (unless-numbered (ltb (t .size) (length value)) 30 (refl, refl) (an-answer (zeroFilled (t .size) value)))
+    (cond-numbered (isRaw (t .letter)) (unless-numbered (not (eqb (t .size) (length value))) 30 (refl, refl) (an-answer value)) (a-number (refl, refl)))
 
-points-out-numbered : (k : StringKind) (order : Endianness) (size : ℕ) (value : List ℕ) → Numbered (pointsOut k order size value)
+points-out-numbered : (t : TypeStr) (value : List ℕ) → Numbered (pointsOut t value)
 unfolding pointsOut
-points-out-numbered StringKind.ByteStr order size value = a-number (refl, refl)
-points-out-numbered StringKind.UnicodeStr order size value =
-    unless-numbered (not (allScalars value)) 29 (refl, refl)
-    (unless-numbered (ltb size (length value)) 30 (refl, refl) (an-answer (pointBytes order (zeroFilled size value) [])))
-points-out-numbered StringKind.RawData order size value = a-number (refl, refl)
-points-out-numbered StringKind.Other order size value = a-number (refl, refl)
+points-out-numbered t value =
+    unless-numbered (not (isUnicode (t .letter))) 26 (refl, refl)
+    (unless-numbered (not (allScalars value)) 29 (refl, refl)
+    (unless-numbered (ltb (t .size) (length value)) 30 (refl, refl) (an-answer (pointBytes (t .order) (zeroFilled (t .size) value) []))))
 
 pub read-bytes-numbered : (t : TypeStr) (run room : List ℕ) → Numbered (readBytes t run room)
 unfolding readBytes
 read-bytes-numbered t run room =
     unless-numbered (not (isType t)) 27 (refl, refl)
-    (then-numbered (bytesIn (kindOf (t .letter)) run) (roomed 23 room) (bytes-in-numbered (kindOf (t .letter)) run) (λ c. roomed-numbered 23 room c (refl, refl)))
+    (then-numbered (bytesIn t run) (roomed 23 room) (bytes-in-numbered t run) (λ c. roomed-numbered 23 room c (refl, refl)))
 
 pub read-points-numbered : (t : TypeStr) (run room : List ℕ) → Numbered (readPoints t run room)
 unfolding readPoints
 read-points-numbered t run room =
     unless-numbered (not (isType t)) 27 (refl, refl)
-    (then-numbered (pointsIn (kindOf (t .letter)) (t .order) run) (roomed 23 room) (points-in-numbered (kindOf (t .letter)) (t .order) run) (λ c. roomed-numbered 23 room c (refl, refl)))
+    (then-numbered (pointsIn t run) (roomed 23 room) (points-in-numbered t run) (λ c. roomed-numbered 23 room c (refl, refl)))
 
 pub write-bytes-numbered : (t : TypeStr) (value room : List ℕ) → Numbered (writeBytes t value room)
 unfolding writeBytes
 write-bytes-numbered t value room =
     unless-numbered (not (isType t)) 27 (refl, refl)
-    (then-numbered (bytesOut (kindOf (t .letter)) (t .size) value) (roomed 28 room) (bytes-out-numbered (kindOf (t .letter)) (t .size) value) (λ c. roomed-numbered 28 room c (refl, refl)))
+    (then-numbered (bytesOut t value) (roomed 28 room) (bytes-out-numbered t value) (λ c. roomed-numbered 28 room c (refl, refl)))
 
 pub write-points-numbered : (t : TypeStr) (value room : List ℕ) → Numbered (writePoints t value room)
 unfolding writePoints
 write-points-numbered t value room =
     unless-numbered (not (isType t)) 27 (refl, refl)
-    (then-numbered (pointsOut (kindOf (t .letter)) (t .order) (t .size) value) (roomed 28 room) (points-out-numbered (kindOf (t .letter)) (t .order) (t .size) value) (λ c. roomed-numbered 28 room c (refl, refl)))
+    (then-numbered (pointsOut t value) (roomed 28 room) (points-out-numbered t value) (λ c. roomed-numbered 28 room c (refl, refl)))
 
 pub element-bytes-numbered : (file : List ℕ) (start : ℕ) (t ns s : List ℕ) (o : Order) (x p room : List ℕ) → Numbered (elementBytes file start t ns s o x p room)
 unfolding elementBytes

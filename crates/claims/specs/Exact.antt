@@ -36,7 +36,7 @@ use Rattle.place_area.specs.declared.Run.{Run}
 use Rattle.place.specs.declared.Placed.{Placed}
 use Rattle.place.specs.Answer as place-answer
 use Rattle.place.specs.Place.{runFrom}
-use Rattle.string_value.specs.Elements.{kindOf, bytesIn, pointsIn}
+use Rattle.string_value.specs.Elements.{bytesIn, pointsIn}
 use Rattle.string_value.specs.Runs.{bytesOut, pointsOut}
 use Rattle.element.specs.Bytes.{runBytes}
 use Rattle.npy_codes.specs.Codes.{alone}
@@ -108,7 +108,7 @@ abbrev pub Places-exactly : {R : Type 0} → Door Run R → (Due : Record × Typ
 Places-exactly door Due start x p y = Exactly {M = Unit {0}} door Due (λ a. runFrom (place start (a .0) x p) (a .1)) (λ a m. m) tt y tt
 
 -- ---- elements
--- the element at a place: its bytes, read by `within`, are the content, which fits the room
+-- the element at a place: its bytes, read by `within` as bytes or as code points, are the content, which fits the room
 pub record Element (within : TypeStr → List ℕ → Outcome (List ℕ)) (file : List ℕ) (start : ℕ) (t ns s : List ℕ) (o : Order) (x p room content : List ℕ) : Type 0 where
   pub says : Record
   pub kind : TypeStr
@@ -116,25 +116,11 @@ pub record Element (within : TypeStr → List ℕ → Outcome (List ℕ)) (file 
   pub is : within kind (runBytes file (runFrom (place start says x p) kind)) ≡ gives content
   pub fits : length content ≤ length room
 
--- how the bytes of a place are read as an element S or V, and as an element U
-abbrev pub bytes-within : TypeStr → List ℕ → Outcome (List ℕ)
-bytes-within k = bytesIn (kindOf (k .letter))
-
-abbrev pub points-within : TypeStr → List ℕ → Outcome (List ℕ)
-points-within k = pointsIn (kindOf (k .letter)) (k .order)
-
 -- an element by itself: its type k is one that readings give, the definition gives its run (or its content, Further.antt), and that fits the room
 pub record By-itself (k : TypeStr) (given : Outcome (List ℕ)) (room content : List ℕ) : Type 0 where
   pub typed : isType k ≡ true
   pub is : given ≡ gives content
   pub fits : length content ≤ length room
-
--- how a value becomes the run of an element S or V, and of an element U
-abbrev pub bytes-out : TypeStr → List ℕ → Outcome (List ℕ)
-bytes-out k = bytesOut (kindOf (k .letter)) (k .size)
-
-abbrev pub points-out : TypeStr → List ℕ → Outcome (List ℕ)
-points-out k = pointsOut (kindOf (k .letter)) (k .order) (k .size)
 
 -- an element is read, or written, exactly there, and what goes to the room is exactly its content, or its run
 abbrev pub Takes-exactly : {R : Type 0} → Door ℕ R → (Due : List ℕ → Type 0) (room : List ℕ) (y : R) (room′ : List ℕ) → Type 0
@@ -162,15 +148,15 @@ pub record Exact : Type 0 where
       → Places-exactly in-rattle (λ a. Named file start t ns s o x p (a .0) (a .1)) start x p (place-answer.answer y)
   pub element-bytes : (file : List ℕ) (start : ℕ) (t ns s : List ℕ) (o : Order) (x p out : List ℕ) (y : BytesAnswer) (out′ : List ℕ)
       → Element-bytes file start t ns s o x p out y out′
-      → Takes-exactly in-rattle (Element bytes-within file start t ns s o x p out) out (bytesAnswer y) out′
+      → Takes-exactly in-rattle (Element bytesIn file start t ns s o x p out) out (bytesAnswer y) out′
   pub element-points : (file : List ℕ) (start : ℕ) (t ns s : List ℕ) (o : Order) (x p out : List ℕ) (y : PointsAnswer) (out′ : List ℕ)
       → Element-points file start t ns s o x p out y out′
-      → Takes-exactly in-rattle (Element points-within file start t ns s o x p out) out (pointsAnswer y) out′
+      → Takes-exactly in-rattle (Element pointsIn file start t ns s o x p out) out (pointsAnswer y) out′
   -- `string_element::write_bytes`, `write_points`
   pub write-bytes : (k : TypeStr) (value out : List ℕ) (y : BytesAnswer) (out′ : List ℕ) → Write-bytes k value out y out′
-      → Takes-exactly in-rattle (By-itself k (bytes-out k value) out) out (bytesAnswer y) out′
+      → Takes-exactly in-rattle (By-itself k (bytesOut k value) out) out (bytesAnswer y) out′
   pub write-points : (k : TypeStr) (value out : List ℕ) (y : BytesAnswer) (out′ : List ℕ) → Write-points k value out y out′
-      → Takes-exactly in-rattle (By-itself k (points-out k value) out) out (bytesAnswer y) out′
+      → Takes-exactly in-rattle (By-itself k (pointsOut k value) out) out (bytesAnswer y) out′
 
 -- the same of the functions of the C interface
 pub record Exact-in-C : Type 0 where
@@ -183,13 +169,13 @@ pub record Exact-in-C : Type 0 where
       → Places-exactly (in-c runValues run) (By-order order (λ o a. Named file start t ns s o x p (a .0) (a .1))) start x p (r, run′)
   pub npy-element-bytes : (file : List ℕ) (start : ℕ) (t ns s : List ℕ) (order : ℕ) (x p out count : List ℕ) (r : ℕ) (out′ count′ : List ℕ)
       → Npy-element-bytes file start t ns s order x p out count r out′ count′
-      → Takes-exactly (in-c alone count) (By-order order (λ o. Element bytes-within file start t ns s o x p out)) out (r, count′) out′
+      → Takes-exactly (in-c alone count) (By-order order (λ o. Element bytesIn file start t ns s o x p out)) out (r, count′) out′
   pub npy-element-points : (file : List ℕ) (start : ℕ) (t ns s : List ℕ) (order : ℕ) (x p out count : List ℕ) (r : ℕ) (out′ count′ : List ℕ)
       → Npy-element-points file start t ns s order x p out count r out′ count′
-      → Takes-exactly (in-c alone count) (By-order order (λ o. Element points-within file start t ns s o x p out)) out (r, count′) out′
+      → Takes-exactly (in-c alone count) (By-order order (λ o. Element pointsIn file start t ns s o x p out)) out (r, count′) out′
   pub npy-write-bytes : (order letter size units : ℕ) (value out count : List ℕ) (r : ℕ) (out′ count′ : List ℕ)
       → Npy-write-bytes order letter size units value out count r out′ count′
-      → Takes-exactly (in-c alone count) (By-type order letter size units (λ k. By-itself k (bytes-out k value) out)) out (r, count′) out′
+      → Takes-exactly (in-c alone count) (By-type order letter size units (λ k. By-itself k (bytesOut k value) out)) out (r, count′) out′
   pub npy-write-points : (order letter size units : ℕ) (value out count : List ℕ) (r : ℕ) (out′ count′ : List ℕ)
       → Npy-write-points order letter size units value out count r out′ count′
-      → Takes-exactly (in-c alone count) (By-type order letter size units (λ k. By-itself k (points-out k value) out)) out (r, count′) out′
+      → Takes-exactly (in-c alone count) (By-type order letter size units (λ k. By-itself k (pointsOut k value) out)) out (r, count′) out′

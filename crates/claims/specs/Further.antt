@@ -25,11 +25,12 @@ use Rattle.check_record.specs.Valid.{Valid}
 use Rattle.header.specs.declared.RecordInfo.{RecordInfo}
 use Rattle.header.specs.declared.TextRead.{TextRead}
 use Rattle.header.specs.Reads.{infoOf, textAnswer}
+use Rattle.string_value.specs.Elements.{bytesIn, pointsIn}
 use Rattle.list_text.specs.Listing.{listing}
 use Rattle.npy_codes.specs.Codes.{alone}
 use Rattle.npy_codes.specs.Numbers.{orderNumber, textValues}
 use Rattle.claims.specs.Doors.{Door, in-rattle, in-c}
-use Rattle.claims.specs.Exact.{Exactly, In-text, Fits, bytes-within, points-within, By-itself, Takes-exactly, By-number, By-type}
+use Rattle.claims.specs.Exact.{Exactly, In-text, Fits, By-itself, Takes-exactly, By-number, By-type}
 use Rattle.claims.specs.Functions.{By-grammar, Read-text, reportBy, Report, List-record, Strides, Read-bytes, Read-points, Type-print, Encode}
 use Rattle.claims.specs.InC.{Npy-read-text, Npy-list, Npy-strides, Npy-read-bytes, Npy-read-points, Npy-type-print}
 
@@ -74,9 +75,9 @@ pub record Further-exact : Type 0 where
       → By-grammar (λ reading. Takes-exactly in-rattle (λ c. (c ≡ reportBy reading file) × (length c ≤ length out)) out (bytesAnswer y) out′)
   -- `string_element::read_bytes`, `read_points`
   pub read-bytes : (run : List ℕ) (k : TypeStr) (out : List ℕ) (y : BytesAnswer) (out′ : List ℕ) → Read-bytes run k out y out′
-      → Takes-exactly in-rattle (By-itself k (bytes-within k run) out) out (bytesAnswer y) out′
+      → Takes-exactly in-rattle (By-itself k (bytesIn k run) out) out (bytesAnswer y) out′
   pub read-points : (run : List ℕ) (k : TypeStr) (out : List ℕ) (y : PointsAnswer) (out′ : List ℕ) → Read-points run k out y out′
-      → Takes-exactly in-rattle (By-itself k (points-within k run) out) out (pointsAnswer y) out′
+      → Takes-exactly in-rattle (By-itself k (pointsIn k run) out) out (pointsAnswer y) out′
   -- `type_print::print`, `utf8_scalar::encode`
   pub type-print : (k : TypeStr) (out : List ℕ) (y : BytesAnswer) (out′ : List ℕ) → Type-print k out y out′
       → Takes-exactly in-rattle (By-itself k (gives (typeText k [])) out) out (bytesAnswer y) out′
@@ -94,10 +95,10 @@ pub record Further-exact-in-C : Type 0 where
       → Takes-exactly (in-c alone count) (By-number {N = Version × Order} (version ∷ order ∷ []) (λ a. major (a .0) ∷ orderNumber (a .1) ∷ []) (λ a. Listed (a .0) start t ns s (a .1) out)) out (r, count′) out′
   pub npy-read-bytes : (run : List ℕ) (order letter size units : ℕ) (out count : List ℕ) (r : ℕ) (out′ count′ : List ℕ)
       → Npy-read-bytes run order letter size units out count r out′ count′
-      → Takes-exactly (in-c alone count) (By-type order letter size units (λ k. By-itself k (bytes-within k run) out)) out (r, count′) out′
+      → Takes-exactly (in-c alone count) (By-type order letter size units (λ k. By-itself k (bytesIn k run) out)) out (r, count′) out′
   pub npy-read-points : (run : List ℕ) (order letter size units : ℕ) (out count : List ℕ) (r : ℕ) (out′ count′ : List ℕ)
       → Npy-read-points run order letter size units out count r out′ count′
-      → Takes-exactly (in-c alone count) (By-type order letter size units (λ k. By-itself k (points-within k run) out)) out (r, count′) out′
+      → Takes-exactly (in-c alone count) (By-type order letter size units (λ k. By-itself k (pointsIn k run) out)) out (r, count′) out′
   pub npy-type-print : (order letter size units : ℕ) (out count : List ℕ) (r : ℕ) (out′ count′ : List ℕ)
       → Npy-type-print order letter size units out count r out′ count′
       → Takes-exactly (in-c alone count) (By-type order letter size units (λ k. By-itself k (gives (typeText k [])) out)) out (r, count′) out′

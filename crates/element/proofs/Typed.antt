@@ -23,7 +23,7 @@ use Rattle.check_record.proofs.Accepts.{accepts-valid}
 use Rattle.place_area.specs.declared.Run.{Run}
 use Rattle.place.specs.Place.{runFrom, placed, placeOf}
 use Rattle.place.proofs.Walks.{plain-typed}
-use Rattle.string_value.specs.Elements.{kindOf, bytesIn, pointsIn}
+use Rattle.string_value.specs.Elements.{bytesIn, pointsIn}
 use Rattle.counts.specs.Owes.{roomed}
 use Rattle.string_value.specs.Rooms.{readBytes, readPoints}
 use Rattle.element.specs.Bytes.{runBytes}
@@ -64,11 +64,11 @@ then-same (refused n) f g h = refl
 
 module _ (file : List ℕ) (start : ℕ) (t ns s : List ℕ) (o : Order) (x p room : List ℕ) where
   pub bytes-after : elementBytes file start t ns s o x p room
-      ≡ then (placeOf (length file) start t ns s o x p) (λ u. then (bytesIn (kindOf (u .kind .letter)) (runBytes file u)) (roomed 23 room))
+      ≡ then (placeOf (length file) start t ns s o x p) (λ u. then (bytesIn (u .kind) (runBytes file u)) (roomed 23 room))
   unfolding elementBytes readBytes
   bytes-after = then-same (placeOf (length file) start t ns s o x p) _ _ (λ u e. rw (readBytes, place-typed (length file) start x p u t ns s o e))
 
   pub points-after : elementPoints file start t ns s o x p room
-      ≡ then (placeOf (length file) start t ns s o x p) (λ u. then (pointsIn (kindOf (u .kind .letter)) (u .kind .order) (runBytes file u)) (roomed 23 room))
+      ≡ then (placeOf (length file) start t ns s o x p) (λ u. then (pointsIn (u .kind) (runBytes file u)) (roomed 23 room))
   unfolding elementPoints readPoints
   points-after = then-same (placeOf (length file) start t ns s o x p) _ _ (λ u e. rw (readPoints, place-typed (length file) start x p u t ns s o e))

@@ -7,7 +7,6 @@ use counts::Points;
 use refusal::BytesAnswer;
 use refusal::PointsAnswer;
 use refusal::Refusal;
-use string_value::StringKind;
 use type_letters::Endianness;
 use type_letters::TypeChar;
 use type_str::TypeStr;
@@ -18,7 +17,7 @@ ghost use lib.ListN.{length, drop, getD, take};
 ghost use Rattle.counts.specs.Outcome.{each, gives};
 ghost use Rattle.refusal.specs.Answers.{bytesAnswer, pointsAnswer};
 ghost use Rattle.emit.specs.Emits.{Emits};
-ghost use Rattle.string_value.specs.Elements.{trimmed, point, points, kindOf, found};
+ghost use Rattle.string_value.specs.Elements.{trimmed, point, points, found};
 ghost use Rattle.string_value.specs.Runs.{allScalars, zeroFilled, pointBytes};
 ghost use Rattle.counts.specs.Owes.{roomed, Owes};
 ghost use Rattle.string_value.specs.Rooms.{readBytes, readPoints, writeBytes, writePoints};
@@ -38,15 +37,13 @@ pub fn read_bytes(run: &[u8], t: TypeStr, out: &mut [u8]) -> BytesAnswer
         return BytesAnswer::Refused(Refusal::NoReading);
     }
     let letter = t.letter;
-    let kind = kind_of(letter);
-    match kind {
-        StringKind::ByteStr => {
+    match letter {
+        TypeChar::ByteStr => {
             let n = string_value::kept(run);
             copy(&run[..n], out)
         }
-        StringKind::UnicodeStr => BytesAnswer::Refused(Refusal::Nowhere),
-        StringKind::RawData => copy(run, out),
-        StringKind::Other => BytesAnswer::Refused(Refusal::Nowhere),
+        TypeChar::RawData => copy(run, out),
+        _ => BytesAnswer::Refused(Refusal::Nowhere),
     }
 }
 
@@ -156,22 +153,20 @@ pub fn write_bytes(t: TypeStr, value: &[u8], out: &mut [u8]) -> BytesAnswer
         return BytesAnswer::Refused(Refusal::NoReading);
     }
     let letter = t.letter;
-    let kind = kind_of(letter);
-    match kind {
-        StringKind::ByteStr => {
+    match letter {
+        TypeChar::ByteStr => {
             if t.size < value.len() as u64 {
                 return BytesAnswer::Refused(Refusal::Misfit);
             }
             place_bytes(Bytes(t.size), value, out)
         }
-        StringKind::UnicodeStr => BytesAnswer::Refused(Refusal::Nowhere),
-        StringKind::RawData => {
+        TypeChar::RawData => {
             if t.size != value.len() as u64 {
                 return BytesAnswer::Refused(Refusal::Misfit);
             }
             place_bytes(Bytes(t.size), value, out)
         }
-        StringKind::Other => BytesAnswer::Refused(Refusal::Nowhere),
+        _ => BytesAnswer::Refused(Refusal::Nowhere),
     }
 }
 
@@ -277,23 +272,4 @@ fn point_of(value: &[u32], i: usize) -> u64
     ensures { λ r. ⌜ r ≡ getD (now (value .entry)) i 0 ⌝ }
 {
     if i < value.len() { value[i] as u64 } else { 0 }
-}
-
-// Whether a type is S, U, V or another.
-fn kind_of(letter: TypeChar) -> StringKind
-    ensures { λ r. ⌜ r ≡ kindOf letter ⌝ }
-{
-    match letter {
-        TypeChar::Bool => StringKind::Other,
-        TypeChar::Int => StringKind::Other,
-        TypeChar::Uint => StringKind::Other,
-        TypeChar::Float => StringKind::Other,
-        TypeChar::Complex => StringKind::Other,
-        TypeChar::TimeDelta => StringKind::Other,
-        TypeChar::DateTime => StringKind::Other,
-        TypeChar::ByteStr => StringKind::ByteStr,
-        TypeChar::UnicodeStr => StringKind::UnicodeStr,
-        TypeChar::Object => StringKind::Other,
-        TypeChar::RawData => StringKind::RawData,
-    }
 }

@@ -19,16 +19,17 @@ use Rattle.number_bytes.proofs.Widths.{in-out}
 use Rattle.utf8_scalar.specs.Scalar.{isScalar}
 use Rattle.utf8_scalar.proofs.Scalars.{scalar-low, scalar-below}
 use Rattle.type_str.specs.Text.{isType}
+use Rattle.type_letters.specs.Classes.{isUnicode}
 use Rattle.type_letters.specs.declared.Endianness.{Endianness}
+use Rattle.type_letters.specs.declared.TypeChar.the-variants.{ByteStr, RawData}
 use Rattle.type_str.specs.declared.TypeStr.{TypeStr}
-use Rattle.string_value.specs.Elements.{kindOf, trimmed, scalar, point, points, pointsIn}
+use Rattle.string_value.specs.Elements.{trimmed, scalar, point, points, pointsIn}
 use Rattle.string_value.specs.Runs.{zeroFilled, bytesOut, allScalars, pointBytes, pointsOut}
 use Rattle.counts.specs.Owes.{roomed}
 use Rattle.string_value.specs.Rooms.{readBytes, readPoints, writeBytes, writePoints}
-use Rattle.string_value.specs.declared.StringKind.{StringKind}
 use Rattle.string_value.proofs.Scalars.{scalar-is, point-four, point-step}
 use Rattle.string_value.proofs.Places.{trim-filled}
-use Rattle.string_value.proofs.Ways.{read-bytes-by}
+use Rattle.string_value.proofs.Ways.{read-bytes-by, in-bytes, in-raw, out-bytes, out-raw}
 
 -- ---- what was given passed every check
 passed : {A : Type 0} {a : A} (b : Bool) (n : ℕ) (o : Outcome A) → unless b n o ≡ gives a → (b ≡ false) × (o ≡ gives a)
@@ -40,10 +41,9 @@ unfolding roomed
 had-room (gives content) n room run e = passed (ltb (length room) (length content)) n (gives content) e .1
 had-room (refused m) n room run e = refused-gives e
 
-bytes-run : (t : TypeStr) (value room run : List ℕ) (kind : StringKind) → kindOf (t .letter) ≡ kind → writeBytes t value room ≡ gives run → bytesOut kind (t .size) value ≡ gives run
+bytes-run : (t : TypeStr) (value room run : List ℕ) → writeBytes t value room ≡ gives run → bytesOut t value ≡ gives run
 unfolding writeBytes
-bytes-run t value room run kind k e =
-    ap (λ (x : StringKind). bytesOut x (t .size) value) (sym k) ∙ had-room (bytesOut (kindOf (t .letter)) (t .size) value) 28 room run (passed (not (isType t)) 27 _ e .1)
+bytes-run t value room run e = had-room (bytesOut t value) 28 room run (passed (not (isType t)) 27 _ e .1)
 
 -- a value that was written was written to a type that readings give
 bytes-typed : (t : TypeStr) (value room run : List ℕ) → writeBytes t value room ≡ gives run → isType t ≡ true
@@ -55,30 +55,31 @@ unfolding writePoints
 points-typed t value room run e = not-false (isType t) (passed (not (isType t)) 27 _ e .0)
 
 -- ---- S and V
-s-run : (t : TypeStr) (value room run : List ℕ) → kindOf (t .letter) ≡ StringKind.ByteStr → writeBytes t value room ≡ gives run → trimmed run ≡ trimmed value
-unfolding bytesOut
+s-run : (t : TypeStr) (value room run : List ℕ) → t .letter ≡ ByteStr → writeBytes t value room ≡ gives run → trimmed run ≡ trimmed value
 s-run t value room run k e =
-    let r : zeroFilled (t .size) value ≡ run = gives-apart (passed (ltb (t .size) (length value)) 30 (gives (zeroFilled (t .size) value)) (bytes-run t value room run StringKind.ByteStr k e) .1) in
+    let out = sym (out-bytes t value k) ∙ bytes-run t value room run e in
+    let r : zeroFilled (t .size) value ≡ run = gives-apart (passed (ltb (t .size) (length value)) 30 (gives (zeroFilled (t .size) value)) out .1) in
     ap (λ (l : List ℕ). trimmed l) (sym r) ∙ trim-filled (t .size) value
 
-v-run : (t : TypeStr) (value room run : List ℕ) → kindOf (t .letter) ≡ StringKind.RawData → writeBytes t value room ≡ gives run → run ≡ value
-unfolding bytesOut
-v-run t value room run k e = sym (gives-apart (passed (not (eqb (t .size) (length value))) 30 (gives value) (bytes-run t value room run StringKind.RawData k e) .1))
+v-run : (t : TypeStr) (value room run : List ℕ) → t .letter ≡ RawData → writeBytes t value room ≡ gives run → run ≡ value
+v-run t value room run k e =
+    let out = sym (out-raw t value k) ∙ bytes-run t value room run e in
+    sym (gives-apart (passed (not (eqb (t .size) (length value))) 30 (gives value) out .1))
 
-pub s-back : (t : TypeStr) (value room run room′ : List ℕ) → kindOf (t .letter) ≡ StringKind.ByteStr → writeBytes t value room ≡ gives run
+pub s-back : (t : TypeStr) (value room run room′ : List ℕ) → t .letter ≡ ByteStr → writeBytes t value room ≡ gives run
     → readBytes t run room′ ≡ roomed 23 room′ (trimmed value)
 s-back t value room run room′ k e =
-    sym (read-bytes-by t run room′ (bytes-typed t value room run e) StringKind.ByteStr (sym k)) ∙ ap (λ (l : List ℕ). roomed 23 room′ l) (s-run t value room run k e)
+    sym (read-bytes-by t run room′ (bytes-typed t value room run e) _ (in-bytes t run k)) ∙ ap (λ (l : List ℕ). roomed 23 room′ l) (s-run t value room run k e)
 
-pub v-back : (t : TypeStr) (value room run room′ : List ℕ) → kindOf (t .letter) ≡ StringKind.RawData → writeBytes t value room ≡ gives run
+pub v-back : (t : TypeStr) (value room run room′ : List ℕ) → t .letter ≡ RawData → writeBytes t value room ≡ gives run
     → readBytes t run room′ ≡ roomed 23 room′ value
 v-back t value room run room′ k e =
-    sym (read-bytes-by t run room′ (bytes-typed t value room run e) StringKind.RawData (sym k)) ∙ ap (λ (l : List ℕ). roomed 23 room′ l) (v-run t value room run k e)
+    sym (read-bytes-by t run room′ (bytes-typed t value room run e) _ (in-raw t run k)) ∙ ap (λ (l : List ℕ). roomed 23 room′ l) (v-run t value room run k e)
 
-pub s-apart : (t : TypeStr) (a b room room′ run : List ℕ) → kindOf (t .letter) ≡ StringKind.ByteStr → writeBytes t a room ≡ gives run → writeBytes t b room′ ≡ gives run → trimmed a ≡ trimmed b
+pub s-apart : (t : TypeStr) (a b room room′ run : List ℕ) → t .letter ≡ ByteStr → writeBytes t a room ≡ gives run → writeBytes t b room′ ≡ gives run → trimmed a ≡ trimmed b
 s-apart t a b room room′ run k d e = sym (s-run t a room run k d) ∙ s-run t b room′ run k e
 
-pub v-apart : (t : TypeStr) (a b room room′ run : List ℕ) → kindOf (t .letter) ≡ StringKind.RawData → writeBytes t a room ≡ gives run → writeBytes t b room′ ≡ gives run → a ≡ b
+pub v-apart : (t : TypeStr) (a b room room′ run : List ℕ) → t .letter ≡ RawData → writeBytes t a room ≡ gives run → writeBytes t b room′ ≡ gives run → a ≡ b
 v-apart t a b room room′ run k d e = sym (v-run t a room run k d) ∙ v-run t b room′ run k e
 
 -- ---- U
@@ -106,16 +107,11 @@ points-back order (p ∷ ps) a =
     points-written order p (and-left (isScalar p) (allScalars ps) a) (pointBytes order ps [])
     ∙ ap (λ (o : Outcome (List ℕ)). each (λ (qs : List ℕ). p ∷ qs) o) (points-back order ps (and-right (isScalar p) (allScalars ps) a))
 
--- a value that was written as code points was written to U
-u-kind : (kind : StringKind) (order : Endianness) (size : ℕ) (value run : List ℕ) → pointsOut kind order size value ≡ gives run → kind ≡ StringKind.UnicodeStr
-unfolding pointsOut
-u-kind StringKind.ByteStr order size value run e = refused-gives e
-u-kind StringKind.UnicodeStr order size value run e = refl
-u-kind StringKind.RawData order size value run e = refused-gives e
-u-kind StringKind.Other order size value run e = refused-gives e
-
-u-found : (order : Endianness) (size : ℕ) (value run : List ℕ) → pointsOut StringKind.UnicodeStr order size value ≡ gives run → each trimmed (points order run) ≡ gives (trimmed value)
-unfolding pointsOut zeroFilled
+-- code points that passed the checks of their value are read back
+u-found : (order : Endianness) (size : ℕ) (value run : List ℕ)
+    → unless (not (allScalars value)) 29 (unless (ltb size (length value)) 30 (gives (pointBytes order (zeroFilled size value) []))) ≡ gives run
+    → each trimmed (points order run) ≡ gives (trimmed value)
+unfolding zeroFilled
 u-found order size value run e =
     let one = passed (not (allScalars value)) 29 _ e in
     let all : allScalars value ≡ true = not-false (allScalars value) (one .0) in
@@ -123,12 +119,12 @@ u-found order size value run e =
     let back = points-back order (zeroFilled size value) (scalars-zeros value (size - length value) ∙ all) in
     ap (λ (l : List ℕ). each trimmed (points order l)) (sym run-is) ∙ ap (λ (o : Outcome (List ℕ)). each trimmed o) back ∙ ap gives (trim-filled size value)
 
-u-run : (t : TypeStr) (value room run : List ℕ) → writePoints t value room ≡ gives run → pointsIn (kindOf (t .letter)) (t .order) run ≡ gives (trimmed value)
-unfolding writePoints
+u-run : (t : TypeStr) (value room run : List ℕ) → writePoints t value room ≡ gives run → pointsIn t run ≡ gives (trimmed value)
+unfolding writePoints pointsOut pointsIn
 u-run t value room run e =
-    let out = had-room (pointsOut (kindOf (t .letter)) (t .order) (t .size) value) 28 room run (passed (not (isType t)) 27 _ e .1) in
-    let k = u-kind (kindOf (t .letter)) (t .order) (t .size) value run out in
-    ap (λ (x : StringKind). pointsIn x (t .order) run) k ∙ u-found (t .order) (t .size) value run (ap (λ (x : StringKind). pointsOut x (t .order) (t .size) value) (sym k) ∙ out)
+    let out = had-room (pointsOut t value) 28 room run (passed (not (isType t)) 27 _ e .1) in
+    let (letter, written) = passed (not (isUnicode (t .letter))) 26 _ out in
+    rw (pointsIn, not-false (isUnicode (t .letter)) letter) (u-found (t .order) (t .size) value run written)
 
 pub u-back : (t : TypeStr) (value room run room′ : List ℕ) → writePoints t value room ≡ gives run → readPoints t run room′ ≡ roomed 23 room′ (trimmed value)
 unfolding readPoints

@@ -3,61 +3,30 @@
 use Prim.Native.Nat.{ℕ, _^_, _<_, _≤_}
 use native.Mathlib.Omega.{arith}
 use mathlib.Core.Path.{_≡_, refl, sym, ap, _∙_}
-use mathlib.Core.Bool.{true, false}
+use mathlib.Core.Bool.{true, false, not}
 use mathlib.Core.List.{List, [], _++_}
+use lib.Dec.{eqb, ltb}
 use lib.ListN.{length, take, drop}
 use borrow.Author.Tests.{lt-ltb, le-ltb, eq-eqb, ne-eqb}
-use Rattle.counts.specs.Outcome.{Outcome, gives, refused, then, each}
+use Rattle.counts.specs.Outcome.{Outcome, gives, refused, then, each, unless}
 use Rattle.counts.specs.Number.{number}
 use Rattle.counts.specs.Counts.{bytes}
 use Rattle.counts.specs.declared.Number.{Number}
 use Rattle.counts.specs.declared.Bytes.{Bytes}
 use Rattle.counts.specs.declared.ByteCount.{ByteCount}
 use Rattle.counts.proofs.Fits.{number-is-back, number-over-back}
-use Rattle.counts.proofs.Alike.{true-false}
 use Rattle.counts.proofs.Apart.{gives-refused, each-none}
-use Rattle.type_letters.specs.Classes.{isUnicode}
+use Rattle.type_letters.specs.Classes.{isUnicode, isBytes, isRaw}
 use Rattle.type_str.specs.Text.{isType}
-use Rattle.type_letters.specs.declared.Endianness.{Endianness}
-use Rattle.type_letters.specs.declared.TypeChar.{TypeChar}
-use Rattle.type_letters.specs.declared.TypeChar.the-variants.{Bool as Boolean, Int, Uint, Float as Floating, Complex, TimeDelta, DateTime, ByteStr, UnicodeStr, Object, RawData}
+use Rattle.type_letters.specs.declared.TypeChar.the-variants.{ByteStr, RawData}
 use Rattle.type_str.specs.declared.TypeStr.{TypeStr}
-use Rattle.string_value.specs.Elements.{kindOf, trimmed, bytesIn, points, pointsIn, found}
+use Rattle.string_value.specs.Elements.{trimmed, bytesIn, points, pointsIn, found}
 use Rattle.string_value.specs.Runs.{zeroFilled, bytesOut, allScalars, pointBytes, pointsOut}
 use Rattle.counts.specs.Owes.{roomed, Owes}
 use Rattle.string_value.specs.Rooms.{readBytes, readPoints, writeBytes, writePoints}
-use Rattle.string_value.specs.declared.StringKind.{StringKind}
 use Rattle.string_value.proofs.Trims.{trim-take, trim-length}
 use Rattle.counts.proofs.Owes.{owes-same, owes-short, owes-whole}
 use Rattle.string_value.proofs.Places.{filled-exact}
-
--- ---- U and no other letter has code points
-unicode-kind : (l : TypeChar) → isUnicode l ≡ true → kindOf l ≡ StringKind.UnicodeStr
-unicode-kind Boolean h = true-false (sym h)
-unicode-kind Int h = true-false (sym h)
-unicode-kind Uint h = true-false (sym h)
-unicode-kind Floating h = true-false (sym h)
-unicode-kind Complex h = true-false (sym h)
-unicode-kind TimeDelta h = true-false (sym h)
-unicode-kind DateTime h = true-false (sym h)
-unicode-kind ByteStr h = true-false (sym h)
-unicode-kind UnicodeStr h = refl
-unicode-kind Object h = true-false (sym h)
-unicode-kind RawData h = true-false (sym h)
-
--- what each kind but U says is the same
-other-kind : {A : Type 0} (f : StringKind → A) (a : A) → f StringKind.ByteStr ≡ a → f StringKind.RawData ≡ a → f StringKind.Other ≡ a → (l : TypeChar) → isUnicode l ≡ false → a ≡ f (kindOf l)
-other-kind f a s v o Boolean h = sym o
-other-kind f a s v o Int h = sym o
-other-kind f a s v o Uint h = sym o
-other-kind f a s v o Floating h = sym o
-other-kind f a s v o Complex h = sym o
-other-kind f a s v o TimeDelta h = sym o
-other-kind f a s v o DateTime h = sym o
-other-kind f a s v o ByteStr h = sym s
-other-kind f a s v o UnicodeStr h = true-false h
-other-kind f a s v o Object h = sym o
-other-kind f a s v o RawData h = sym v
 
 -- ---- a type that no reading gives: 27 of each of the four
 module _ (t : TypeStr) (content room : List ℕ) (h : isType t ≡ false) where
@@ -78,9 +47,23 @@ module _ (t : TypeStr) (content room : List ℕ) (h : isType t ≡ false) where
   write-points-none = rw (writePoints, h)
 
 -- ---- reading
-pub read-bytes-by : (t : TypeStr) (run room : List ℕ) → isType t ≡ true → (kind : StringKind) → kind ≡ kindOf (t .letter) → then (bytesIn kind run) (roomed 23 room) ≡ readBytes t run room
+pub read-bytes-by : (t : TypeStr) (run room : List ℕ) → isType t ≡ true → (content : Outcome (List ℕ)) → bytesIn t run ≡ content → then content (roomed 23 room) ≡ readBytes t run room
 unfolding readBytes
-read-bytes-by t run room h kind e = rw (readBytes, h) (ap (λ (k : StringKind). then (bytesIn k run) (roomed 23 room)) e)
+read-bytes-by t run room h content e = rw (readBytes, h) (ap (λ (o : Outcome (List ℕ)). then o (roomed 23 room)) (sym e))
+
+-- what a run is as bytes, by the letter
+module _ (t : TypeStr) (run : List ℕ) where
+  pub in-bytes : t .letter ≡ ByteStr → bytesIn t run ≡ gives (trimmed run)
+  unfolding bytesIn
+  in-bytes l = rw (bytesIn, l)
+
+  pub in-raw : t .letter ≡ RawData → bytesIn t run ≡ gives run
+  unfolding bytesIn
+  in-raw l = rw (bytesIn, l)
+
+  pub in-none : false ≡ isBytes (t .letter) → false ≡ isRaw (t .letter) → bytesIn t run ≡ refused 26
+  unfolding bytesIn
+  in-none b r = rw (bytesIn, sym b, sym r)
 
 -- a run that was checked gives its value
 judged-found : {A : Type 0} (f : List ℕ → A) (o : Outcome (List ℕ)) (k : A) → gives k ≡ each f o → (o ≡ gives (found o)) × (k ≡ f (found o))
@@ -89,13 +72,13 @@ judged-found f (refused m) k e = gives-refused e
 
 module _ (t : TypeStr) (run room : List ℕ) (h : isType t ≡ true) where
   pub read-points-other : isUnicode (t .letter) ≡ false → refused 26 ≡ readPoints t run room
-  unfolding readPoints
-  read-points-other u = rw (readPoints, h) (other-kind (λ k. then (pointsIn k (t .order) run) (roomed 23 room)) (refused 26) refl refl refl (t .letter) u)
+  unfolding readPoints pointsIn
+  read-points-other u = rw (readPoints, h, pointsIn, u)
 
   module _ (u : isUnicode (t .letter) ≡ true) where
     in-points : then (each trimmed (points (t .order) run)) (roomed 23 room) ≡ readPoints t run room
-    unfolding readPoints
-    in-points = rw (readPoints, h) (ap (λ (k : StringKind). then (pointsIn k (t .order) run) (roomed 23 room)) (sym (unicode-kind (t .letter) u)))
+    unfolding readPoints pointsIn
+    in-points = rw (readPoints, h, pointsIn, u)
 
     pub read-points-bad : (n : ℕ) → refused n ≡ each (λ (ps : List ℕ). length (trimmed ps)) (points (t .order) run) → refused n ≡ readPoints t run room
     read-points-bad n j =
@@ -126,54 +109,58 @@ module _ (t : TypeStr) (run room : List ℕ) (h : isType t ≡ true) where
 
 -- ---- writing
 module _ (t : TypeStr) (value room : List ℕ) (h : isType t ≡ true) where
-  pub write-bytes-by : (kind : StringKind) (put : Outcome (List ℕ)) → kind ≡ kindOf (t .letter) → bytesOut kind (t .size) value ≡ put → then put (roomed 28 room) ≡ writeBytes t value room
+  pub write-bytes-by : (put : Outcome (List ℕ)) → bytesOut t value ≡ put → then put (roomed 28 room) ≡ writeBytes t value room
   unfolding writeBytes
-  write-bytes-by kind put e p =
-      rw (writeBytes, h) (ap (λ (o : Outcome (List ℕ)). then o (roomed 28 room)) (sym p) ∙ ap (λ (k : StringKind). then (bytesOut k (t .size) value) (roomed 28 room)) e)
+  write-bytes-by put p = rw (writeBytes, h) (ap (λ (o : Outcome (List ℕ)). then o (roomed 28 room)) (sym p))
 
-  pub write-points-other : isUnicode (t .letter) ≡ false → refused 26 ≡ writePoints t value room
-  unfolding writePoints pointsOut
-  write-points-other u = rw (writePoints, h) (other-kind (λ k. then (pointsOut k (t .order) (t .size) value) (roomed 28 room)) (refused 26) refl refl refl (t .letter) u)
-
-  pub write-points-by : (put : Outcome (List ℕ)) → isUnicode (t .letter) ≡ true → pointsOut StringKind.UnicodeStr (t .order) (t .size) value ≡ put → then put (roomed 28 room) ≡ writePoints t value room
+  pub write-points-by : (put : Outcome (List ℕ)) → pointsOut t value ≡ put → then put (roomed 28 room) ≡ writePoints t value room
   unfolding writePoints
-  write-points-by put u p =
-      rw (writePoints, h) (ap (λ (o : Outcome (List ℕ)). then o (roomed 28 room)) (sym p) ∙ ap (λ (k : StringKind). then (pointsOut k (t .order) (t .size) value) (roomed 28 room)) (sym (unicode-kind (t .letter) u)))
+  write-points-by put p = rw (writePoints, h) (ap (λ (o : Outcome (List ℕ)). then o (roomed 28 room)) (sym p))
 
--- ---- the run of a value
-module _ (size : ℕ) (value : List ℕ) where
-  pub bytes-none : (bytesOut StringKind.UnicodeStr size value ≡ refused 26) × (bytesOut StringKind.Other size value ≡ refused 26)
+-- ---- the run of a value, by the letter
+module _ (t : TypeStr) (value : List ℕ) where
+  pub bytes-none : false ≡ isBytes (t .letter) → false ≡ isRaw (t .letter) → bytesOut t value ≡ refused 26
   unfolding bytesOut
-  bytes-none = (refl, refl)
+  bytes-none b r = rw (bytesOut, sym b, sym r)
 
-  pub bytes-long : size < length value → bytesOut StringKind.ByteStr size value ≡ refused 30
-  unfolding bytesOut
-  bytes-long h = rw (lt-ltb size (length value) h)
+  module _ (l : t .letter ≡ ByteStr) where
+    pub out-bytes : bytesOut t value ≡ unless (ltb (t .size) (length value)) 30 (gives (zeroFilled (t .size) value))
+    unfolding bytesOut
+    out-bytes = rw (bytesOut, l)
 
-  pub bytes-fit : length value ≤ size → bytesOut StringKind.ByteStr size value ≡ gives (zeroFilled size value)
-  unfolding bytesOut
-  bytes-fit h = rw (le-ltb size (length value) h)
+    pub bytes-long : t .size < length value → bytesOut t value ≡ refused 30
+    bytes-long h = rw (out-bytes, lt-ltb (t .size) (length value) h)
 
-  pub raw-other : (size ≡ length value → ⊥) → bytesOut StringKind.RawData size value ≡ refused 30
-  unfolding bytesOut
-  raw-other h = rw (ne-eqb size (length value) h)
+    pub bytes-fit : length value ≤ t .size → bytesOut t value ≡ gives (zeroFilled (t .size) value)
+    bytes-fit h = rw (out-bytes, le-ltb (t .size) (length value) h)
 
-  pub raw-fit : size ≡ length value → bytesOut StringKind.RawData size value ≡ gives (zeroFilled size value)
-  unfolding bytesOut
-  raw-fit h = rw (eq-eqb size (length value) h, filled-exact size value h)
+  module _ (l : t .letter ≡ RawData) where
+    pub out-raw : bytesOut t value ≡ unless (not (eqb (t .size) (length value))) 30 (gives value)
+    unfolding bytesOut
+    out-raw = rw (bytesOut, l)
 
-  module _ (order : Endianness) where
-    pub points-bad : allScalars value ≡ false → pointsOut StringKind.UnicodeStr order size value ≡ refused 29
+    pub raw-other : (t .size ≡ length value → ⊥) → bytesOut t value ≡ refused 30
+    raw-other h = rw (out-raw, ne-eqb (t .size) (length value) h)
+
+    pub raw-fit : t .size ≡ length value → bytesOut t value ≡ gives (zeroFilled (t .size) value)
+    raw-fit h = rw (out-raw, eq-eqb (t .size) (length value) h, filled-exact (t .size) value h)
+
+  pub points-none : isUnicode (t .letter) ≡ false → pointsOut t value ≡ refused 26
+  unfolding pointsOut
+  points-none u = rw (pointsOut, u)
+
+  module _ (u : isUnicode (t .letter) ≡ true) where
+    pub points-bad : allScalars value ≡ false → pointsOut t value ≡ refused 29
     unfolding pointsOut
-    points-bad s = rw s
+    points-bad s = rw (pointsOut, u, s)
 
-    pub points-long : allScalars value ≡ true → size < length value → pointsOut StringKind.UnicodeStr order size value ≡ refused 30
+    pub points-long : allScalars value ≡ true → t .size < length value → pointsOut t value ≡ refused 30
     unfolding pointsOut
-    points-long s h = rw (s, lt-ltb size (length value) h)
+    points-long s h = rw (pointsOut, u, s, lt-ltb (t .size) (length value) h)
 
-    pub points-fit : allScalars value ≡ true → length value ≤ size → pointsOut StringKind.UnicodeStr order size value ≡ gives (pointBytes order (zeroFilled size value) [])
+    pub points-fit : allScalars value ≡ true → length value ≤ t .size → pointsOut t value ≡ gives (pointBytes (t .order) (zeroFilled (t .size) value) [])
     unfolding pointsOut
-    points-fit s h = rw (s, le-ltb size (length value) h)
+    points-fit s h = rw (pointsOut, u, s, le-ltb (t .size) (length value) h)
 
 -- ---- a count of bytes that fits, and one that does not
 pub bytes-over : (n : ℕ) → bytes (number n) ≡ ByteCount.Over → 2 ^ 64 ≤ n

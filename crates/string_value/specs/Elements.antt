@@ -10,23 +10,8 @@ use Rattle.counts.specs.Outcome.{Outcome, gives, refused, then, each, unless}
 use Rattle.number_bytes.specs.Numbers.{inOrder}
 use Rattle.utf8_scalar.specs.Scalar.{isScalar}
 use Rattle.type_letters.specs.declared.Endianness.{Endianness}
-use Rattle.type_letters.specs.declared.TypeChar.{TypeChar}
-use Rattle.type_letters.specs.declared.TypeChar.the-variants.{Bool as Boolean, Int, Uint, Float as Floating, Complex, TimeDelta, DateTime, ByteStr, UnicodeStr, Object, RawData}
-use Rattle.string_value.specs.declared.StringKind.{StringKind}
-
--- the kind of a type's elements: S, U, V, or no strings
-abbrev pub kindOf : TypeChar → StringKind
-kindOf Boolean = StringKind.Other
-kindOf Int = StringKind.Other
-kindOf Uint = StringKind.Other
-kindOf Floating = StringKind.Other
-kindOf Complex = StringKind.Other
-kindOf TimeDelta = StringKind.Other
-kindOf DateTime = StringKind.Other
-kindOf ByteStr = StringKind.ByteStr
-kindOf UnicodeStr = StringKind.UnicodeStr
-kindOf Object = StringKind.Other
-kindOf RawData = StringKind.RawData
+use Rattle.type_letters.specs.Classes.{isUnicode, isBytes, isRaw}
+use Rattle.type_str.specs.declared.TypeStr.{TypeStr}
 
 -- b in front of what is left of the rest; a zero in front of nothing is dropped
 abbrev pub before : ℕ → List ℕ → List ℕ
@@ -38,12 +23,9 @@ abbrev pub trimmed : List ℕ → List ℕ
 trimmed [] = []
 trimmed (b ∷ bs) = before b (trimmed bs)
 
--- the value of an S or V element as bytes
-abbrev pub bytesIn : StringKind → (run : List ℕ) → Outcome (List ℕ)
-bytesIn StringKind.ByteStr run = gives (trimmed run)
-bytesIn StringKind.UnicodeStr run = refused 26
-bytesIn StringKind.RawData run = gives run
-bytesIn StringKind.Other run = refused 26
+-- the value of an S or V element as bytes, or 26
+unfoldable pub bytesIn : TypeStr → (run : List ℕ) → Outcome (List ℕ)
+bytesIn t run = cond (isBytes (t .letter)) (gives (trimmed run)) (cond (isRaw (t .letter)) (gives run) (refused 26))
 
 -- c if it is a Unicode scalar value, else 29
 unfoldable pub scalar : ℕ → Outcome ℕ
@@ -61,12 +43,9 @@ points order (a ∷ b ∷ []) = refused 29
 points order (a ∷ b ∷ c ∷ []) = refused 29
 points order (a ∷ b ∷ c ∷ d ∷ run) = then (scalar (inOrder order (a ∷ b ∷ c ∷ d ∷ []))) (λ p. each (λ ps. p ∷ ps) (points order run))
 
--- the value of a U element as code points
-abbrev pub pointsIn : StringKind → Endianness → (run : List ℕ) → Outcome (List ℕ)
-pointsIn StringKind.ByteStr order run = refused 26
-pointsIn StringKind.UnicodeStr order run = each trimmed (points order run)
-pointsIn StringKind.RawData order run = refused 26
-pointsIn StringKind.Other order run = refused 26
+-- the value of a U element as code points, or 26, or 29
+unfoldable pub pointsIn : TypeStr → (run : List ℕ) → Outcome (List ℕ)
+pointsIn t run = unless (not (isUnicode (t .letter))) 26 (each trimmed (points (t .order) run))
 
 -- the value, or nothing on a refusal
 abbrev pub found : Outcome (List ℕ) → List ℕ

@@ -2,25 +2,24 @@
 -- the element"; "Writing an element: 27, 26 for its type, 29, 30, 28." 27 and 28 are in Rooms.antt, the others here.
 use Prim.Native.Nat.{ℕ, _-_}
 use mathlib.Core.List.{List, [], _∷_, _++_}
-use mathlib.Core.Bool.{Bool, true, not, _&&_}
+use mathlib.Core.Bool.{Bool, true, not, cond, _&&_}
 use lib.Dec.{eqb, ltb}
 use lib.ListN.{length, replicate}
 use Rattle.counts.specs.Outcome.{Outcome, gives, refused, unless}
 use Rattle.number_bytes.specs.Numbers.{outOrder}
 use Rattle.utf8_scalar.specs.Scalar.{isScalar}
 use Rattle.type_letters.specs.declared.Endianness.{Endianness}
-use Rattle.string_value.specs.declared.StringKind.{StringKind}
+use Rattle.type_letters.specs.Classes.{isUnicode, isBytes, isRaw}
+use Rattle.type_str.specs.declared.TypeStr.{TypeStr}
 
 -- "fills up with zeros"
 unfoldable pub zeroFilled : ℕ → List ℕ → List ℕ
 zeroFilled size value = value ++ replicate (size - length value) 0
 
--- bytes as the run of an element of this size
-unfoldable pub bytesOut : StringKind → (size : ℕ) → (value : List ℕ) → Outcome (List ℕ)
-bytesOut StringKind.ByteStr size value = unless (ltb size (length value)) 30 (gives (zeroFilled size value))
-bytesOut StringKind.UnicodeStr size value = refused 26
-bytesOut StringKind.RawData size value = unless (not (eqb size (length value))) 30 (gives value)
-bytesOut StringKind.Other size value = refused 26
+-- bytes as the run of an S or V element, or 26, or 30
+unfoldable pub bytesOut : TypeStr → (value : List ℕ) → Outcome (List ℕ)
+bytesOut t value = cond (isBytes (t .letter)) (unless (ltb (t .size) (length value)) 30 (gives (zeroFilled (t .size) value)))
+    (cond (isRaw (t .letter)) (unless (not (eqb (t .size) (length value))) 30 (gives value)) (refused 26))
 
 -- whether every number of a list is a scalar value
 abbrev pub allScalars : List ℕ → Bool
@@ -32,10 +31,7 @@ abbrev pub pointBytes : Endianness → List ℕ → List ℕ → List ℕ
 pointBytes order [] x = x
 pointBytes order (c ∷ cs) x = outOrder order 4 c ++ pointBytes order cs x
 
--- code points as the run of an element of this size
-unfoldable pub pointsOut : StringKind → Endianness → (size : ℕ) → (value : List ℕ) → Outcome (List ℕ)
-pointsOut StringKind.ByteStr order size value = refused 26
-pointsOut StringKind.UnicodeStr order size value =
-    unless (not (allScalars value)) 29 (unless (ltb size (length value)) 30 (gives (pointBytes order (zeroFilled size value) [])))
-pointsOut StringKind.RawData order size value = refused 26
-pointsOut StringKind.Other order size value = refused 26
+-- code points as the run of a U element, or the first of 26, 29, 30 that applies
+unfoldable pub pointsOut : TypeStr → (value : List ℕ) → Outcome (List ℕ)
+pointsOut t value = unless (not (isUnicode (t .letter))) 26 (unless (not (allScalars value)) 29
+    (unless (ltb (t .size) (length value)) 30 (gives (pointBytes (t .order) (zeroFilled (t .size) value) []))))

@@ -1,16 +1,8 @@
-// The values of S, U and V elements (document 01, "String elements"): definitions in specs/, laws and round trips in proofs/, and here the kinds of elements.
+// The values of S, U and V elements (document 01, "String elements"): definitions in specs/, laws and round trips in proofs/, and here how many bytes of S are left.
 // Called by string_element, which reads and writes elements.
 ghost use mathlib.Core.Path.{_≡_};
 ghost use lib.ListN.{length};
 ghost use Rattle.string_value.specs.Elements.{trimmed};
-
-// The kind of a type's elements: S, U, V, or no strings.
-pub enum StringKind {
-    ByteStr,
-    UnicodeStr,
-    RawData,
-    Other,
-}
 
 // How many bytes are left when trailing zeros are dropped.
 pub fn kept(run: &[u8]) -> usize

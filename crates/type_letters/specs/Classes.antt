@@ -1,4 +1,5 @@
--- Document 01, "The record": "absent for `O` and needed otherwise", "4 times it for U": the two letters with rules of their own, by their bytes (79 is `O`, 85 `U`).
+-- Document 01, "The record": "absent for `O` and needed otherwise", "4 times it for U"; "String elements": S, U and V. The letters with rules of their own, by their bytes
+-- (79 is `O`, 83 `S`, 85 `U`, 86 `V`).
 use Prim.Native.Nat.{ℕ}
 use mathlib.Core.Bool.{Bool}
 use lib.Dec.{eqb}
@@ -13,7 +14,15 @@ isObject l = eqb (letterByte l) 79
 abbrev pub isUnicode : TypeChar → Bool
 isUnicode l = eqb (letterByte l) 85
 
--- the same of a byte, for the letters of entries that are read from a table
+-- whether the letter is `S`
+abbrev pub isBytes : TypeChar → Bool
+isBytes l = eqb (letterByte l) 83
+
+-- whether the letter is `V`
+abbrev pub isRaw : TypeChar → Bool
+isRaw l = eqb (letterByte l) 86
+
+-- `O` and `U` by the byte, for the letters of entries that are read from a table
 abbrev pub isObjectByte : ℕ → Bool
 isObjectByte b = eqb b 79
 
