@@ -38,8 +38,8 @@ use Rattle.judge.proofs.Top.{reading-keeps}
 use Rattle.header.specs.Reads.{HeaderInfo, headerInfo, answer, heldInto, infoOf}
 use Rattle.write.specs.Writes.{headerWritten}
 use Rattle.read_back.specs.Rooms.{tableIn, namesIn, shapeIn}
-use Rattle.read_back.proofs.Accepted.{valid-sound, sound-checked}
-use Rattle.read_back.proofs.Rooms.{front}
+use Rattle.read_back.proofs.Accepted.{valid-sound}
+use Rattle.read_back.proofs.Rooms.{front, table-whole, names-whole}
 use Rattle.npy_codes.specs.Codes.{alone}
 use Rattle.npy_codes.specs.Numbers.{orderFor, headerValues}
 use Rattle.npy_codes.proofs.Named.{retold}
@@ -62,7 +62,7 @@ writing-whole r room =
     (λ b. unless-holds (λ b. b ≡ fileOf r) (ltb (length room) (length (fileOf r))) 28 (gives (fileOf r)) (λ c. refl))))
 
 -- ---- the bytes of a sound record are read back
-module _ {R : Type 0} (door : Door HeaderInfo R) (r : Record) (valid : Valid (table (r .dtype)) (names (r .dtype)) (r .shape) (r .order) r) (l l′ : Lent) (y : R) where
+module _ {R : Type 0} (door : Door HeaderInfo R) (r : Record) (l l′ : Lent) (y : R) where
   comes-back : (o : Outcome header.Header) → o ≡ unless (tooSmall (roomsOf l) (needs r)) 23 (gives (headerFor r)) → y ≡ door .returned (each headerInfo o)
       → l′ ≡ afterwards header.holdingHeader o l → Comes-back door (table (r .dtype)) (names (r .dtype)) (r .shape) (r .order) (length (fileOf r)) l y l′
   comes-back o e a b = go (tooSmall (roomsOf l) (needs r)) refl e
@@ -78,29 +78,29 @@ module _ {R : Type 0} (door : Door HeaderInfo R) (r : Record) (valid : Valid (ta
           record {
             roomy = λ h.
                 record {
-                  header = headerFor r;
-                  valid = valid;
-                  starts = sym (file-whole r);
+                  header = headerInfo (headerFor r);
                   is = a ∙ ap (λ (q : Outcome header.Header). door .returned (each headerInfo q)) k;
+                  starts = sym (file-whole r);
+                  order-is = refl;
+                  entries-are = table-whole r;
+                  names-are = names-whole r;
+                  rank-is = refl;
                   stored = b ∙ ap (λ (q : Outcome header.Header). afterwards header.holdingHeader q l) k;
                 };
             no-room = λ h. absurd (h (fits-roomy r l fits));
           }
 
-module _ (r : Record) (sound : Sound r) (limits : limited r ≡ gives r) (room : List ℕ) (e : writing r room ≡ gives (fileOf r)) where
-  own-valid : Valid (table (r .dtype)) (names (r .dtype)) (r .shape) (r .order) r
-  own-valid = checked-valid _ _ _ _ r (sound-checked r sound limits)
-
+module _ (r : Record) (sound : Sound r) (room : List ℕ) (e : writing r room ≡ gives (fileOf r)) where
   sound-read : (rest : List ℕ) (l : Lent) → heldInto false (fileOf r ++ rest) l ≡ unless (tooSmall (roomsOf l) (needs r)) 23 (gives (headerFor r))
   sound-read rest l = record-written-read reading reading-keeps r sound room (fileOf r) e rest (roomsOf l)
 
   sound-back : Read-back (fileOf r) (table (r .dtype)) (names (r .dtype)) (r .shape) (r .order)
   sound-back rest l l′ x h =
-      comes-back in-rattle r own-valid l l′ (answer x) (heldInto false (fileOf r ++ rest) l) (sound-read rest l) (h .answered reading reading-keeps) (h .after reading reading-keeps)
+      comes-back in-rattle r l l′ (answer x) (heldInto false (fileOf r ++ rest) l) (sound-read rest l) (h .answered reading reading-keeps) (h .after reading reading-keeps)
 
   npy-sound-back : Npy-read-back (fileOf r) (table (r .dtype)) (names (r .dtype)) (r .shape) (r .order)
   npy-sound-back rest l l′ said said′ c h =
-      comes-back (in-c headerValues said) r own-valid l l′ (c, said′) (heldInto false (fileOf r ++ rest) l) (sound-read rest l) (c-returned (h .answered reading reading-keeps))
+      comes-back (in-c headerValues said) r l l′ (c, said′) (heldInto false (fileOf r ++ rest) l) (sound-read rest l) (c-returned (h .answered reading reading-keeps))
       (h .after reading reading-keeps)
 
 -- ---- in the caller's own words
@@ -133,10 +133,10 @@ module _ (t ns s : List ℕ) (o : Order) (room : List ℕ) (n : ℕ) (room′ : 
   taken-length = ap length (w .bytes) ∙ w .long
 
   own-back : Read-back (take n room′) t ns s o
-  own-back = rw (w .valid .table-is, w .valid .names-are, w .valid .shape-is, w .valid .order-is, w .bytes) (sound-back (w .says) (w .sound) (w .valid .limits) room (w .writes))
+  own-back = rw (w .valid .table-is, w .valid .names-are, w .valid .shape-is, w .valid .order-is, w .bytes) (sound-back (w .says) (w .sound) room (w .writes))
 
   npy-own-back : Npy-read-back (take n room′) t ns s o
-  npy-own-back = rw (w .valid .table-is, w .valid .names-are, w .valid .shape-is, w .valid .order-is, w .bytes) (npy-sound-back (w .says) (w .sound) (w .valid .limits) room (w .writes))
+  npy-own-back = rw (w .valid .table-is, w .valid .names-are, w .valid .shape-is, w .valid .order-is, w .bytes) (npy-sound-back (w .says) (w .sound) room (w .writes))
 
 -- WHAT WAS WRITTEN IS READ BACK
 pub written-read : Written-read
@@ -198,7 +198,7 @@ read-written file l l′ x h c e held out out′ v k =
     let (sound, only) = writes-so file l l′ (headerInfo h) w (h .says) (says-is file l l′ (headerInfo h) w h refl held) in
     let is = ap (λ (c : Outcome Record). then c (λ r. writing r out)) (valid-checked _ _ _ _ _ own) in
     goes-again in-rattle (h .says) out (bytesAnswer v) out′ _ (only out) (k .writes .answered ∙ ap (each length) is)
-    (k .writes .room-after ∙ ap (λ (o : Outcome (List ℕ)). afterwards atFront o out) is) (λ e. sound-back (h .says) sound (own .limits) out e)
+    (k .writes .room-after ∙ ap (λ (o : Outcome (List ℕ)). afterwards atFront o out) is) (λ e. sound-back (h .says) sound out e)
 
 pub read-written-in-c : Read-written-in-C
 unfolding headerWritten
@@ -212,4 +212,4 @@ read-written-in-c file l l′ said said′ h c e held out out′ count count′ 
     ap (λ (g : Outcome Order). then g (λ o. headerWritten (tableIn n l′) (namesIn n l′) (shapeIn n l′) o out)) (order-back (n .order))
     ∙ ap (λ (c : Outcome Record). then c (λ r. writing r out)) (valid-checked _ _ _ _ _ own) in
     goes-again (in-c alone count) (h .says) out (v, count′) out′ _ (only out) (c-returned (retold (ap (each length) is) (k .writes .answered)))
-    (k .writes .room-after ∙ ap (λ (o : Outcome (List ℕ)). afterwards atFront o out) is) (λ e. npy-sound-back (h .says) sound (own .limits) out e)
+    (k .writes .room-after ∙ ap (λ (o : Outcome (List ℕ)). afterwards atFront o out) is) (λ e. npy-sound-back (h .says) sound out e)

@@ -3,7 +3,7 @@
 -- starts after them; or the result is 23, if a room is too small. `Read-written`: the record that a reading left in the rooms is refused by the writer with 4 exactly if its
 -- text is over 131,072 bytes, then with 28 exactly if the output room is too small; else it is written and read back. That some header is
 -- read and written at all is claimed of document 01's 80 bytes (`eighty-read` and `eighty-written`, Edges.antt).
-use Prim.Native.Nat.{ℕ, _<_, _≤_}
+use Prim.Native.Nat.{ℕ, _*_, _<_, _≤_}
 use mathlib.Core.Path.{_≡_}
 use mathlib.Core.List.{List, [], _∷_, _++_}
 use lib.ListN.{length, take}
@@ -12,12 +12,12 @@ use Rattle.counts.specs.Front.{atFront}
 use Rattle.refusal.specs.declared.BytesAnswer.{BytesAnswer}
 use Rattle.refusal.specs.Answers.{bytesAnswer}
 use Rattle.dtype.specs.declared.Order.{Order}
+use Rattle.dtype.specs.Flat.{entry-width}
 use Rattle.dtype.specs.Record.{Record, table, names}
 use Rattle.record.specs.Prefix.{most-text}
 use Rattle.record.specs.Rooms.{Lent, holding}
 use Rattle.record.specs.Header.{Header}
 use Rattle.record.specs.File.{text as headerText, fileOf}
-use Rattle.check_record.specs.Valid.{Valid}
 use Rattle.header.specs.declared.HeaderRead.{HeaderRead}
 use Rattle.header.specs.Reads.{HeaderInfo, infoOf, headerInfo, answer}
 use Rattle.read_back.specs.Rooms.{tableIn, namesIn, shapeIn}
@@ -29,13 +29,16 @@ use Rattle.claims.specs.Functions.{Read, Write-header}
 use Rattle.claims.specs.InC.{Npy-read, Npy-write-header}
 
 -- ---- what was written is read back
--- a header was read whose record is these parts and whose data starts at `start`: its values are returned, and the rooms hold its record
+-- a header was read with this order, whose data starts at `start`: its values are returned, and the rooms begin with the table, the names and the shape, whose lengths are among the values
 pub record Read-as {R : Type 0} (door : Door HeaderInfo R) (t ns s : List ℕ) (o : Order) (start : ℕ) (l : Lent) (y : R) (l′ : Lent) : Type 0 where
-  pub header : Header
-  pub valid : Valid t ns s o (header .says)
+  pub header : HeaderInfo
+  pub is : y ≡ door .returned (gives header)
   pub starts : header .data-start ≡ start
-  pub is : y ≡ door .returned (gives (headerInfo header))
-  pub stored : l′ ≡ holding (header .says) l
+  pub order-is : header .info .order ≡ o
+  pub entries-are : entry-width * header .info .entries ≡ length t
+  pub names-are : header .info .names ≡ length ns
+  pub rank-is : header .info .rank ≡ length s
+  pub stored : l′ ≡ record { table = atFront t (l .table); names = atFront ns (l .names); shape = atFront s (l .shape) }
 
 -- .. if the rooms are large enough; else 23, and the rooms are unchanged
 pub record Comes-back {R : Type 0} (door : Door HeaderInfo R) (t ns s : List ℕ) (o : Order) (start : ℕ) (l : Lent) (y : R) (l′ : Lent) : Type 0 where
