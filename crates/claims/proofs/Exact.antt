@@ -86,16 +86,16 @@ read-in-text text r e =
 
 -- the text of a file is the same where the file may be longer, if it is all there
 held-whole : (longer : Bool) (p : Prefix) (file text : List ℕ) → textOf p file ≡ gives text → textHeld longer p file ≡ gives text
-unfolding textHeld
+unfolding textHeld textOf
 held-whole longer p file text e =
     let (fits, is) = unless-back (ltb (length file) (dataStart p)) 3 _ text e in
     rw (textHeld, fits) is
 
 whole-held : (longer : Bool) (p : Prefix) (file text : List ℕ) → textHeld longer p file ≡ gives text → textOf p file ≡ gives text
-unfolding textHeld
+unfolding textHeld textOf
 whole-held longer p file text e =
     let (fits, is) = unless-back (ltb (length file) (dataStart p)) (missing longer) _ text e in
-    rw (textHeld, fits) is
+    rw (textOf, fits) is
 
 -- a header by its parts
 abbrev made : Version → Record → ℕ → header.Header

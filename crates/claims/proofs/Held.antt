@@ -13,7 +13,7 @@ use Rattle.refusal.specs.declared.Refusal.{Refusal}
 use Rattle.refusal.proofs.Names.{number-apart}
 use Rattle.counts.proofs.Apart.{refused-gives}
 use Rattle.counts.proofs.Holds.{Holds, holds-each, then-alike-held}
-use Rattle.record.specs.Prefix.{Prefix, dataStart, prefix, textHeld, textOf}
+use Rattle.record.specs.Prefix.{Prefix, dataStart, prefix, textHeld}
 use Rattle.record.specs.Rooms.{Lent, roomsOf}
 use Rattle.record.specs.Header as header
 use Rattle.record.proofs.Fronts.{prefix-front, front-enough}
@@ -31,14 +31,14 @@ refused-by (HeaderRead.Refused f) a = ap HeaderRead.Refused (number-apart f Refu
 
 -- a part whose header ends within it
 module _ (part : List ℕ) (l : Lent) where
-  text-same : (p : Prefix) → dataStart p ≤ length part → textHeld true p part ≡ textOf p part
+  text-same : (p : Prefix) → dataStart p ≤ length part → textHeld true p part ≡ textHeld false p part
   unfolding textHeld
   text-same p h = rw (textHeld, le-ltb (length part) (dataStart p) h)
 
   held-same : Holds (λ p. dataStart p ≤ length part) (prefix part) → heldInto true part l ≡ header.heldBy reading false part l
   held-same h =
       then-alike-held (λ p. dataStart p ≤ length part) (prefix part) (λ p. afterPrefix true part p l)
-      (λ p. then (textOf p part) (λ s. then (header.recordIn reading s) (header.stored (roomsOf l) p))) h
+      (λ p. then (textHeld false p part) (λ s. then (header.recordIn reading s) (header.stored (roomsOf l) p))) h
       (λ p e. ap (λ t. then t (λ s. then (header.recordIn reading s) (header.stored (roomsOf l) p))) (text-same p e))
 
   held-past : (p : Prefix) → prefix part ≡ gives p → length part < dataStart p → heldInto true part l ≡ refused 23

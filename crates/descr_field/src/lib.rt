@@ -11,9 +11,8 @@ use literal_bytes::Parsed;
 use literal_bytes::ValueKind;
 use literal_bytes::ended;
 use literal_bytes::gap_at;
-use literal_bytes::kind_of;
+use literal_bytes::kind_at;
 use literal_bytes::need;
-use literal_bytes::peek;
 use literal_bytes::then_at;
 use literal_tokens::scan_at;
 use refusal::Refusal;
@@ -37,7 +36,7 @@ ghost use Rattle.descr_field.specs.Parts.{nameAt, afterInnerAt};
 pub fn string_at(text: &[u8], at: usize) -> bool
     ensures { λ r. ⌜ r ≡ isString (kindOf (byteAt (now (text .entry)) at)) ⌝ }
 {
-    let k = kind_of(peek(text, at));
+    let k = kind_at(text, at);
     match k {
         ValueKind::Quote => true,
         ValueKind::Square
@@ -56,7 +55,7 @@ pub fn string_at(text: &[u8], at: usize) -> bool
 pub fn closing_at(text: &[u8], at: usize) -> u8
     ensures { λ r. ⌜ r ≡ closingOf (kindOf (byteAt (now (text .entry)) at)) ⌝ }
 {
-    closing(kind_of(peek(text, at)))
+    closing(kind_at(text, at))
 }
 
 // Where the bracket ends, the next item begins, or the stray byte is.

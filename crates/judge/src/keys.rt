@@ -19,8 +19,7 @@ use literal_bytes::ValueKind;
 use literal_bytes::colon_at;
 use literal_bytes::ended;
 use literal_bytes::gap_at;
-use literal_bytes::kind_of;
-use literal_bytes::peek;
+use literal_bytes::kind_at;
 use literal_bytes::then_at;
 use literal_grammar::OPEN;
 use literal_tokens::scan_at;
@@ -67,7 +66,7 @@ struct Key {
 pub(crate) fn keys(text: &[u8], at: usize) -> Walked
     ensures { λ r. ⌜ Walks (now (text .entry)) at r ⌝ }
 {
-    let k = kind_of(peek(text, at));
+    let k = kind_at(text, at);
     let ValueKind::Curly = k else {
         return Walked {
             ended: value(text, at, OPEN),
@@ -180,7 +179,7 @@ fn order_at(text: &[u8], at: usize, name: Name, was: Declared) -> Declared
 fn key_at(text: &[u8], at: usize, room: usize) -> Key
     ensures { λ r. ⌜ KeyIs room (now (text .entry)) at r ⌝ }
 {
-    let k = kind_of(peek(text, at));
+    let k = kind_at(text, at);
     let ValueKind::Quote = k else {
         return Key {
             name: Name::NoString,

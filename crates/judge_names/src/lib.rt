@@ -2,8 +2,7 @@
 // Called by judge.
 use dtype::Order;
 use literal_bytes::ValueKind;
-use literal_bytes::kind_of;
-use literal_bytes::peek;
+use literal_bytes::kind_at;
 use literal_escapes::is_text;
 use refusal::Refusal;
 ghost use mathlib.Core.Path.{_≡_};
@@ -103,7 +102,7 @@ pub fn word_at(text: &[u8], at: usize) -> Declared
     ensures { λ r. ⌜ WordAt (now (text .entry)) at r ⌝ }
     ensures { λ r. ⌜ r ≡ wordOf (kindOf (byteAt (now (text .entry)) at)) ⌝ }
 {
-    let k = kind_of(peek(text, at));
+    let k = kind_at(text, at);
     match k {
         ValueKind::TrueWord => Declared::Is(Order::Fortran),
         ValueKind::FalseWord => Declared::Is(Order::C),

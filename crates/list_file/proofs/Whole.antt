@@ -17,7 +17,7 @@ use Rattle.emit.proofs.Texts.{written-short, written-whole}
 use Rattle.dtype.specs.Flat.{entry-width}
 use Rattle.dtype.specs.Record.{Record}
 use Rattle.record.specs.Version.{Version, textStart}
-use Rattle.record.specs.Prefix.{Prefix, dataStart, prefix, missing, textHeld, textOf}
+use Rattle.record.specs.Prefix.{Prefix, dataStart, prefix, missing, textHeld}
 use Rattle.record.specs.Rooms.{Rooms, Lent, roomsOf}
 use Rattle.record.specs.Header as header
 use Rattle.header_prefix.specs.Answer.{versionIs}
@@ -36,7 +36,7 @@ use Rattle.read_back.proofs.Accepted.{read-checked}
 use Rattle.read_back.proofs.Rooms.{fronts-by, checked-fronts}
 
 -- ---- a header of a file that is held in part is one of the bytes that are held
-text-whole : (longer : Bool) (p : Prefix) (file s : List ℕ) → textHeld longer p file ≡ gives s → textOf p file ≡ gives s
+text-whole : (longer : Bool) (p : Prefix) (file s : List ℕ) → textHeld longer p file ≡ gives s → textHeld false p file ≡ gives s
 unfolding textHeld
 text-whole longer p file s e = go (ltb (length file) (dataStart p)) e
   where
@@ -55,7 +55,7 @@ held-whole longer file l h e = go (prefix file) e
     texts p (refused n) o′ same e = absurd (let z : _≡_ {A = ℕ} 0 1 = cc in omega arith)
 
     go : (o : Outcome Prefix) → then o (λ p. afterPrefix longer file p l) ≡ gives h → then o (λ p. afterPrefix false file p l) ≡ gives h
-    go (gives p) e = texts p (textHeld longer p file) (textOf p file) (text-whole longer p file) e
+    go (gives p) e = texts p (textHeld longer p file) (textHeld false p file) (text-whole longer p file) e
     go (refused n) e = absurd (let z : _≡_ {A = ℕ} 0 1 = cc in omega arith)
 
 -- ---- the listing of a header that was read

@@ -5,7 +5,7 @@ use mathlib.Core.List.{List}
 use mathlib.Core.Bool.{Bool}
 use Rattle.counts.specs.OneOutcome.{OneOutcome}
 use Rattle.counts.proofs.OneOutcome.{by-equation}
-use Rattle.literal_bytes.specs.Text.{byteAt, kindOf, past}
+use Rattle.literal_bytes.specs.Text.{byteAt, kindOf, skip}
 use Rattle.literal_bytes.specs.declared.ValueKind.{ValueKind}
 use Rattle.literal_bytes.specs.declared.Parsed.{Parsed}
 use Rattle.literal_bytes.specs.Gaps.{gapAt, thenAt, needAt, colonAt, endedAt}
@@ -18,12 +18,11 @@ peek-one text at = by-equation (byteAt text at)
 pub class-one : (class : ℕ → Bool) (b : ℕ) → OneOutcome {A = Bool} (λ r. r ≡ class b)
 class-one class b = by-equation (class b)
 
-pub kind-of-one : (b : ℕ) → OneOutcome {A = ValueKind} (λ r. r ≡ kindOf b)
-kind-of-one b = by-equation (kindOf b)
+pub kind-at-one : (text : List ℕ) (at : ℕ) → OneOutcome {A = ValueKind} (λ r. r ≡ kindOf (byteAt text at))
+kind-at-one text at = by-equation (kindOf (byteAt text at))
 
--- blanks and digits: the end of a run
-pub run-one : (class : ℕ → Bool) (text : List ℕ) (from : ℕ) → OneOutcome {A = ℕ} (λ r. r ≡ past class text from)
-run-one class text from = by-equation (past class text from)
+pub blanks-one : (text : List ℕ) (from : ℕ) → OneOutcome {A = ℕ} (λ r. r ≡ skip text from)
+blanks-one text from = by-equation (skip text from)
 
 pub gap-at-one : (text : List ℕ) (at close : ℕ) → OneOutcome {A = Gap} (λ r. r ≡ gapAt text at close)
 gap-at-one text at close = by-equation (gapAt text at close)

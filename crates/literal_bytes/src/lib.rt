@@ -1,9 +1,9 @@
-// The bytes of a literal by position (document 01, "The literal"): their classes, runs of blanks and digits, and what is between the items of a bracket.
+// The bytes of a literal by position (document 01, "The literal"): their classes, runs of blanks, and what is between the items of a bracket.
 // Called by every crate that walks header text: literal, descr, shape_text, judge and their parts. Positions are indices of the text; `close` is the closing bracket.
 ghost use mathlib.Core.Path.{_≡_};
 ghost use Rattle.literal_grammar.specs.Bytes.{isBlank, isQuote, isOpen, isBreak};
 ghost use Rattle.decimal.specs.Decimal.{isDigit};
-ghost use Rattle.literal_bytes.specs.Text.{byteAt, kindOf, past, skip, allPass, blockAt};
+ghost use Rattle.literal_bytes.specs.Text.{byteAt, kindOf, skip, allPass, blockAt};
 ghost use Rattle.literal_bytes.specs.Gaps.{gapAt, commaSpaceItemAt, shutAt, thenAt, needAt, colonAt, endedAt};
 
 // What `peek` returns past the end of a text.
@@ -102,7 +102,7 @@ pub fn is_break(b: u8) -> bool
 }
 
 // What a value that begins with the byte is.
-pub fn kind_of(b: u16) -> ValueKind
+fn kind_of(b: u16) -> ValueKind
     ensures { λ r. ⌜ r ≡ kindOf b ⌝ }
 {
     match b {
@@ -123,6 +123,13 @@ pub fn kind_of(b: u16) -> ValueKind
             }
         }
     }
+}
+
+// What a value that begins at a position is; past the end none begins.
+pub fn kind_at(text: &[u8], at: usize) -> ValueKind
+    ensures { λ r. ⌜ r ≡ kindOf (byteAt (now (text .entry)) at) ⌝ }
+{
+    kind_of(peek(text, at))
 }
 
 // Whether each byte of a block is a blank, in one pass without an early end, so that the compiler can take the whole block at a time.
@@ -195,20 +202,6 @@ pub fn blanks(text: &[u8], from: usize) -> usize
         return next;
     }
     blanks_far(text, next + 1)
-}
-
-// The first position from `from` on that is no digit.
-pub fn digits(text: &[u8], from: usize) -> usize
-    ensures { λ r. ⌜ r ≡ past isDigit (now (text .entry)) from ⌝ }
-{
-    let mut at = from;
-    while at < text.len() {
-        if !decimal::is_digit(text[at]) {
-            return at;
-        }
-        at += 1;
-    }
-    at
 }
 
 // What follows where an item may begin: the closing bracket, which ends before the position; an item that begins there; or a fault there.

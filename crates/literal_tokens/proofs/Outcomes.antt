@@ -8,11 +8,8 @@ use Rattle.literal_bytes.specs.Got.{pos}
 use Rattle.literal_bytes.specs.declared.Parsed.{Parsed}
 use Rattle.literal_escapes.specs.Strings.{spelled, scanned}
 use Rattle.literal_escapes.specs.declared.Scan.{Scan}
-use Rattle.literal_tokens.specs.Tokens.{naturalAt, numeralAt, tokenAt}
+use Rattle.literal_tokens.specs.Tokens.{numeralAt, tokenAt}
 use Rattle.literal_tokens.specs.declared.Numeral.{Numeral}
-
-pub natural-one : (text : List ℕ) (at : ℕ) → OneOutcome {A = Parsed} (λ r. r ≡ naturalAt text at)
-natural-one text at = by-equation (naturalAt text at)
 
 pub numeral-at-one : (text : List ℕ) (at : ℕ) → OneOutcome {A = Numeral} (λ r. r ≡ numeralAt text at)
 numeral-at-one text at = by-equation (numeralAt text at)

@@ -3,14 +3,13 @@
 ghost use mathlib.Core.Path.{_≡_};
 ghost use Rattle.literal_bytes.specs.Got.{pos};
 ghost use Rattle.literal_escapes.specs.Strings.{spelled, scanned};
-ghost use Rattle.literal_tokens.specs.Tokens.{naturalAt, numeralAt, wordAt, tokenAt};
+ghost use Rattle.literal_tokens.specs.Tokens.{numeralAt, wordAt, tokenAt};
 use counts::Number;
 use literal_bytes::Parsed;
 use literal_bytes::ValueKind;
 use literal_bytes::ZERO;
-use literal_bytes::digits;
 use literal_bytes::is_digit;
-use literal_bytes::kind_of;
+use literal_bytes::kind_at;
 use literal_bytes::peek;
 use literal_escapes::Piece;
 use literal_escapes::Scan;
@@ -75,21 +74,7 @@ pub struct Numeral {
     pub number: Number,
 }
 
-// The end of `0`, or of a nonzero digit with more digits.
-pub fn natural(text: &[u8], at: usize) -> Parsed
-    ensures { λ r. ⌜ r ≡ naturalAt (now (text .entry)) at ⌝ }
-{
-    let b = peek(text, at);
-    if b == ZERO {
-        return Parsed::Value(at + 1);
-    }
-    if is_digit(b) {
-        return Parsed::Value(digits(text, at + 1));
-    }
-    Parsed::Fault(at)
-}
-
-// The same, and the number that the digits write, in one pass.
+// The end of `0`, or of a nonzero digit with more digits, and the number that they write, in one pass.
 pub fn numeral_at(text: &[u8], at: usize) -> Numeral
     ensures { λ r. ⌜ r ≡ numeralAt (now (text .entry)) at ⌝ }
 {
@@ -134,14 +119,20 @@ fn word(text: &[u8], from: usize, known: &[u8]) -> Parsed
 pub fn token(text: &[u8], at: usize) -> Parsed
     ensures { λ r. ⌜ r ≡ pos (tokenAt (now (text .entry)) at) ⌝ }
 {
-    let k = kind_of(peek(text, at));
+    let k = kind_at(text, at);
     match k {
         ValueKind::Quote => {
             let s = scan_at(text, at + 1, text[at]);
             s.ended
         }
-        ValueKind::Minus => natural(text, at + 1),
-        ValueKind::Digit => natural(text, at),
+        ValueKind::Minus => {
+            let n = numeral_at(text, at + 1);
+            n.ended
+        }
+        ValueKind::Digit => {
+            let n = numeral_at(text, at);
+            n.ended
+        }
         ValueKind::TrueWord => word(text, at, b"True"),
         ValueKind::FalseWord => word(text, at, b"False"),
         ValueKind::NoneWord => word(text, at, b"None"),

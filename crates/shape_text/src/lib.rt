@@ -10,7 +10,7 @@ use literal_bytes::ROUND;
 use literal_bytes::SQUARE;
 use literal_bytes::ValueKind;
 use literal_bytes::gap_at;
-use literal_bytes::kind_of;
+use literal_bytes::kind_at;
 use literal_bytes::need;
 use literal_bytes::peek;
 use literal_bytes::then_at;
@@ -229,7 +229,7 @@ pub struct DimsStored {
 pub fn fill(text: &[u8], at: usize, room: usize, out: &mut [u64]) -> DimsStored
     ensures { λ r. ⌜ Stored (frontAt room (now (text .entry)) at) (stopAt room (now (text .entry)) at) (now (out .entry)) r (now (out .exit)) ⌝ }
 {
-    let close = closing(kind_of(peek(text, at)));
+    let close = closing(kind_at(text, at));
     if (close == 0) | (room == 0) {
         return DimsStored {
             rank: 0,

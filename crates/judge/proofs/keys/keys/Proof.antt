@@ -1,20 +1,16 @@
 -- No brace; or a dict, whose pairs are walked over.
 use Prim.Native.Nat.{_-_}
 use native.Mathlib.Omega.{arith}
-use mathlib.Core.Path.{refl, sym, ap, _∙_}
+use mathlib.Core.Path.{refl, sym, _∙_}
 use borrow.Author.Needs.{needs}
-use Rattle.literal_bytes.specs.Text.{kindOf}
 use Rattle.literal_grammar.specs.Nesting.{most-open}
 use Rattle.literal_bytes.proofs.Positions.{kind-in}
 use Rattle.judge.proofs.Seek.{dict-keys, dict-walked, no-dict}
 use Rattle.judge.proofs.keys.keys.Statement.{statement}
 use Rattle.judge.proofs.keys.keys.Tie as tie
 
-peek-requires : tie.Need-peek-requires
-peek-requires c κs = search needs
-
-kind-of-requires : tie.Need-kind-of-requires
-kind-of-requires c κs = search needs
+kind-at-requires : tie.Need-kind-at-requires
+kind-at-requires c κs = search needs
 
 enum-told : tie.Need-enum-told
 enum-told c = search needs
@@ -24,14 +20,14 @@ value-requires c κs = search needs
 
 returns : tie.Need-returns
 returns c =
-    let a = c .before .before .before .before .before .args in
-    let hk = c .before .before .kind-of .ensures ∙ ap kindOf (c .before .before .before .peek .ensures) in
+    let a = c .before .before .before .before .args in
+    let hk = c .before .before .kind-at .ensures in
     record { ended = c .value .ensures; keys = no-dict (most-open - 1) (a .text .now) (a .at) _ hk (c .before .match .keys2) _ refl refl refl refl }
 
 add-keys-from : tie.Need-add-keys-from
 add-keys-from c =
-    let a = c .before .before .before .before .before .args in
-    let hk = c .before .before .kind-of .ensures ∙ ap kindOf (c .before .before .before .peek .ensures) in
+    let a = c .before .before .before .before .args in
+    let hk = c .before .before .kind-at .ensures in
     let lt = kind-in (a .text .now) (a .at) (sym hk ∙ c .enum-told .given .1) refl in
     omega arith
 
@@ -43,9 +39,9 @@ keys-from-requires c κs = search needs
 
 returns-2 : tie.Need-returns-2
 returns-2 c =
-    let a = c .before .before .before .before .before .before .args in
+    let a = c .before .before .before .before .before .args in
     let s = a .text .now in
-    let hk = c .before .before .before .kind-of .ensures ∙ ap kindOf (c .before .before .before .before .peek .ensures) in
+    let hk = c .before .before .before .kind-at .ensures in
     let z = c .before .enum-told .given .1 in
     let w = c .keys-from in
     record { ended = dict-walked (most-open - 1) s (a .at) _ hk z (w .result) (w .ensures); keys = dict-keys (most-open - 1) s (a .at) _ hk z (w .result) (w .ensures) }
@@ -54,8 +50,7 @@ pub keys-spec : {M : Type 1} → statement M
 keys-spec =
     tie.close
     (tie.spec
-    peek-requires
-    kind-of-requires
+    kind-at-requires
     enum-told
     value-requires
     returns
