@@ -10,6 +10,7 @@ use Rattle.dtype.specs.declared.Order.{Order}
 use Rattle.dtype.specs.Dtype.{Dtype}
 use Rattle.dtype.specs.Entries.{entriesOf}
 use Rattle.dtype.specs.Shape.{product}
+use Rattle.dtype.specs.Flat.{entry-width}
 use Rattle.dtype.specs.Record.{Record}
 use Rattle.dtype.specs.Limits.{overDimensions, overLevels, overEntries, overSize, overShape, limited}
 use Rattle.shape.specs.Count.{itemCount}
@@ -58,7 +59,7 @@ module _ (t ns s : List ℕ) (o : Order) where
       go (refused m) e k = let z : n ≡ m = cc in ap refused z ∙ sym (checked-by (refused m) e)
 
   -- 22, or what the record has
-  pub check-counted : (n : ℕ) → n ≡ length t / 9 → (z : ItemSize) → gives z ≡ each itemSize (limitedDtype t ns s)
+  pub check-counted : (n : ℕ) → n ≡ length t / entry-width → (z : ItemSize) → gives z ≡ each itemSize (limitedDtype t ns s)
       → each (summaryOf n z s) (itemCount o s) ≡ each summary (checkedRecord t ns s o)
   unfolding summary itemCount
   check-counted n n-is z h = go (limitedDtype t ns s) refl h

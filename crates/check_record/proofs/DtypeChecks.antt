@@ -10,6 +10,7 @@ use Rattle.counts.specs.Outcome.{Outcome, gives, refused, then, each, unless}
 use Rattle.dtype.specs.Dtype.{Dtype, sizeOf}
 use Rattle.dtype.specs.Entries.{entriesOf, hasObject}
 use Rattle.dtype.specs.Names.{nameBytes}
+use Rattle.dtype.specs.Flat.{entry-width}
 use Rattle.dtype.specs.Record.{table, names}
 use Rattle.dtype.specs.Limits.{overDimensions, overLevels, overEntries, someOver, overSize}
 use Rattle.dtype.specs.Agrees.{entryAt, Agrees}
@@ -33,7 +34,7 @@ by-limits : (d : Dtype) (s : List ℕ) (a b c : Bool) → (overDimensions s || o
     → within d s ≡ unless a 13 (unless b 20 (unless c 21 (gives d)))
 by-limits d s a b c p q r = rw (p, q, r)
 
-module _ (t ns s : List ℕ) (d : Dtype) (h : readDtype t ns ≡ gives d) (n : ℕ) (n-is : n ≡ length t / 9) where
+module _ (t ns s : List ℕ) (d : Dtype) (h : readDtype t ns ≡ gives d) (n : ℕ) (n-is : n ≡ length t / entry-width) where
   view : (t ≡ table d) × (ns ≡ names d)
   view = read-view t ns d h
 

@@ -15,6 +15,7 @@ use Rattle.literal_grammar.specs.Promise.{GivesIn, got}
 use Rattle.literal_grammar.proofs.Reading.{skip, afterDigits, natural, word, quoted, parted, upTo, paired, bracketed, kindOf, value, alone, literal}
 use Rattle.literal_grammar.proofs.Kept.{Promise, kept}
 use Rattle.type_read.proofs.Edges as types
+use Rattle.dtype.specs.Flat.{entry-width}
 use Rattle.dtype.proofs.Edges as dtypes
 use Rattle.record.specs.Version.{one-zero}
 use Rattle.record.proofs.Examples.{table-holds, written}
@@ -34,7 +35,7 @@ given = subst (Promise most-open a-and-b-text) a-and-b-literal (kept most-open a
 
 -- the 80 bytes, by the table of crate record, with rooms that are just enough
 eighty-read : In-file eighty (record { version = one-zero; says = three; data-start = 80 })
-eighty-read = read-in-file false eighty (lent (replicate 9 0) [] (0 ∷ [])) _ (table-holds reading reading-keeps .0) .0
+eighty-read = read-in-file false eighty (lent (replicate entry-width 0) [] (0 ∷ [])) _ (table-holds reading reading-keeps .0) .0
 
 pub edges : Edges
 unfolding isDigit digitsOf decimalFrom orderOf letterOf unitsOf sized syntax validated checked typeString

@@ -484,7 +484,7 @@ module _ (k : ℕ) (s : List ℕ) (at entry up m byte : ℕ) (table names : List
       fields-filled : FilledFields e (entry + 1) entry byte (listed .fs) table names mid names′ r
       fields-filled = hf (listed .ns) e (listed .fs) (fields-due k s at entry byte table names n e d h listed)
 
-      record-room : entry-width * entry + 9 ≤ length mid
+      record-room : entry-width * entry + entry-width ≤ length mid
       record-room =
           let long = ap length (fields-filled .table-after) ∙ length-sets table (entry-width * (entry + 1)) (flats (listed .fs) (entry + 1) entry []) in
           omega (arith, long, h .room, some-entry d)

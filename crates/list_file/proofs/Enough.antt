@@ -1,6 +1,6 @@
 -- THE FIRST 65,537 BYTES OF A FILE GIVE ITS REPORT, AND 131,072 BYTES ARE ENOUGH FOR IT. A header that was read has at most 512 entries and 16,384 name bytes, the room that
 -- there was for them; a refusal's line is a word and a number.
-use Prim.Native.Nat.{ℕ, suc, _/_, _≤_}
+use Prim.Native.Nat.{ℕ, suc, _*_, _/_, _≤_}
 use native.Mathlib.Omega.{arith}
 use mathlib.Core.Path.{_≡_, refl, sym, ap, subst, _∙_}
 use mathlib.Core.Logic.{⊎-elim}
@@ -92,7 +92,7 @@ module _ (longer : Bool) (file : List ℕ) (l : Lent) where
 
 fresh-entries : roomsOf fresh .entries ≡ 512
 unfolding fresh
-fresh-entries = ap (λ (n : ℕ). n / entry-width) (length-replicate {A = ℕ} 4608 0)
+fresh-entries = ap (λ (n : ℕ). n / entry-width) (length-replicate {A = ℕ} (entry-width * 512) 0)
 
 fresh-names : roomsOf fresh .name-bytes ≡ 16384
 unfolding fresh

@@ -1,5 +1,5 @@
 -- What the text for a file is: a header that was read is in the rooms and is accepted, so its listing is refused only where it has no room.
-use Prim.Native.Nat.{ℕ, _^_, _-_, _/_, _<_, _≤_}
+use Prim.Native.Nat.{ℕ, _^_, _-_, _*_, _/_, _<_, _≤_}
 use native.Mathlib.Omega.{arith}
 use mathlib.Core.Path.{_≡_, refl, sym, ap, subst, _∙_}
 use mathlib.Core.List.{List, []}
@@ -92,12 +92,12 @@ line-known k n room answer room′ e w = subst (λ (m : ℕ). Owes (roomed 28 ro
 rooms-eq : {a b n m k j : ℕ} → a ≡ b → n ≡ m → k ≡ j → _≡_ {A = Rooms} (record { entries = a; name-bytes = n; rank = k }) (record { entries = b; name-bytes = m; rank = j })
 rooms-eq p q r = cc
 
-rooms-fresh : (l : Lent) → length (l .table) ≡ 4608 → length (l .names) ≡ 16384 → length (l .shape) ≡ 32 → roomsOf l ≡ roomsOf fresh
+rooms-fresh : (l : Lent) → length (l .table) ≡ entry-width * 512 → length (l .names) ≡ 16384 → length (l .shape) ≡ 32 → roomsOf l ≡ roomsOf fresh
 unfolding fresh
 rooms-fresh l a b c =
-    rooms-eq (ap (λ (n : ℕ). n / entry-width) (a ∙ sym (length-replicate {A = ℕ} 4608 0))) (b ∙ sym (length-replicate {A = ℕ} 16384 0)) (c ∙ sym (length-replicate {A = ℕ} 32 0))
+    rooms-eq (ap (λ (n : ℕ). n / entry-width) (a ∙ sym (length-replicate {A = ℕ} (entry-width * 512) 0))) (b ∙ sym (length-replicate {A = ℕ} 16384 0)) (c ∙ sym (length-replicate {A = ℕ} 32 0))
 
-module _ (longer : Bool) (file : List ℕ) (l : Lent) (a : length (l .table) ≡ 4608) (b : length (l .names) ≡ 16384) (c : length (l .shape) ≡ 32) where
+module _ (longer : Bool) (file : List ℕ) (l : Lent) (a : length (l .table) ≡ entry-width * 512) (b : length (l .names) ≡ 16384) (c : length (l .shape) ≡ 32) where
   held-fresh : heldInto longer file l ≡ heldInto longer file fresh
   held-fresh = ap (λ (r : Rooms). then (prefix file) (λ p. then (textHeld longer p file) (λ s. then (header.recordIn reading s) (header.stored r p)))) (rooms-fresh l a b c)
 
@@ -133,7 +133,7 @@ module _ (longer : Bool) (file : List ℕ) (l : Lent) (a : length (l .table) ≡
       go (refused n) e p = let m : numberOf f ≡ n = cc in sym held-fresh ∙ e ∙ ap refused (sym m)
 
 module _ (file part : List ℕ) (l l′ : Lent) (r : HeaderRead) (room : List ℕ) (x : BytesAnswer) (room′ : List ℕ) (held : part ≡ take held-bytes file)
-    (a : length (l .table) ≡ 4608) (b : length (l .names) ≡ 16384) (c : length (l .shape) ≡ 32) (w : ReadsHeld (ltb held-bytes (length file)) part l r l′) where
+    (a : length (l .table) ≡ entry-width * 512) (b : length (l .names) ≡ 16384) (c : length (l .shape) ≡ 32) (w : ReadsHeld (ltb held-bytes (length file)) part l r l′) where
   reads : (q : HeaderRead) → r ≡ q → ReadsHeld (ltb held-bytes (length file)) (take held-bytes file) l q l′
   reads q e =
       subst (λ (y : HeaderRead). ReadsHeld (ltb held-bytes (length file)) (take held-bytes file) l y l′) e

@@ -11,6 +11,7 @@ use Rattle.dtype.specs.declared.Order.{Order}
 use Rattle.dtype.specs.Dtype.{Dtype, Fields, plain, array, record-of, end-of-fields, field-then}
 use Rattle.dtype.specs.Entries.{entriesOf}
 use Rattle.dtype.specs.Flat.{flat, flats}
+use Rattle.dtype.specs.EntryOf.{entryOf}
 use Rattle.dtype.specs.Record.{Record, table, names}
 use Rattle.dtype.specs.Limits.{limited}
 use Rattle.dtype.proofs.Record.{tableOf-all}
@@ -18,7 +19,7 @@ use Rattle.record.specs.Layout.{levelsOf}
 use Rattle.record.specs.Rooms.{Rooms}
 use Rattle.record.specs.Header.{Header, Reading, Keeps, headerBy}
 use Rattle.record.specs.Sound.{Small}
-use Rattle.record.proofs.Sound.{Good, AllGood, Sound}
+use Rattle.record.proofs.Sound.{Good, AllGood, Sound, small-entry}
 use Rattle.record.proofs.RoundTrips.{read-readable}
 use Rattle.check_table.specs.Reading.{Readable, All-readable, isArray, readDtype}
 use Rattle.check_table.proofs.Readable.{readable-typed, readable-named}
@@ -58,10 +59,12 @@ read-checked reading keeps file rooms h e = let w = read-readable reading keeps 
 -- ---- a readable dtype is sound, where the numbers of its table are small
 mutual
   readable-good : (d : Dtype) (at up m : ℕ) (x : List ℕ) → Readable d → Small (flat d at up m x) → Good d × Small x
-  readable-good (plain t) at up m x p h = (p, h .1 .1 .1 .1 .1 .1 .1 .1 .1)
+  readable-good (plain t) at up m x p h = (p, small-entry (entryOf (plain t) up m) x h .1)
   readable-good (array n d) at up m x p h =
-      let below = readable-good d (suc at) at 0 x p (h .1 .1 .1 .1 .1 .1 .1 .1 .1) in ((h .1 .1 .1 .1 .0, below .0), below .1)
-  readable-good (record-of fs) at up m x p h = readable-all-good fs (suc at) at x p (h .1 .1 .1 .1 .1 .1 .1 .1 .1)
+      let this = small-entry (entryOf (array n d) up m) (flat d (suc at) at 0 x) h in
+      let below = readable-good d (suc at) at 0 x p (this .1) in
+      ((this .0, below .0), below .1)
+  readable-good (record-of fs) at up m x p h = readable-all-good fs (suc at) at x p (small-entry (entryOf (record-of fs) up m) (flats fs (suc at) at x) h .1)
 
   readable-all-good : (fs : Fields) (at up : ℕ) (x : List ℕ) → All-readable fs → Small (flats fs at up x) → AllGood fs × Small x
   readable-all-good end-of-fields at up x p h = (tt, h)

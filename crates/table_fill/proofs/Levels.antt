@@ -21,7 +21,7 @@ use Rattle.table_fill.specs.Written.{put, bare, upOf, nameOf, sizeOver, 
 use Rattle.table_fill.proofs.Stores.{sets-back}
 
 -- ---- one entry
-pub put-room : (table : List ℕ) (at : ℕ) (e : Entry) → entry-width * at + 9 ≤ length table → put table at e ≡ sets table (entry-width * at) (numbers e [])
+pub put-room : (table : List ℕ) (at : ℕ) (e : Entry) → entry-width * at + entry-width ≤ length table → put table at e ≡ sets table (entry-width * at) (numbers e [])
 put-room table at e h =
     ap (λ (t : Bool). cond t (sets table (entry-width * at) (numbers e [])) table) (lt-ltb at (length table / entry-width) (omega arith))
 
@@ -38,7 +38,7 @@ put-length table at e = go (ltb at (length table / entry-width))
 -- one entry followed by what comes after it
 pub entry-before : (e : Entry) (at at′ : ℕ) (x old : List ℕ) → at′ ≡ suc at → sets (sets old (entry-width * at′) x) (entry-width * at) (numbers e []) ≡ sets old (entry-width * at) (numbers e x)
 entry-before e at at′ x old h =
-    let i : entry-width * at′ ≡ entry-width * at + 9 = omega arith in
+    let i : entry-width * at′ ≡ entry-width * at + entry-width = omega arith in
     ap (λ (j : ℕ). sets (sets old j x) (entry-width * at) (numbers e [])) i ∙ sym (sets-back old (entry-width * at) (numbers e []) x)
 
 -- ---- the parent and the name of a level

@@ -14,83 +14,82 @@ use Rattle.dtype.specs.Entries.{entriesOf, entriesIn}
 use Rattle.counts.specs.Number.{capped}
 use Rattle.dtype.specs.Flat.{entry-width, flat, flats}
 use Rattle.dtype.specs.EntryOf.{entryOf, numbers}
-use Rattle.table_fill.specs.Lifted.{movedNumber, movedFrom, movedOn, relinked, lifted}
+use Rattle.table_fill.specs.Lifted.{name-column, movedNumber, movedFrom, movedOn, relinked, lifted}
 use Rattle.table_fill.proofs.Stores.{set-sets, getD-sets, sets-over}
 
 -- ---- one number
 module _ (i n by up : ℕ) where
   pub moved-first : i ≡ 0 → up ≡ movedNumber i n by up
   unfolding movedNumber
-  moved-first h = ap (λ (t : Bool). cond t up (cond (eqb i 8) 0 (cond (eqb (i % entry-width) 0) (capped (n + by)) n))) (sym (eq-eqb i 0 h))
+  moved-first h = ap (λ (t : Bool). cond t up (cond (eqb i name-column) 0 (cond (eqb (i % entry-width) 0) (capped (n + by)) n))) (sym (eq-eqb i 0 h))
 
-  later : (i ≡ 0 → ⊥) → cond (eqb i 8) 0 (cond (eqb (i % entry-width) 0) (capped (n + by)) n) ≡ movedNumber i n by up
+  later : (i ≡ 0 → ⊥) → cond (eqb i name-column) 0 (cond (eqb (i % entry-width) 0) (capped (n + by)) n) ≡ movedNumber i n by up
   unfolding movedNumber
-  later z = ap (λ (t : Bool). cond t up (cond (eqb i 8) 0 (cond (eqb (i % entry-width) 0) (capped (n + by)) n))) (sym (ne-eqb i 0 z))
+  later z = ap (λ (t : Bool). cond t up (cond (eqb i name-column) 0 (cond (eqb (i % entry-width) 0) (capped (n + by)) n))) (sym (ne-eqb i 0 z))
 
-  pub moved-name : (i ≡ 0 → ⊥) → i ≡ 8 → 0 ≡ movedNumber i n by up
-  moved-name z h = ap (λ (t : Bool). cond t 0 (cond (eqb (i % entry-width) 0) (capped (n + by)) n)) (sym (eq-eqb i 8 h)) ∙ later z
+  pub moved-name : (i ≡ 0 → ⊥) → i ≡ name-column → 0 ≡ movedNumber i n by up
+  moved-name z h = ap (λ (t : Bool). cond t 0 (cond (eqb (i % entry-width) 0) (capped (n + by)) n)) (sym (eq-eqb i name-column h)) ∙ later z
 
-  behind : (i ≡ 0 → ⊥) → (i ≡ 8 → ⊥) → cond (eqb (i % entry-width) 0) (capped (n + by)) n ≡ movedNumber i n by up
-  behind z y = ap (λ (t : Bool). cond t 0 (cond (eqb (i % entry-width) 0) (capped (n + by)) n)) (sym (ne-eqb i 8 y)) ∙ later z
+  behind : (i ≡ 0 → ⊥) → (i ≡ name-column → ⊥) → cond (eqb (i % entry-width) 0) (capped (n + by)) n ≡ movedNumber i n by up
+  behind z y = ap (λ (t : Bool). cond t 0 (cond (eqb (i % entry-width) 0) (capped (n + by)) n)) (sym (ne-eqb i name-column y)) ∙ later z
 
-  pub moved-parent : (i ≡ 0 → ⊥) → (i ≡ 8 → ⊥) → i % entry-width ≡ 0 → capped (n + by) ≡ movedNumber i n by up
+  pub moved-parent : (i ≡ 0 → ⊥) → (i ≡ name-column → ⊥) → i % entry-width ≡ 0 → capped (n + by) ≡ movedNumber i n by up
   moved-parent z y h = ap (λ (t : Bool). cond t (capped (n + by)) n) (sym (eq-eqb (i % entry-width) 0 h)) ∙ behind z y
 
-  pub moved-other : (i ≡ 0 → ⊥) → (i ≡ 8 → ⊥) → (i % entry-width ≡ 0 → ⊥) → n ≡ movedNumber i n by up
+  pub moved-other : (i ≡ 0 → ⊥) → (i ≡ name-column → ⊥) → (i % entry-width ≡ 0 → ⊥) → n ≡ movedNumber i n by up
   moved-other z y h = ap (λ (t : Bool). cond t (capped (n + by)) n) (sym (ne-eqb (i % entry-width) 0 h)) ∙ behind z y
 
 -- ---- one entry
-nine-eq : {a b c d e f g h j a′ b′ c′ d′ e′ f′ g′ h′ j′ : ℕ} {x x′ : List ℕ} → a ≡ a′ → b ≡ b′ → c ≡ c′ → d ≡ d′ → e ≡ e′ → f ≡ f′ → g ≡ g′ → h ≡ h′ → j ≡ j′ → x ≡ x′
-    → a ∷ b ∷ c ∷ d ∷ e ∷ f ∷ g ∷ h ∷ j ∷ x ≡ a′ ∷ b′ ∷ c′ ∷ d′ ∷ e′ ∷ f′ ∷ g′ ∷ h′ ∷ j′ ∷ x′
-nine-eq ea eb ec ed ee ef eg eh ej ex = cc
+cons-eq : {a b : ℕ} {x y : List ℕ} → a ≡ b → x ≡ y → a ∷ x ≡ b ∷ y
+cons-eq p q = cc
 
 -- a number of an entry after the first
-keeps : (i k n by up : ℕ) → 8 < i → i % 9 ≡ 0 → 0 < k → k < 9 → movedNumber (i + k) n by up ≡ n
+keeps : (i k n by up : ℕ) → name-column < i → i % entry-width ≡ 0 → 0 < k → k < entry-width → movedNumber (i + k) n by up ≡ n
 keeps i k n by up l z lo hi =
-    sym (moved-other (i + k) n by up (λ (e : i + k ≡ 0). absurd (omega arith)) (λ (e : i + k ≡ 8). absurd (omega arith)) (λ (e : (i + k) % 9 ≡ 0). absurd (omega arith)))
+    sym (moved-other (i + k) n by up (λ (e : i + k ≡ 0). absurd (omega arith)) (λ (e : i + k ≡ name-column). absurd (omega arith)) (λ (e : (i + k) % entry-width ≡ 0). absurd (omega arith)))
 
 module _ (by up : ℕ) where
-  entry-moved : (d : Dtype) (p p′ m i i′ : ℕ) (x x′ : List ℕ) → p′ ≡ p + by → p′ < 2 ^ 64 → 8 < i → i % 9 ≡ 0 → i′ ≡ i + 9 → movedFrom i′ by up x ≡ x′
+  -- the numbers ns of an entry at i, which is not the first: those from number k on, and so not its parent
+  row-moved : (ns : List ℕ) (i j k : ℕ) (x : List ℕ) → name-column < i → i % entry-width ≡ 0 → j ≡ i + k → 0 < k → k + length ns ≤ entry-width
+      → movedFrom j by up (ns ++ x) ≡ ns ++ movedFrom (j + length ns) by up x
+  row-moved [] i j k x l z h lo hi = let e : j ≡ j + 0 = omega arith in ap (λ (y : ℕ). movedFrom y by up x) e
+  row-moved (n ∷ ns) i j k x l z h lo hi =
+      let e : suc j + length ns ≡ j + suc (length ns) = omega arith in
+      cons-eq (ap (λ (y : ℕ). movedNumber y n by up) h ∙ keeps i k n by up l z lo (omega arith))
+      (row-moved ns i (suc j) (suc k) x l z (omega arith) (omega arith) (omega arith) ∙ ap (λ (y : ℕ). ns ++ movedFrom y by up x) e)
+
+  entry-moved : (d : Dtype) (p p′ m i i′ : ℕ) (x x′ : List ℕ) → p′ ≡ p + by → p′ < 2 ^ 64 → name-column < i → i % entry-width ≡ 0 → i′ ≡ i + entry-width → movedFrom i′ by up x ≡ x′
       → movedFrom i by up (numbers (entryOf d p m) x) ≡ numbers (entryOf d p′ m) x′
   entry-moved d p p′ m i i′ x x′ hp small l z hi hx =
-      let e = entryOf d p m in
-      let at : (k k′ n : ℕ) → k′ ≡ i + k → 0 < k → k < 9 → movedNumber k′ n by up ≡ n = λ k k′ n h lo top. ap (λ (y : ℕ). movedNumber y n by up) h ∙ keeps i k n by up l z lo top in
-      let rest : suc (suc (suc (suc (suc (suc (suc (suc (suc i)))))))) ≡ i′ = omega arith in
+      let others = drop 1 (numbers (entryOf d p m) []) in
+      let long : length others ≡ name-column = refl in
       let first : capped (p + by) ≡ p′ = omega arith in
-      nine-eq
-      (sym (moved-parent i p by up (λ (q : i ≡ 0). absurd (omega arith)) (λ (q : i ≡ 8). absurd (omega arith)) z) ∙ first)
-      (at 1 (suc i) (e .kind) (omega arith) (omega arith) (omega arith))
-      (at 2 (suc (suc i)) (e .order) (omega arith) (omega arith) (omega arith))
-      (at 3 (suc (suc (suc i))) (e .letter) (omega arith) (omega arith) (omega arith))
-      (at 4 (suc (suc (suc (suc i)))) (e .number) (omega arith) (omega arith) (omega arith))
-      (at 5 (suc (suc (suc (suc (suc i))))) (e .units) (omega arith) (omega arith) (omega arith))
-      (at 6 (suc (suc (suc (suc (suc (suc i)))))) (e .extent) (omega arith) (omega arith) (omega arith))
-      (at 7 (suc (suc (suc (suc (suc (suc (suc i))))))) (e .bytes) (omega arith) (omega arith) (omega arith))
-      (at 8 (suc (suc (suc (suc (suc (suc (suc (suc i)))))))) (e .name) (omega arith) (omega arith) (omega arith))
-      (ap (λ (y : ℕ). movedFrom y by up x) rest ∙ hx)
+      let rest : suc i + length others ≡ i′ = omega arith in
+      cons-eq (sym (moved-parent i p by up (λ (q : i ≡ 0). absurd (omega arith)) (λ (q : i ≡ name-column). absurd (omega arith)) z) ∙ first)
+      (row-moved others i (suc i) 1 x l z (omega arith) (omega arith) (omega arith) ∙ ap (λ (y : List ℕ). others ++ y) (ap (λ (y : ℕ). movedFrom y by up x) rest ∙ hx))
 
   -- ---- a dtype after the first entry
   mutual
-    flat-moved : (d : Dtype) (at at′ p p′ m i i′ : ℕ) (x : List ℕ) → at′ ≡ at + by → p′ ≡ p + by → at′ + entriesOf d < 2 ^ 64 → p′ < 2 ^ 64 → 8 < i → i % 9 ≡ 0 → i′ ≡ i + 9 * entriesOf d
+    flat-moved : (d : Dtype) (at at′ p p′ m i i′ : ℕ) (x : List ℕ) → at′ ≡ at + by → p′ ≡ p + by → at′ + entriesOf d < 2 ^ 64 → p′ < 2 ^ 64 → name-column < i → i % entry-width ≡ 0 → i′ ≡ i + entry-width * entriesOf d
         → movedFrom i by up (flat d at p m x) ≡ flat d at′ p′ m (movedFrom i′ by up x)
     flat-moved (plain t) at at′ p p′ m i i′ x ha hp big small l z hi = entry-moved (plain t) p p′ m i i′ x _ hp small l z (omega arith) refl
     flat-moved (array n d) at at′ p p′ m i i′ x ha hp big small l z hi =
-        entry-moved (array n d) p p′ m i (i + 9) (flat d (suc at) at 0 x) _ hp small l z refl
-        (flat-moved d (suc at) (suc at′) at at′ 0 (i + 9) i′ x (omega arith) ha (omega arith) (omega arith) (omega arith) (omega arith) (omega arith))
+        entry-moved (array n d) p p′ m i (i + entry-width) (flat d (suc at) at 0 x) _ hp small l z refl
+        (flat-moved d (suc at) (suc at′) at at′ 0 (i + entry-width) i′ x (omega arith) ha (omega arith) (omega arith) (omega arith) (omega arith) (omega arith))
     flat-moved (record-of fs) at at′ p p′ m i i′ x ha hp big small l z hi =
-        entry-moved (record-of fs) p p′ m i (i + 9) (flats fs (suc at) at x) _ hp small l z refl
-        (flats-moved fs (suc at) (suc at′) at at′ (i + 9) i′ x (omega arith) ha (omega arith) (omega arith) (omega arith) (omega arith) (omega arith))
+        entry-moved (record-of fs) p p′ m i (i + entry-width) (flats fs (suc at) at x) _ hp small l z refl
+        (flats-moved fs (suc at) (suc at′) at at′ (i + entry-width) i′ x (omega arith) ha (omega arith) (omega arith) (omega arith) (omega arith) (omega arith))
 
-    flats-moved : (fs : Fields) (at at′ p p′ i i′ : ℕ) (x : List ℕ) → at′ ≡ at + by → p′ ≡ p + by → at′ + entriesIn fs < 2 ^ 64 → p′ < 2 ^ 64 → 8 < i → i % 9 ≡ 0 → i′ ≡ i + 9 * entriesIn fs
+    flats-moved : (fs : Fields) (at at′ p p′ i i′ : ℕ) (x : List ℕ) → at′ ≡ at + by → p′ ≡ p + by → at′ + entriesIn fs < 2 ^ 64 → p′ < 2 ^ 64 → name-column < i → i % entry-width ≡ 0 → i′ ≡ i + entry-width * entriesIn fs
         → movedFrom i by up (flats fs at p x) ≡ flats fs at′ p′ (movedFrom i′ by up x)
     flats-moved end-of-fields at at′ p p′ i i′ x ha hp big small l z hi = let e : i ≡ i′ = omega arith in ap (λ (y : ℕ). movedFrom y by up x) e
     flats-moved (field-then name d fs) at at′ p p′ i i′ x ha hp big small l z hi =
-        flat-moved d at at′ p p′ (length name) i (i + 9 * entriesOf d) (flats fs (at + entriesOf d) p x) ha hp (omega arith) small l z refl
+        flat-moved d at at′ p p′ (length name) i (i + entry-width * entriesOf d) (flats fs (at + entriesOf d) p x) ha hp (omega arith) small l z refl
         ∙ ap (flat d at′ p′ (length name))
-        (flats-moved fs (at + entriesOf d) (at′ + entriesOf d) p p′ (i + 9 * entriesOf d) i′ x (omega arith) hp (omega arith) small (omega arith) (omega arith) (omega arith))
+        (flats-moved fs (at + entriesOf d) (at′ + entriesOf d) p p′ (i + entry-width * entriesOf d) i′ x (omega arith) hp (omega arith) small (omega arith) (omega arith) (omega arith))
 
   -- ---- a whole dtype
-  root-moved : (d : Dtype) (p m : ℕ) (x : List ℕ) → movedFrom 0 by up (numbers (entryOf d p m) x) ≡ numbers (entryOf d up 0) (movedFrom 9 by up x)
+  root-moved : (d : Dtype) (p m : ℕ) (x : List ℕ) → movedFrom 0 by up (numbers (entryOf d p m) x) ≡ numbers (entryOf d up 0) (movedFrom entry-width by up x)
   unfolding movedNumber
   root-moved d p m x = refl
 
@@ -98,10 +97,10 @@ module _ (by up : ℕ) where
   dtype-moved (plain t) at at′ p m ha big = root-moved (plain t) p m []
   dtype-moved (array n d) at at′ p m ha big =
       root-moved (array n d) p m (flat d (suc at) at 0 [])
-      ∙ ap (numbers (entryOf (array n d) up 0)) (flat-moved d (suc at) (suc at′) at at′ 0 9 (9 + 9 * entriesOf d) [] (omega arith) ha (omega arith) (omega arith) (omega arith) (omega arith) refl)
+      ∙ ap (numbers (entryOf (array n d) up 0)) (flat-moved d (suc at) (suc at′) at at′ 0 entry-width (entry-width + entry-width * entriesOf d) [] (omega arith) ha (omega arith) (omega arith) (omega arith) (omega arith) refl)
   dtype-moved (record-of fs) at at′ p m ha big =
       root-moved (record-of fs) p m (flats fs (suc at) at [])
-      ∙ ap (numbers (entryOf (record-of fs) up 0)) (flats-moved fs (suc at) (suc at′) at at′ 9 (9 + 9 * entriesIn fs) [] (omega arith) ha (omega arith) (omega arith) (omega arith) (omega arith) refl)
+      ∙ ap (numbers (entryOf (record-of fs) up 0)) (flats-moved fs (suc at) (suc at′) at at′ entry-width (entry-width + entry-width * entriesIn fs) [] (omega arith) ha (omega arith) (omega arith) (omega arith) (omega arith) refl)
 
 -- ---- the loop
 moved-length : (l : List ℕ) (i by up : ℕ) → length (movedFrom i by up l) ≡ length l
@@ -227,7 +226,7 @@ module _ (table0 : List ℕ) (entry count by : ℕ) where
     telling-low k table w = omega (arith, w .low, told-length)
 
     -- m numbers that are neither a parent nor the first name stay
-    telling-skip : (m j : ℕ) (table : List ℕ) → ((k : ℕ) → j ≤ k → k < j + m → (k ≡ 8 → ⊥) × (k % entry-width ≡ 0 → ⊥)) → Telling (j + m) table → Telling j table
+    telling-skip : (m j : ℕ) (table : List ℕ) → ((k : ℕ) → j ≤ k → k < j + m → (k ≡ name-column → ⊥) × (k % entry-width ≡ 0 → ⊥)) → Telling (j + m) table → Telling j table
     telling-skip zero j table stay w = let z : j + 0 ≡ j = omega arith in subst (λ (x : ℕ). Telling x table) z w
     telling-skip (suc m) j table stay w =
         let s = stay (j + m) (omega arith) (omega arith) in
@@ -243,30 +242,30 @@ module _ (table0 : List ℕ) (entry count by : ℕ) where
         let to = entry-width * entry in
         let i = entry-width * j in
         let place : at ≡ to + i = omega arith in
-        let whole : entry-width * k ≡ i + 1 + 8 = omega arith in
+        let whole : entry-width * k ≡ i + 1 + name-column = omega arith in
         let more : i + 1 ≡ suc i = omega arith in
         let s : Telling (i + 1) table =
-        telling-skip 8 (i + 1) table (λ k lo hi. (λ (e : k ≡ 8). absurd (omega arith), λ (e : k % 9 ≡ 0). absurd (omega arith))) (subst (λ (x : ℕ). Telling x table) whole w) in
+        telling-skip name-column (i + 1) table (λ k lo hi. (λ (e : k ≡ name-column). absurd (omega arith), λ (e : k % entry-width ≡ 0). absurd (omega arith))) (subst (λ (x : ℕ). Telling x table) whole w) in
         let read : getD table at 0 ≡ getD table0 (to + i) 0 = ap (λ (x : ℕ). getD table x 0) place ∙ as-it-was table0 told to (i + 1) i more table s (to + i) (omega arith) in
         let is : n ≡ getD told i 0 =
         hn ∙ ap (λ (x : ℕ). capped (x + by)) read
-        ∙ moved-parent i (getD table0 (to + i) 0) by (entry - 1) (λ (e : i ≡ 0). absurd (omega arith)) (λ (e : i ≡ 8). absurd (omega arith)) (omega arith)
+        ∙ moved-parent i (getD table0 (to + i) 0) by (entry - 1) (λ (e : i ≡ 0). absurd (omega arith)) (λ (e : i ≡ name-column). absurd (omega arith)) (omega arith)
         ∙ sym (told-get i (omega (arith, s .low, told-length))) in
         storing-more table0 told to (i + 1) i more table s n is table′ (ht ∙ ap (λ (x : ℕ). set table x n) place)
 
     -- the first: its name, then its parent
     pub telling-first : (k : ℕ) → k ≡ 1 → (table : List ℕ) → Telling (entry-width * k) table → (at up : ℕ) → at ≡ entry-width * entry → up ≡ entry - 1
-        → (table1 table2 : List ℕ) → table1 ≡ set table (at + 8) 0 → table2 ≡ set table1 at up → Telling 0 table2
+        → (table1 table2 : List ℕ) → table1 ≡ set table (at + name-column) 0 → table2 ≡ set table1 at up → Telling 0 table2
     telling-first k hk table w at up hat hup table1 table2 h1 h2 =
         let to = entry-width * entry in
-        let nine : entry-width * k ≡ suc 8 = omega arith in
-        let place : at + 8 ≡ to + 8 = omega arith in
+        let whole : entry-width * k ≡ suc name-column = omega arith in
+        let place : at + name-column ≡ to + name-column = omega arith in
         let front : at ≡ to + 0 = omega arith in
-        let name : Telling 8 table1 =
-        storing-more table0 told to (entry-width * k) 8 nine table w 0
-        (moved-name 8 (getD table0 (to + 8) 0) by (entry - 1) (λ (e : 8 ≡ 0). absurd (omega arith)) refl ∙ sym (told-get 8 (omega (arith, w .low, told-length))))
+        let name : Telling name-column table1 =
+        storing-more table0 told to (entry-width * k) name-column whole table w 0
+        (moved-name name-column (getD table0 (to + name-column) 0) by (entry - 1) (λ (e : name-column ≡ 0). absurd (omega arith)) refl ∙ sym (told-get name-column (omega (arith, w .low, told-length))))
         table1 (h1 ∙ ap (λ (x : ℕ). set table x 0) place) in
-        let s : Telling 1 table1 = telling-skip 7 1 table1 (λ k lo hi. (λ (e : k ≡ 8). absurd (omega arith), λ (e : k % 9 ≡ 0). absurd (omega arith))) name in
+        let s : Telling 1 table1 = telling-skip (name-column - 1) 1 table1 (λ k lo hi. (λ (e : k ≡ name-column). absurd (omega arith), λ (e : k % entry-width ≡ 0). absurd (omega arith))) name in
         storing-more table0 told to 1 0 refl table1 s up
         (hup ∙ moved-first 0 (getD table0 (to + 0) 0) by (entry - 1) refl ∙ sym (told-get 0 (omega (arith, s .low, told-length))))
         table2 (h2 ∙ ap (λ (x : ℕ). set table1 x up) front)

@@ -1,5 +1,5 @@
 -- The table after some of its entries have moved to make room in front of them. Document 01, "The record": "The dtype table is listed depth first, left to right, parent
--- first": so the array levels of a sub-shape come before their type. The entries themselves are in crate dtype; an entry's number 0 is its parent, number 8 its name.
+-- first": so the array levels of a sub-shape come before their type. The entries themselves are in crate dtype; an entry's first number is its parent, its last its name.
 use Prim.Native.Nat.{ℕ, suc, _+_, _-_, _*_, _/_, _%_}
 use mathlib.Core.List.{List, [], _∷_}
 use mathlib.Core.Bool.{cond}
@@ -9,9 +9,13 @@ use lib.Seq.{sets}
 use Rattle.counts.specs.Number.{capped}
 use Rattle.dtype.specs.Flat.{entry-width}
 
+-- which number of an entry is the length of its name: the last
+abbrev pub name-column : ℕ
+name-column = entry-width - 1
+
 -- number i of a list of entries after they moved by `by`: the first entry gets the parent `up` and no name, and each other parent moves along
 unfoldable pub movedNumber : (i n by up : ℕ) → ℕ
-movedNumber i n by up = cond (eqb i 0) up (cond (eqb i 8) 0 (cond (eqb (i % entry-width) 0) (capped (n + by)) n))
+movedNumber i n by up = cond (eqb i 0) up (cond (eqb i name-column) 0 (cond (eqb (i % entry-width) 0) (capped (n + by)) n))
 
 -- a list of numbers of entries after they moved, from number i on
 abbrev pub movedFrom : (i by up : ℕ) → List ℕ → List ℕ

@@ -25,6 +25,9 @@ ghost use Rattle.counts.specs.Number.{capped};
 ghost use Rattle.counts.specs.Counts.{asBytes};
 ghost use Rattle.table_fill.specs.Written.{noType, typeIn, put, bare, upOf, nameOf, sizeOver, levelled, above};
 
+// Which number of an entry is the length of its name: the last.
+const NAME: usize = ENTRY - 1;
+
 // Moves `count` entries from `entry` on by `by` entries, and adds the shift to their parent numbers. Does nothing if there is no room.
 pub fn lift(table: &mut [u64], entry: usize, count: usize, by: usize)
     ensures { λ _. ⌜ now (table .exit) ≡ lifted (now (table .entry)) entry count by ⌝ }
@@ -68,7 +71,7 @@ fn relink(table: &mut [u64], entry: usize, count: usize, by: usize)
     }
     if k == 1 {
         let first = ENTRY * entry;
-        table[first + 8] = 0;
+        table[first + NAME] = 0;
         table[first] = entries_between(1, entry);
     }
 }

@@ -4,11 +4,12 @@ use Rattle.table_entry.proofs.Entry.{past-end}
 use native.Mathlib.Omega.{arith}
 use lib.Seq.{getD-drop}
 use borrow.Author.Needs.{needs}
+use Rattle.dtype.specs.Flat.{entry-width}
 use Rattle.table_entry.proofs.number_at.Statement.{statement}
 use Rattle.table_entry.proofs.number_at.Tie as tie
 
 returns : tie.Need-returns
-returns c = past-end (c .before .args .table .now) (9 * c .before .args .e) (c .before .args .k) (omega arith)
+returns c = past-end (c .before .args .table .now) (entry-width * c .before .args .e) (c .before .args .k) (omega arith)
 
 mul-at : tie.Need-mul-at
 mul-at c = search needs
@@ -17,7 +18,7 @@ add-at : tie.Need-add-at
 add-at c = search needs
 
 returns-2 : tie.Need-returns-2
-returns-2 c = past-end (c .before .before .args .table .now) (9 * c .before .before .args .e) (c .before .before .args .k) (omega arith)
+returns-2 c = past-end (c .before .before .args .table .now) (entry-width * c .before .before .args .e) (c .before .before .args .k) (omega arith)
 
 mul-result : tie.Need-mul-result
 mul-result c = search needs

@@ -4,6 +4,7 @@ use native.Mathlib.Omega.{arith}
 use mathlib.Core.Path.{_≡_, refl, _∙_}
 use lib.ListN.{length-set, set}
 use Rattle.dtype.specs.Flat.{entry-width}
+use Rattle.table_fill.specs.Lifted.{name-column}
 use Rattle.table_fill.proofs.Lifts.{Telling, telling-start, telling-low, telling-more, telling-first, telling-all}
 use borrow.Author.Needs.{needs}
 use Rattle.table_fill.proofs.relink.Statement.{statement}
@@ -72,14 +73,14 @@ mul-table-3 : tie.Need-mul-table-3 Inv-loop μ-loop
 mul-table-3 c = search needs
 
 slice-write-table-3 : tie.Need-slice-write-table-3 Inv-loop μ-loop
-slice-write-table-3 c = omega (arith, telling-low (c .before .before .before .before .before .args .table .now) (c .before .before .before .before .before .args .entry) (c .before .before .before .before .before .args .count) (c .before .before .before .before .before .args .by) (c .before .before .before .before .before .pre) (c .before .before .before .loop .k) (c .before .before .before .loop .table) (c .before .before .before .loop .inv), c .before .if1 .taken, c .before .before .before .before .before .pre, c .before .before .before .loop .inv .long, length-set (c .before .before .before .loop .table) (entry-width * c .before .before .before .before .before .args .entry + 8) 0)
+slice-write-table-3 c = omega (arith, telling-low (c .before .before .before .before .before .args .table .now) (c .before .before .before .before .before .args .entry) (c .before .before .before .before .before .args .count) (c .before .before .before .before .before .args .by) (c .before .before .before .before .before .pre) (c .before .before .before .loop .k) (c .before .before .before .loop .table) (c .before .before .before .loop .inv), c .before .if1 .taken, c .before .before .before .before .before .pre, c .before .before .before .loop .inv .long, length-set (c .before .before .before .loop .table) (entry-width * c .before .before .before .before .before .args .entry + name-column) 0)
 
 same-length : tie.Need-same-length Inv-loop μ-loop
 same-length c =
     let a = c .before .before .before .before .before .args in
     let l = c .before .before .before .loop in
     let first = entry-width * a .entry in
-    length-set (set (l .table) (first + 8) 0) first (c .entries-between .result) ∙ length-set (l .table) (first + 8) 0 ∙ l .inv .long
+    length-set (set (l .table) (first + name-column) 0) first (c .entries-between .result) ∙ length-set (l .table) (first + name-column) 0 ∙ l .inv .long
 
 returns : tie.Need-returns Inv-loop μ-loop
 returns c =
