@@ -3,7 +3,7 @@
 use dtype::Order;
 use literal_bytes::ValueKind;
 use literal_bytes::kind_at;
-use literal_escapes::is_text;
+use literal_decode::decode;
 use refusal::Refusal;
 ghost use mathlib.Core.Path.{_≡_};
 ghost use mathlib.Core.Bool.{_&&_};
@@ -60,21 +60,19 @@ fn same_bytes(a: &[u8], b: &[u8]) -> bool
     alike
 }
 
-// The name of a key with an escape, compared decoded. No two of the three begin alike, so that most keys are compared with one of them beyond the first byte.
+// The length of `fortran_order`, the longest of the three.
+const LONGEST: usize = 13;
+
+// The name of a key with an escape, compared decoded. A string that is longer than the three is none of them.
 pub fn name_at(text: &[u8], from: usize, quote: u8) -> Name
     ensures { λ r. ⌜ Named r (gives (spelled quote (now (text .entry)) from .bytes)) ⌝ }
 {
-    if is_text(text, from, quote, b"descr") {
-        return Name::Descr;
+    let mut name = [0u8; LONGEST];
+    let s = decode(text, from, quote, &mut name);
+    if LONGEST < s.len {
+        return Name::Extra;
     }
-    if is_text(text, from, quote, b"fortran_order") {
-        return Name::Order;
-    }
-    if is_text(text, from, quote, b"shape") {
-        Name::Shape
-    } else {
-        Name::Extra
-    }
+    key_of(&name[..s.len])
 }
 
 // Whether the keys up to one of this name are all strings, where `strings` is whether those before it are.

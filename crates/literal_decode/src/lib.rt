@@ -1,4 +1,4 @@
-// Decodes a string into lent room. Called by header to store the names of fields.
+// Decodes a string into lent room. Called by header to store the names of fields, and by judge_names for keys with an escape.
 // `from` is the position after the opening quote `quote`.
 ghost use mathlib.Core.Path.{_≡_};
 ghost use mathlib.Core.Bool.{cond};

@@ -2,15 +2,10 @@
 use Prim.Native.Nat.{ℕ}
 use mathlib.Core.Path.{_≡_}
 use mathlib.Core.List.{List}
-use mathlib.Core.Bool.{Bool}
-use Rattle.counts.specs.Same.{same}
 use Rattle.counts.specs.OneOutcome.{OneOutcome}
 use Rattle.counts.proofs.OneOutcome.{by-equation}
-use Rattle.literal_escapes.specs.Strings.{pieceAt, spelled}
+use Rattle.literal_escapes.specs.Strings.{pieceAt}
 use Rattle.literal_escapes.specs.declared.Piece.{Piece}
 
 pub piece-at-one : (text : List ℕ) (at quote : ℕ) → OneOutcome {A = Piece} (λ r. r ≡ pieceAt quote text at)
 piece-at-one text at quote = by-equation (pieceAt quote text at)
-
-pub is-text-one : (text : List ℕ) (from quote : ℕ) (key : List ℕ) → OneOutcome {A = Bool} (λ r. r ≡ same (spelled quote text from .bytes) key)
-is-text-one text from quote key = by-equation (same (spelled quote text from .bytes) key)

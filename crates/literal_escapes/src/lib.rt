@@ -1,9 +1,8 @@
 // The pieces of a string (document 01, "The literal"): `piece_at` alone decodes escapes.
-// Called by literal_tokens and literal_decode to scan and decode strings, and by judge_names to compare keys. `from` is the position after the opening quote `quote`.
+// Called by literal_tokens and literal_decode to scan and decode strings. `quote` is the opening quote of a string.
 ghost use mathlib.Core.Path.{_≡_};
-ghost use Rattle.counts.specs.Same.{same};
 ghost use Rattle.literal_grammar.specs.Bytes.{isEscape, unescape as unescapeOf};
-ghost use Rattle.literal_escapes.specs.Strings.{escapeAt, pieceAt, spelled};
+ghost use Rattle.literal_escapes.specs.Strings.{escapeAt, pieceAt};
 use literal_bytes::Parsed;
 use literal_bytes::is_break;
 
@@ -73,26 +72,4 @@ pub fn piece_at(text: &[u8], at: usize, quote: u8) -> Piece
         return escape_at(text, at + 1);
     }
     Piece::Byte(b, at + 1)
-}
-
-// Whether the decoded string is `key`.
-pub fn is_text(text: &[u8], from: usize, quote: u8, key: &[u8]) -> bool
-    ensures { λ r. ⌜ r ≡ same (spelled quote (now (text .entry)) from .bytes) (now (key .entry)) ⌝ }
-{
-    let mut at = from;
-    let mut i: usize = 0;
-    loop {
-        let p = piece_at(text, at, quote);
-        let Piece::Byte(b, e) = p else {
-            return i == key.len();
-        };
-        if key.len() <= i {
-            return false;
-        }
-        if key[i] != b {
-            return false;
-        }
-        i += 1;
-        at = e;
-    }
 }

@@ -1,63 +1,42 @@
--- The string is compared as it is spelled.
-use mathlib.Core.Path.{refl}
+-- The string is compared as it is spelled: all of it was stored, or it is longer than each of the three.
 use borrow.Author.Needs.{needs}
 use Rattle.literal_escapes.specs.Strings.{spelled}
-use Rattle.record.specs.Dict.{key-order, key-shape, key-descr}
-use Rattle.judge_names.specs.declared.Name.{Name}
-use Rattle.judge_names.proofs.Names.{name-is, name-none}
+use Rattle.judge_names.proofs.Names.{name-long, name-fits, name-stored}
 use Rattle.judge_names.proofs.name_at.Statement.{statement}
 use Rattle.judge_names.proofs.name_at.Tie as tie
 
-slice-aggregate-is-text : tie.Need-slice-aggregate-is-text
-slice-aggregate-is-text c = search needs
+slice-aggregate-decode : tie.Need-slice-aggregate-decode
+slice-aggregate-decode c = search needs
 
-is-text-requires : tie.Need-is-text-requires
-is-text-requires c κs = search needs
+decode-requires : tie.Need-decode-requires
+decode-requires c κs = search needs
 
 returns : tie.Need-returns
-returns c =
-    let a = c .before .before .before .before .args in
-    name-is Name.Descr key-descr (spelled (a .quote) (a .text .now) (a .from) .bytes) (c .before .is-text .result) refl (c .before .is-text .ensures) (c .if1 .taken)
+returns c = name-long _ _ (c .before .before .before .decode .ensures .0) (c .if1 .taken)
 
-slice-aggregate-is-text-2 : tie.Need-slice-aggregate-is-text-2
-slice-aggregate-is-text-2 c = search needs
+array-share-prefix-name : tie.Need-array-share-prefix-name
+array-share-prefix-name c = search needs
 
-is-text-requires-2 : tie.Need-is-text-requires-2
-is-text-requires-2 c κs = search needs
+slice-aggregate-key-of : tie.Need-slice-aggregate-key-of
+slice-aggregate-key-of c =
+    let a = c .before .before .before .before .before .before .before .args in
+    let d = c .before .before .before .before .decode in
+    name-fits (spelled (a .quote) (a .text .now) (a .from)) _ (d .ensures .0) _ (d .ensures .1) (c .before .if1 .left)
+
+key-of-requires : tie.Need-key-of-requires
+key-of-requires c κs = search needs
 
 returns-2 : tie.Need-returns-2
-returns-2 c =
-    let a = c .before .before .before .before .before .before .before .args in
-    name-is Name.Order key-order (spelled (a .quote) (a .text .now) (a .from) .bytes) (c .before .is-text2 .result) refl (c .before .is-text2 .ensures) (c .if2 .taken)
-
-slice-aggregate-is-text-3 : tie.Need-slice-aggregate-is-text-3
-slice-aggregate-is-text-3 c = search needs
-
-is-text-requires-3 : tie.Need-is-text-requires-3
-is-text-requires-3 c κs = search needs
-
-returns-3 : tie.Need-returns-3
-returns-3 c =
-    let a = c .before .before .before .before .before .before .before .before .before .before .args in
-    name-is Name.Shape key-shape (spelled (a .quote) (a .text .now) (a .from) .bytes) (c .before .is-text3 .result) refl (c .before .is-text3 .ensures) (c .if3 .taken)
-
-returns-4 : tie.Need-returns-4
-returns-4 c =
-    let a = c .before .before .before .before .before .before .before .before .before .before .args in
-    name-none (spelled (a .quote) (a .text .now) (a .from) .bytes) _ _ _ (c .before .before .before .before .before .before .before .is-text .ensures) (c .before .before .before .before .before .before .if1 .left)
-    (c .before .before .before .before .is-text2 .ensures) (c .before .before .before .if2 .left) (c .before .is-text3 .ensures) (c .if3 .left)
+returns-2 c = let d = c .before .before .before .before .before .decode in name-stored _ _ (d .ensures .0) _ (d .ensures .1) (c .before .before .if1 .left) _ (c .key-of .ensures)
 
 pub name-at-spec : {M : Type 1} → statement M
 name-at-spec =
     tie.close
     (tie.spec
-    slice-aggregate-is-text
-    is-text-requires
+    slice-aggregate-decode
+    decode-requires
     returns
-    slice-aggregate-is-text-2
-    is-text-requires-2
-    returns-2
-    slice-aggregate-is-text-3
-    is-text-requires-3
-    returns-3
-    returns-4)
+    array-share-prefix-name
+    slice-aggregate-key-of
+    key-of-requires
+    returns-2)
