@@ -17,11 +17,11 @@ use Rattle.dtype.specs.Record.{Record, table, names}
 use Rattle.record.specs.Version as version
 use Rattle.record.specs.Rooms.{roomsOf, holding, Lent}
 use Rattle.record.specs.Header as header
-use Rattle.record.specs.File.{fileOf, headerLength}
+use Rattle.record.specs.File.{fileOf}
 use Rattle.record.specs.Writing.{writing}
 use Rattle.record.specs.Sound.{Small}
 use Rattle.record.proofs.Sound.{Sound}
-use Rattle.record.proofs.RoundTrips.{text-readable, headerFor, file-all-bytes, written-read}
+use Rattle.record.proofs.RoundTrips.{headerLength, text-readable, headerFor, file-all-bytes, written-read}
 use Rattle.check_record.specs.declared.Summary.{Summary}
 use Rattle.check_record.specs.Answer.{summary}
 use Rattle.check_record.specs.Checked.{checkedRecord}

@@ -29,9 +29,9 @@ use Rattle.record.specs.Prefix.{most-text}
 use Rattle.record.specs.Layout.{headerLayout}
 use Rattle.record.specs.Padding.{isAscii, spacesAfter, versionFor}
 use Rattle.record.specs.Within.{within}
-use Rattle.record.specs.File.{bareText, version, text, textLength, fileBy, fileOf, headerLength}
+use Rattle.record.specs.File.{bareText, version, text, textLength, fileBy, fileOf}
 use Rattle.record.specs.Writing.{writing}
-use Rattle.record.proofs.RoundTrips.{file-whole}
+use Rattle.record.proofs.RoundTrips.{headerLength, file-whole}
 use Rattle.check_record.specs.Checked.{checkedRecord}
 use Rattle.check_record.proofs.Accepts.{accepts-valid, checked-valid}
 use Rattle.write_depth.specs.Printable.{printable}
