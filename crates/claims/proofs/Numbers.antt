@@ -8,7 +8,7 @@ use lib.Dec.{leb, ltb, eqb}
 use lib.ListN.{length}
 use Rattle.counts.specs.Outcome.{Outcome, gives, refused, then, each, unless}
 use Rattle.counts.specs.Same.{same}
-use Rattle.utf8_scalar.specs.Scalar.{isScalar}
+use Rattle.utf8_scalar.specs.Scalar.{isScalar, allScalars}
 use Rattle.type_letters.specs.Orders.{orderOf}
 use Rattle.type_letters.specs.Letters.{letterOf}
 use Rattle.type_letters.specs.Classes.{isUnicode, isBytes, isRaw}
@@ -42,7 +42,7 @@ use Rattle.place_item.specs.Item.{itemOf}
 use Rattle.place.specs.Place.{runFrom, placed, placeOf}
 use Rattle.number_bytes.specs.Numbers.{inOrder}
 use Rattle.string_value.specs.Elements.{trimmed, bytesIn, scalar, points, pointsIn}
-use Rattle.string_value.specs.Runs.{zeroFilled, bytesOut, allScalars, pointBytes, pointsOut}
+use Rattle.string_value.specs.Runs.{zeroFilled, bytesOut, pointBytes, pointsOut}
 use Rattle.counts.specs.Owes.{roomed}
 use Rattle.string_value.specs.Rooms.{readBytes, readPoints, writeBytes, writePoints}
 use Rattle.element.specs.Bytes.{runBytes}

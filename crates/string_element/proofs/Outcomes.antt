@@ -14,7 +14,7 @@ use Rattle.refusal.proofs.Answers.{bytes-one, points-one}
 use Rattle.type_letters.specs.declared.Endianness.{Endianness}
 use Rattle.type_str.specs.declared.TypeStr.{TypeStr}
 use Rattle.string_value.specs.Elements.{trimmed, point, points}
-use Rattle.string_value.specs.Runs.{allScalars}
+use Rattle.utf8_scalar.specs.Scalar.{allScalars}
 use Rattle.counts.specs.Owes.{Owes}
 use Rattle.string_value.specs.Rooms.{readBytes, readPoints, writeBytes, writePoints}
 use Rattle.counts.proofs.Owes.{owes-one}

@@ -16,7 +16,7 @@ use Rattle.counts.proofs.Apart.{refused-gives, gives-apart}
 use Rattle.number_bytes.specs.Numbers.{inOrder, outOrder}
 use Rattle.number_bytes.proofs.Runs.{length-out}
 use Rattle.number_bytes.proofs.Widths.{in-out}
-use Rattle.utf8_scalar.specs.Scalar.{isScalar}
+use Rattle.utf8_scalar.specs.Scalar.{isScalar, allScalars}
 use Rattle.utf8_scalar.proofs.Scalars.{scalar-low, scalar-below}
 use Rattle.type_str.specs.Text.{isType}
 use Rattle.type_letters.specs.Classes.{isUnicode}
@@ -24,7 +24,7 @@ use Rattle.type_letters.specs.declared.Endianness.{Endianness}
 use Rattle.type_letters.specs.declared.TypeChar.the-variants.{ByteStr, RawData}
 use Rattle.type_str.specs.declared.TypeStr.{TypeStr}
 use Rattle.string_value.specs.Elements.{trimmed, scalar, point, points, pointsIn}
-use Rattle.string_value.specs.Runs.{zeroFilled, bytesOut, allScalars, pointBytes, pointsOut}
+use Rattle.string_value.specs.Runs.{zeroFilled, bytesOut, pointBytes, pointsOut}
 use Rattle.counts.specs.Owes.{roomed}
 use Rattle.string_value.specs.Rooms.{readBytes, readPoints, writeBytes, writePoints}
 use Rattle.string_value.proofs.Scalars.{scalar-is, point-four, point-step}

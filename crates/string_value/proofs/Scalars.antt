@@ -11,11 +11,10 @@ use borrow.Author.Tests.{lt-ltb, le-ltb}
 use Rattle.counts.specs.Outcome.{Outcome, gives, refused, then, each}
 use Rattle.counts.proofs.Apart.{gives-refused}
 use Rattle.number_bytes.specs.Numbers.{inOrder}
-use Rattle.utf8_scalar.specs.Scalar.{isScalar}
+use Rattle.utf8_scalar.specs.Scalar.{isScalar, allScalars}
 use Rattle.utf8_scalar.proofs.Scalars.{scalar-over}
 use Rattle.type_letters.specs.declared.Endianness.{Endianness}
 use Rattle.string_value.specs.Elements.{trimmed, scalar, point, points, found}
-use Rattle.string_value.specs.Runs.{allScalars}
 use Rattle.string_value.proofs.Trims.{trim-zero, trim-last}
 
 -- ---- one code point

@@ -16,12 +16,13 @@ use Rattle.counts.specs.declared.Bytes.{Bytes}
 use Rattle.counts.specs.declared.ByteCount.{ByteCount}
 use Rattle.counts.proofs.Fits.{number-is-back, number-over-back}
 use Rattle.counts.proofs.Apart.{gives-refused, each-none}
+use Rattle.utf8_scalar.specs.Scalar.{allScalars}
 use Rattle.type_letters.specs.Classes.{isUnicode, isBytes, isRaw}
 use Rattle.type_str.specs.Text.{isType}
 use Rattle.type_letters.specs.declared.TypeChar.the-variants.{ByteStr, RawData}
 use Rattle.type_str.specs.declared.TypeStr.{TypeStr}
 use Rattle.string_value.specs.Elements.{trimmed, bytesIn, points, pointsIn, found}
-use Rattle.string_value.specs.Runs.{zeroFilled, bytesOut, allScalars, pointBytes, pointsOut}
+use Rattle.string_value.specs.Runs.{zeroFilled, bytesOut, pointBytes, pointsOut}
 use Rattle.counts.specs.Owes.{roomed, Owes}
 use Rattle.string_value.specs.Rooms.{readBytes, readPoints, writeBytes, writePoints}
 use Rattle.string_value.proofs.Trims.{trim-take, trim-length}

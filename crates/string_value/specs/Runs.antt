@@ -2,12 +2,12 @@
 -- the element"; "Writing an element: 27, 26 for its type, 29, 30, 28." 27 and 28 are in Rooms.antt, the others here.
 use Prim.Native.Nat.{ℕ, _-_}
 use mathlib.Core.List.{List, [], _∷_, _++_}
-use mathlib.Core.Bool.{Bool, true, not, cond, _&&_}
+use mathlib.Core.Bool.{not, cond}
 use lib.Dec.{eqb, ltb}
 use lib.ListN.{length, replicate}
 use Rattle.counts.specs.Outcome.{Outcome, gives, refused, unless}
 use Rattle.number_bytes.specs.Numbers.{outOrder}
-use Rattle.utf8_scalar.specs.Scalar.{isScalar}
+use Rattle.utf8_scalar.specs.Scalar.{allScalars}
 use Rattle.type_letters.specs.declared.Endianness.{Endianness}
 use Rattle.type_letters.specs.Classes.{isUnicode, isBytes, isRaw}
 use Rattle.type_str.specs.declared.TypeStr.{TypeStr}
@@ -20,11 +20,6 @@ zeroFilled size value = value ++ replicate (size - length value) 0
 unfoldable pub bytesOut : TypeStr → (value : List ℕ) → Outcome (List ℕ)
 bytesOut t value = cond (isBytes (t .letter)) (unless (ltb (t .size) (length value)) 30 (gives (zeroFilled (t .size) value)))
     (cond (isRaw (t .letter)) (unless (not (eqb (t .size) (length value))) 30 (gives value)) (refused 26))
-
--- whether every number of a list is a scalar value
-abbrev pub allScalars : List ℕ → Bool
-allScalars [] = true
-allScalars (c ∷ cs) = isScalar c && allScalars cs
 
 -- "four bytes a code point, in the type's byte order", followed by x
 abbrev pub pointBytes : Endianness → List ℕ → List ℕ → List ℕ

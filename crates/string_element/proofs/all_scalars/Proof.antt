@@ -6,7 +6,7 @@ use native.Mathlib.Numerals.{add-one}
 use borrow.Author.Needs.{needs}
 use borrow.Author.Tests.{not-true, not-false}
 use lib.ListN.{length, drop}
-use Rattle.string_value.specs.Runs.{allScalars}
+use Rattle.utf8_scalar.specs.Scalar.{allScalars}
 use Rattle.string_value.proofs.Scalars.{scalars-more, scalars-bad, scalars-end}
 use Rattle.string_element.proofs.all_scalars.Statement.{statement}
 use Rattle.string_element.proofs.all_scalars.Tie as tie
