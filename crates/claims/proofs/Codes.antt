@@ -31,7 +31,7 @@ use Rattle.header.specs.declared.RecordInfo.{RecordInfo}
 use Rattle.header.specs.Reads as header
 use Rattle.write.specs.Writes.{headerWritten}
 use Rattle.list_record.specs.Answer.{listed}
-use Rattle.npy_codes.specs.Codes.{Tells, alone}
+use Rattle.npy_codes.specs.Codes.{Returns, alone}
 use Rattle.npy_codes.specs.Numbers.{orderFor, typeFor, typeValues, textValues, headerValues, summaryValues, runValues}
 use Rattle.npy.specs.Calls.{Puts}
 use Rattle.claims.specs.Beyond.{Same-rest}
@@ -43,7 +43,7 @@ use Rattle.claims.proofs.Beyond.{holding-rest, strides-rest}
 
 -- ---- the code
 module _ {A M : Type 0} (values : A → List ℕ) {before after : M} {said said′ : List ℕ} {r : ℕ} where
-  pub coded : (o : Outcome A) → Numbered o → Tells values o said r said′ → ((n : ℕ) → o ≡ refused n → said′ ≡ said → after ≡ before) → Coded values o before r after said′
+  pub coded : (o : Outcome A) → Numbered o → Returns values o said r said′ → ((n : ℕ) → o ≡ refused n → said′ ≡ said → after ≡ before) → Coded values o before r after said′
   coded (gives a) h t k = record { zero = λ z. (a, refl, t .after); other = λ z. absurd (z (t .answered)) }
   coded (refused n) h t k =
       record {
@@ -57,12 +57,12 @@ module _ {A M : Type 0} (values : A → List ℕ) {before after : M} {said said�
             };
       }
 
-told-coded : {A : Type 0} (values : A → List ℕ) (o : Outcome A) (said : List ℕ) (r : ℕ) (said′ : List ℕ) → Numbered o → Tells values o said r said′
+told-coded : {A : Type 0} (values : A → List ℕ) (o : Outcome A) (said : List ℕ) (r : ℕ) (said′ : List ℕ) → Numbered o → Returns values o said r said′
     → Coded values o said r said′ said′
 told-coded values o said r said′ h t = coded values o h t (λ n e s. s)
 
 -- a room and the values together
-beside : {A M : Type 0} (values : A → List ℕ) (o : Outcome A) (l l′ : M) (said said′ : List ℕ) (r : ℕ) → Numbered o → Tells values o said r said′
+beside : {A M : Type 0} (values : A → List ℕ) (o : Outcome A) (l l′ : M) (said said′ : List ℕ) (r : ℕ) → Numbered o → Returns values o said r said′
     → ((n : ℕ) → o ≡ refused n → l′ ≡ l) → Coded {M = M × List ℕ} values o (l, said) r (l′, said′) said′
 beside values o l l′ said said′ r h t k = coded values o h t (λ n e s. pair-of (k n e) s)
 

@@ -9,7 +9,7 @@ use lib.Dec.{eqb}
 use borrow.Author.Tests.{leb-true, eqb-true}
 use Rattle.counts.specs.Outcome.{Outcome, gives, refused}
 use Rattle.counts.proofs.OneOutcome.{pair-of}
-use Rattle.npy_codes.specs.Codes.{Tells}
+use Rattle.npy_codes.specs.Codes.{Returns}
 use Rattle.claims.specs.Doors.{Door, in-rattle, in-c}
 use Rattle.claims.specs.Exact.{Exactly}
 use Rattle.record.proofs.Numbers.{Numbered}
@@ -31,7 +31,7 @@ positive n h = go (eqb n 0) refl
 pub c-fails : {B : Type 0} (values : B → List ℕ) (said : List ℕ) (o : Outcome B) → Numbered o → Fails (in-c values said) o
 c-fails {B} values said o h n e = let k : Numbered {A = B} (refused n) = subst Numbered e h in positive n (leb-true 1 n (k .so .0))
 
-pub c-returned : {B : Type 0} {values : B → List ℕ} {o : Outcome B} {said : List ℕ} {r : ℕ} {said′ : List ℕ} → Tells values o said r said′
+pub c-returned : {B : Type 0} {values : B → List ℕ} {o : Outcome B} {said : List ℕ} {r : ℕ} {said′ : List ℕ} → Returns values o said r said′
     → _≡_ {A = ℕ × List ℕ} (r, said′) (in-c values said .returned o)
 c-returned t = pair-of (t .answered) (t .after)
 

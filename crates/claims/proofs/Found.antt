@@ -27,7 +27,7 @@ use Rattle.header.specs.Reads.{HeaderInfo, headerInfo, answer, heldInto}
 use Rattle.read_back.specs.Rooms.{tableIn, namesIn, shapeIn, Fronts}
 use Rattle.read_back.proofs.Rooms.{fronts-by, checked-fronts}
 use Rattle.read_back.proofs.Accepted.{read-checked}
-use Rattle.npy_codes.specs.Codes.{Tells}
+use Rattle.npy_codes.specs.Codes.{Returns}
 use Rattle.npy_codes.specs.Numbers.{orderNumber, orderFor, typeFor, typeValues, headerValues}
 use Rattle.claims.specs.Functions.{Read}
 use Rattle.claims.specs.InC.{Npy-read}
@@ -35,7 +35,7 @@ use Rattle.record.proofs.Numbers.{Numbered, each-numbered}
 use Rattle.claims.proofs.Numbers.{held-header-numbered}
 
 -- ---- 0 in C is a value
-pub told-value : {A : Type 0} {values : A → List ℕ} {said said′ : List ℕ} (o : Outcome A) → Numbered o → Tells values o said 0 said′ → (a : A) × (o ≡ gives a) × (said′ ≡ values a)
+pub told-value : {A : Type 0} {values : A → List ℕ} {said said′ : List ℕ} (o : Outcome A) → Numbered o → Returns values o said 0 said′ → (a : A) × (o ≡ gives a) × (said′ ≡ values a)
 told-value (gives a) h t = (a, refl, t .after)
 told-value (refused n) h t = absurd (let one = leb-true 1 n (h .so .0) in let is = t .answered in omega arith)
 

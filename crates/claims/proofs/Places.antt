@@ -34,7 +34,7 @@ use Rattle.place.proofs.Outcomes.{place-one}
 use Rattle.place.proofs.Walks.{path-or-none, plain-path}
 use Rattle.place_item.proofs.Sums.{range-of}
 use Rattle.header.specs.Reads.{infoOf, headerInfo, answer}
-use Rattle.npy_codes.specs.Codes.{code, Tells}
+use Rattle.npy_codes.specs.Codes.{code, Returns}
 use Rattle.npy_codes.specs.Numbers.{orderNumber, headerValues, runValues}
 use Rattle.npy_codes.proofs.Named.{retold}
 use Rattle.claims.specs.Functions.{Place}
@@ -129,7 +129,7 @@ place-answers file start t ns s o =
 -- ---- `npy_place`, with the number of an order
 module _ (file start : ℕ) (t ns s : List ℕ) (o : Order) (room : List ℕ) where
   told-place : (x p : List ℕ) (r : ℕ) (room′ : List ℕ) → Npy-place file start t ns s (orderNumber o) x p room r room′
-      → Tells runValues (placeOf file start t ns s o x p) room r room′
+      → Returns runValues (placeOf file start t ns s o x p) room r room′
   told-place x p r room′ c = retold (ap (λ (g : Outcome Order). then g (λ o. placeOf file start t ns s o x p)) (order-back o)) c
 
   npy-place-answers : Answers {Y = ℕ × List ℕ} (λ x p y. Npy-place file start t ns s (orderNumber o) x p room (y .0) (y .1)) (λ u. (0, runValues u)) (26, room) (placeOf file start t ns s o)

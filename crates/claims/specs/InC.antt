@@ -18,7 +18,7 @@ use Rattle.place_item.specs.Item.{itemOf}
 use Rattle.place.specs.Place.{placeOf}
 use Rattle.string_value.specs.Rooms.{readBytes, readPoints, writeBytes, writePoints}
 use Rattle.element.specs.Element.{elementBytes, elementPoints}
-use Rattle.npy_codes.specs.Codes.{Tells, alone}
+use Rattle.npy_codes.specs.Codes.{Returns, alone}
 use Rattle.npy_codes.specs.Numbers.{orderFor, typeFor, typeValues, textValues, headerValues, summaryValues, runValues}
 use Rattle.npy.specs.Calls as npy
 use Rattle.claims.specs.Functions.{By-grammar}
@@ -26,7 +26,7 @@ use Rattle.claims.specs.Functions.{By-grammar}
 -- ---- reading a header
 -- `npy_read_held`
 pub record Npy-read-held (longer : Bool) (file : List ℕ) (l : Lent) (said : List ℕ) (r : ℕ) (l′ : Lent) (said′ : List ℕ) : Type 0 where
-  pub answered : By-grammar (λ reading. Tells headerValues (each header.headerInfo (heldBy reading longer file l)) said r said′)
+  pub answered : By-grammar (λ reading. Returns headerValues (each header.headerInfo (heldBy reading longer file l)) said r said′)
   pub after : By-grammar (λ reading. l′ ≡ afterwards holdingHeader (heldBy reading longer file l) l)
 
 -- `npy_read`
@@ -35,7 +35,7 @@ Npy-read = Npy-read-held false
 
 -- `npy_read_text`
 pub record Npy-read-text (text : List ℕ) (l : Lent) (said : List ℕ) (r : ℕ) (l′ : Lent) (said′ : List ℕ) : Type 0 where
-  pub answered : By-grammar (λ reading. Tells textValues (each header.infoOf (textBy reading text l)) said r said′)
+  pub answered : By-grammar (λ reading. Returns textValues (each header.infoOf (textBy reading text l)) said r said′)
   pub after : By-grammar (λ reading. l′ ≡ afterwards holding (textBy reading text l) l)
 
 -- ---- a caller's record; the numbers of its table and shape are below 2^64, as every uint64_t is
@@ -43,7 +43,7 @@ pub record Npy-read-text (text : List ℕ) (l : Lent) (said : List ℕ) (r : ℕ
 pub record Npy-check (t ns s : List ℕ) (order : ℕ) (said : List ℕ) (r : ℕ) (said′ : List ℕ) : Type 0 where
   pub small-table : Small t
   pub small-shape : Small s
-  pub answered : Tells summaryValues (then (orderFor order) (λ o. each summary (checkedRecord t ns s o))) said r said′
+  pub answered : Returns summaryValues (then (orderFor order) (λ o. each summary (checkedRecord t ns s o))) said r said′
 
 -- `npy_write_header`
 pub record Npy-write-header (t ns s : List ℕ) (order : ℕ) (out count : List ℕ) (r : ℕ) (out′ count′ : List ℕ) : Type 0 where
@@ -58,7 +58,7 @@ Npy-list = npy.Lists
 -- ---- items and places
 -- `npy_count`
 abbrev pub Npy-count : (s : List ℕ) (order : ℕ) (count : List ℕ) (r : ℕ) (count′ : List ℕ) → Type 0
-Npy-count s order = Tells alone (then (orderFor order) (λ o. itemCount o s))
+Npy-count s order = Returns alone (then (orderFor order) (λ o. itemCount o s))
 
 -- `npy_strides`
 abbrev pub Npy-strides : (s : List ℕ) (order : ℕ) (out count : List ℕ) (r : ℕ) (out′ count′ : List ℕ) → Type 0
@@ -66,11 +66,11 @@ Npy-strides = npy.Strides
 
 -- `npy_item_number`
 abbrev pub Npy-item-number : (s : List ℕ) (order : ℕ) (x item : List ℕ) (r : ℕ) (item′ : List ℕ) → Type 0
-Npy-item-number s order x = Tells alone (then (orderFor order) (λ o. itemOf o s x))
+Npy-item-number s order x = Returns alone (then (orderFor order) (λ o. itemOf o s x))
 
 -- `npy_place`
 abbrev pub Npy-place : (file start : ℕ) (t ns s : List ℕ) (order : ℕ) (x p run : List ℕ) (r : ℕ) (run′ : List ℕ) → Type 0
-Npy-place file start t ns s order x p = Tells runValues (then (orderFor order) (λ o. placeOf file start t ns s o x p))
+Npy-place file start t ns s order x p = Returns runValues (then (orderFor order) (λ o. placeOf file start t ns s o x p))
 
 -- ---- elements
 -- `npy_element_bytes`, `npy_element_points`
@@ -98,7 +98,7 @@ Npy-write-points order letter size units value out = npy.Puts (then (typeFor ord
 -- ---- types
 -- `npy_type_read`
 abbrev pub Npy-type-read : (text said : List ℕ) (r : ℕ) (said′ : List ℕ) → Type 0
-Npy-type-read text = Tells typeValues (typeString text)
+Npy-type-read text = Returns typeValues (typeString text)
 
 -- `npy_type_print`
 abbrev pub Npy-type-print : (order letter size units : ℕ) (out count : List ℕ) (r : ℕ) (out′ count′ : List ℕ) → Type 0

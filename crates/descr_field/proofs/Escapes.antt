@@ -30,7 +30,7 @@ use Rattle.type_letters.specs.Orders.{orders, orderOf, orderByte}
 use Rattle.type_letters.specs.Letters.{letters, letterOf, letterByte}
 use Rattle.type_letters.specs.Spelling.{firstOf}
 use Rattle.type_units.specs.Units.{units, unitText, unitsOf}
-use Rattle.type_str.specs.TypeString.{sizeStands, sized, syntax, typeString}
+use Rattle.type_str.specs.TypeString.{sizeAllowed, sized, syntax, typeString}
 
 -- ---- bytes: one of a list
 abbrev among : List ℕ → ℕ → Bool
@@ -228,7 +228,7 @@ units-special text h = go units
 
 sized-special : (order : Endianness) (letter : TypeChar) (s : List ℕ) → special s ≡ true → sized order letter (digitsOf s) (afterDigits s) ≡ refused 15
 unfolding sized
-sized-special order letter s h = rw (sized, units-special (afterDigits s) (rest-special s h)) (go (not (sizeStands letter (digitsOf s))))
+sized-special order letter s h = rw (sized, units-special (afterDigits s) (rest-special s h)) (go (not (sizeAllowed letter (digitsOf s))))
   where
     go : (t : Bool) → unless {A = TypeStr} t 15 (refused 15) ≡ refused 15
     go true = refl

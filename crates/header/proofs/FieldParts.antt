@@ -57,7 +57,7 @@ use Rattle.dtype.specs.Entries.{entriesOf}
 
 -- the value at `at` is a field
 pub record OneField (k : ℕ) (s : List ℕ) (at : ℕ) (n : Node) (e : ℕ) (f : Field) : Type 0 where
-  pub stands : value k s at ≡ got n e
+  pub there : value k s at ≡ got n e
   pub is : fieldOf (forget n) ≡ gives f
 
 -- the value at `at` is a field that gives f, and there is room for f
@@ -160,9 +160,9 @@ field-bracket k s at e close n f hc o = subst (Bracket k s at n e) (sym hc) (go 
   where
     go : (t : Bool) → eqb (closingOf (kindOf (byteAt s at))) 0 ≡ t → Bracket k s at n e (closingOf (kindOf (byteAt s at)))
     go true z =
-        let x = no-bracket k s at e n (o .stands) 14 (kindOf (byteAt s at)) refl (eqb-true _ _ z) in
+        let x = no-bracket k s at e n (o .there) 14 (kindOf (byteAt s at)) refl (eqb-true _ _ z) in
         refused-gives (sym (field-members (forget n) ∙ ap (λ (y : Outcome Values). then y itemsOf) x) ∙ o .is)
-    go false z = bracket k s at e n (o .stands) (kindOf (byteAt s at)) refl (eqb-false _ _ z)
+    go false z = bracket k s at e n (o .there) (kindOf (byteAt s at)) refl (eqb-false _ _ z)
 
 field-items : (k : ℕ) (s : List ℕ) (at e close : ℕ) (n : Node) (f : Field) (b : Bracket k s at n e close) → OneField k s at n e f → Items (b .held) f
 field-items k s at e close n f b o = items-back (b .held) f (sym (field-members (forget n) ∙ ap (λ (y : Outcome Values). then y itemsOf) (b .holds 14)) ∙ o .is)
@@ -194,7 +194,7 @@ pub record Opened (k : ℕ) (s : List ℕ) (at close e : ℕ) (f : Field) : Type
   pub named : f .name ≡ nameSpelled s at close .bytes
   pub node : Node
   pub end-of-node : ℕ
-  pub stands : read.value (k - 1) s (innerPlace s at close) ≡ got node end-of-node
+  pub there : read.value (k - 1) s (innerPlace s at close) ≡ got node end-of-node
   pub d : Dtype
   pub is : descrOf (forget node) ≡ gives d
   pub ns : List ℕ
@@ -221,7 +221,7 @@ opened k s at close hc n e f o =
       named = nm .0;
       node = i .second;
       end-of-node = y .0;
-      stands = y .1;
+      there = y .1;
       d = i .d;
       is = i .is;
       ns = i .dims;

@@ -254,7 +254,7 @@ module _ (k : ℕ) (s : List ℕ) (from entry up byte : ℕ) (table0 names0 : Li
           x .2,
           f,
           record {
-            one = record { stands = x .4; is = y .2 };
+            one = record { there = x .4; is = y .2 };
             narrow = nar .0;
             room = omega (arith, l .adds, m1, h .room, w .long);
             name-room = omega (arith, l .adds-names, m2, h .name-room, w .long-names);
@@ -268,7 +268,7 @@ module _ (k : ℕ) (s : List ℕ) (from entry up byte : ℕ) (table0 names0 : Li
       pub filling-less : gapLeft (length s) g′ < gapLeft (length s) g
       filling-less =
           let x = filling-field p hg ns₀ e₀ fs₀ h₀ in
-          field-less k s p (x .1) (x .0) g g′ (r .end) hg (x .3 .one .stands) (hf (x .0) (x .1) (x .2) (x .3) .ends) hg′
+          field-less k s p (x .1) (x .0) g g′ (r .end) hg (x .3 .one .there) (hf (x .0) (x .1) (x .2) (x .3) .ends) hg′
 
       pub filling-more : (size′ : Bytes) → size′ ≡ asBytes (capped (size .0 + r .size .0)) → Filling g′ (r .entry) (r .byte) (count + 1) size′ table′ names′
       filling-more size′ h′ =
@@ -293,7 +293,7 @@ module _ (k : ℕ) (s : List ℕ) (from entry up byte : ℕ) (table0 names0 : Li
                 let m4 : sizesOf (l .gs) ≡ sizeOf (f .type) + sizesOf gs = ap sizesOf (y .4) in
                 let due : DueField k s p at table b names (x .0) (x .2) f =
                 record {
-                  one = record { stands = x .4; is = y .2 };
+                  one = record { there = x .4; is = y .2 };
                   narrow = nar .0;
                   room = omega (arith, l .adds, m1, h .room, w .long);
                   name-room = omega (arith, l .adds-names, m2, h .name-room, w .long-names);
@@ -389,7 +389,7 @@ module _ (k : ℕ) (s : List ℕ) (at entry up byte : ℕ) (table names : List �
     inner =
         let len = ap length (hh .names-after) ∙ length-sets names byte (nameSpelled s at close .bytes) in
         record {
-          stands = ap (value (k - 1) s) (hh .goes-on) ∙ w .stands;
+          there = ap (value (k - 1) s) (hh .goes-on) ∙ w .there;
           is = w .is;
           narrow = few-levels .1;
           room = omega (arith, due .room, entries-are);
@@ -459,14 +459,14 @@ fields-due k s at entry byte table names n e d h l =
 module _ (k : ℕ) (s : List ℕ) (at entry up m byte : ℕ) (table names : List ℕ) (n : Node) (e : ℕ) (d : Dtype) (h : Due k s at entry table byte names n e d) where
   module _ (hq : isString (kindOf (byteAt s at)) ≡ true) where
     pub text-in : at < length s
-    text-in = text-due k s at e d n (h .stands) (h .is) hq .inside
+    text-in = text-due k s at e d n (h .there) (h .is) hq .inside
 
     -- the quote is read where the text has it
     pub text-whole : (r : Typed) → (r .ended ≡ spelled (getD s at 0) s (at + 1) .ended) × (answer (r .read) ≡ typeString (spelled (getD s at 0) s (at + 1) .bytes))
         → (u : TypeStr) → u ≡ typeIn (r .read) → (end : ℕ) → end ≡ endOf (r .ended) → (size : Bytes) → size ≡ asBytes (capped (sizeOf (plain u)))
         → (table′ : List ℕ) → table′ ≡ put table entry (entryOf (plain u) up m) → Filled e entry up m byte d table names table′ names (record { end = end; entry = entry + 1; byte = byte; size = size })
     text-whole r hr u hu end he size hs table′ ht =
-        let t = text-due k s at e d n (h .stands) (h .is) hq in
+        let t = text-due k s at e d n (h .there) (h .is) hq in
         let b = getD-any s at 0 256 (t .inside) in
         let ended : r .ended ≡ Parsed.Value e = hr .0 ∙ ap (λ (x : ℕ). spelled x s (at + 1) .ended) b ∙ t .ended in
         let read : answer (r .read) ≡ gives (t .t) = hr .1 ∙ ap (λ (x : ℕ). typeString (spelled x s (at + 1) .bytes)) b ∙ t .is in
@@ -475,7 +475,7 @@ module _ (k : ℕ) (s : List ℕ) (at entry up m byte : ℕ) (table names : List
 
   module _ (hq : isString (kindOf (byteAt s at)) ≡ false) where
     listed : Listed k s at e d
-    listed = list-due k s at e d n (h .stands) (h .is) hq
+    listed = list-due k s at e d n (h .there) (h .is) hq
 
     pub fields-asked : (at < length s) × (0 < k) × DueFieldsFrom (k - 1) s (at + 1) (entry + 1) table byte names
     fields-asked = (listed .inside, listed .deep, (listed .ns, e, listed .fs, fields-due k s at entry byte table names n e d h listed))

@@ -145,7 +145,7 @@ module _ (text : List ℕ) (plan : FoundRecord) (r : Record) (h : PlanOf text (s
         h .typed .counts .end,
         r .dtype,
         record {
-          stands = h .typed .counts .stands;
+          there = h .typed .counts .there;
           is = h .typed .is;
           narrow = narrow-of (r .dtype) (levels-few r (h .within));
           room = omega (arith, table-fits);
@@ -154,7 +154,7 @@ module _ (text : List ℕ) (plan : FoundRecord) (r : Record) (h : PlanOf text (s
       )
 
       shape-stands : dimensionsAt (value inside text (plan .shape .at)) ≡ gives (r .shape)
-      shape-stands = ap dimensionsAt (h .shaped .counts .stands) ∙ h .shaped .is
+      shape-stands = ap dimensionsAt (h .shaped .counts .there) ∙ h .shaped .is
 
       -- ---- what the rooms then hold
       lent-eq : {t t′ n n′ s s′ : List ℕ} → t ≡ t′ → n ≡ n′ → s ≡ s′ → lent t n s ≡ lent t′ n′ s′

@@ -94,7 +94,7 @@ Shapes k s close entry up m table table′ r r′ = (e : ℕ) (ns : List ℕ) �
 -- ---- a descr
 -- the value at `at` is a descr that gives d, and there is room for d
 pub record Due (k : ℕ) (s : List ℕ) (at entry : ℕ) (table : List ℕ) (byte : ℕ) (names : List ℕ) (n : Node) (e : ℕ) (d : Dtype) : Type 0 where
-  pub stands : value k s at ≡ got n e
+  pub there : value k s at ≡ got n e
   pub is : descrOf (forget n) ≡ gives d
   pub narrow : Narrow d
   pub room : entry-width * (entry + entriesOf d) ≤ length table

@@ -45,11 +45,11 @@ use Rattle.judge.specs.Judged.{inside, Counts, ShapeOf, DescrOf}
 module _ {A B : Type 0} (of : Value → Outcome A) (kept : ℕ → A → B) (k : ℕ) (s : List ℕ) where
   -- before any value
   pub found-none : FoundIs of kept k s (refused 9) (refused 9)
-  found-none = record { place = 0; stands = λ n h. refused-gives h; says = refl }
+  found-none = record { place = 0; there = λ n h. refused-gives h; says = refl }
 
   -- of the value at a position
   found-here : (at : ℕ) (n : Node) (e : ℕ) (answer : Outcome B) → value k s at ≡ got n e → answer ≡ each (kept at) (of (forget n)) → FoundIs of kept k s answer (gives n)
-  found-here at n e answer h hx = record { place = at; stands = λ m z. (e, h ∙ ap (λ (x : Node). got x e) (gives-apart z)); says = hx }
+  found-here at n e answer h hx = record { place = at; there = λ m z. (e, h ∙ ap (λ (x : Node). got x e) (gives-apart z)); says = hx }
 
 each-each : {A B C : Type 0} (f : A → B) (g : B → C) (o : Outcome A) → each g (each f o) ≡ each (λ a. g (f a)) o
 each-each f g (gives a) = refl
@@ -97,8 +97,8 @@ module _ (text : List ℕ) (at : ℕ) where
     found-is b h =
         let e = each-back (kept (f .place)) (keyAt w of) b (sym (f .says) ∙ h) in
         let t = then-back (nodeFor w (value most-open text at)) (λ n. of (forget n)) (e .0) (e .1) in
-        let p = f .stands (t .0) (t .1) in
-        (e .0, e .1, record { node = t .0; end = p .0; found = t .1; stands = p .1 }, t .2, e .2)
+        let p = f .there (t .0) (t .1) in
+        (e .0, e .1, record { node = t .0; end = p .0; found = t .1; there = p .1 }, t .2, e .2)
 
   -- a shape has few dimensions
   few : (v : Value) (s : List ℕ) → shapeOf v ≡ gives s → (subShape v ≡ gives s) × (overDimensions s ≡ false)

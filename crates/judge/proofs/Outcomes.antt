@@ -26,7 +26,7 @@ module _ (text : List ℕ) (at : ℕ) where
   place-one : (w : List ℕ) (p q : ℕ) → Counts text at w p → Counts text at w q → p ≡ q
   place-one w p q a b =
       let same : a .node ≡ b .node = cc (sym (a .found) ∙ b .found) in
-      ap (λ (z : Span). z .begin) (sym (value-span inside text p (a .stands)) ∙ ap spanOf same ∙ value-span inside text q (b .stands))
+      ap (λ (z : Span). z .begin) (sym (value-span inside text p (a .there)) ∙ ap spanOf same ∙ value-span inside text q (b .there))
 
   shape-eq : {a b : ℕ} {o u : Outline} → a ≡ b → o ≡ u → _≡_ {A = Shape} (record { at = a; outline = o }) (record { at = b; outline = u })
   shape-eq ha ho = cc

@@ -44,7 +44,7 @@ rankedAt at o = each (λ u. placedShape at o) (rankLimit o)
 -- the answer for a key, by the value that it has: that value is at the place, where k brackets more may open, `of` reads it, and `kept` of what is read is kept
 pub record FoundIs {A B : Type 0} (of : Value → Outcome A) (kept : ℕ → A → B) (k : ℕ) (s : List ℕ) (answer : Outcome B) (o : Outcome Node) : Type 0 where
   pub place : ℕ
-  pub stands : (n : Node) → o ≡ gives n → (e : ℕ) × (value k s place ≡ got n e)
+  pub there : (n : Node) → o ≡ gives n → (e : ℕ) × (value k s place ≡ got n e)
   pub says : answer ≡ each (kept place) (then o (λ n. of (forget n)))
 
 abbrev pub ShapeFoundIs : ℕ → List ℕ → ShapeFound → Outcome Node → Type 0

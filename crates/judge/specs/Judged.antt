@@ -39,7 +39,7 @@ pub record Counts (text : List ℕ) (at : ℕ) (w : List ℕ) (place : ℕ) : Ty
   pub node : Node
   pub end : ℕ
   pub found : nodeFor w (value most-open text at) ≡ gives node
-  pub stands : value inside text place ≡ got node end
+  pub there : value inside text place ≡ got node end
 
 -- the shape s is at the place, and has this outline
 pub record ShapeOf (text : List ℕ) (at : ℕ) (p : Shape) (s : List ℕ) : Type 0 where

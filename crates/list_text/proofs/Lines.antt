@@ -59,7 +59,7 @@ pub record Going (n : ℕ) (t ns old : List ℕ) (at : ℕ) (out : List ℕ) (p 
   pub inside : start ≤ length ns
   pub named : drop start ns ≡ drop (nameStart t e) ns
   pub stored : (x : List ℕ) → sets out p (entryLines (n - e) e t ns x) ≡ sets old at (entryLines n 0 t ns x)
-  pub behind : (x : List ℕ) → capped (p + length (entryLines (n - e) e t ns x)) ≡ capped (at + length (entryLines n 0 t ns x))
+  pub after : (x : List ℕ) → capped (p + length (entryLines (n - e) e t ns x)) ≡ capped (at + length (entryLines n 0 t ns x))
 
 pub going-start : (n : ℕ) (t ns old : List ℕ) (at : ℕ) → Going n t ns old at old at 0 0
 going-start n t ns old at =
@@ -70,7 +70,7 @@ going-start n t ns old at =
       inside = omega arith;
       named = refl;
       stored = λ x. ap (λ (k : ℕ). sets old at (entryLines k 0 t ns x)) z;
-      behind = λ x. ap (λ (k : ℕ). capped (at + length (entryLines k 0 t ns x))) z;
+      after = λ x. ap (λ (k : ℕ). capped (at + length (entryLines k 0 t ns x))) z;
     }
 
 pub going-more :
@@ -88,7 +88,7 @@ going-more n t ns old at out p start e entry end out′ p′ g lt he hend h =
       inside = past-inside ns start (entry .name) (g .inside) end hend;
       named = rw (add-one e) (next-there ns start (entry .name) (g .inside) end hend t e (g .named) m);
       stored = λ x. rw (add-one e) (written .stored (entryLines (n - suc e) (suc e) t ns x) ∙ ap (λ (k : ℕ). sets out p (entryLines k e t ns x)) (sym one) ∙ g .stored x);
-      behind = λ x. rw (add-one e) (written .behind (entryLines (n - suc e) (suc e) t ns x) ∙ ap (λ (k : ℕ). capped (p + length (entryLines k e t ns x))) (sym one) ∙ g .behind x);
+      after = λ x. rw (add-one e) (written .after (entryLines (n - suc e) (suc e) t ns x) ∙ ap (λ (k : ℕ). capped (p + length (entryLines k e t ns x))) (sym one) ∙ g .after x);
     }
 
 pub going-end : (n : ℕ) (t ns old : List ℕ) (at : ℕ) (out : List ℕ) (p start e : ℕ) → Going n t ns old at out p start e → n ≤ e → Emits (entryLines n 0 t ns) old at out p
@@ -96,7 +96,7 @@ going-end n t ns old at out p start e g ge =
     let z : n - e ≡ 0 = omega arith in
     record {
       stored = λ x. ap (λ (k : ℕ). sets out p (entryLines k e t ns x)) (sym z) ∙ g .stored x;
-      behind = λ x. ap (λ (k : ℕ). capped (p + length (entryLines k e t ns x))) (sym z) ∙ g .behind x;
+      after = λ x. ap (λ (k : ℕ). capped (p + length (entryLines k e t ns x))) (sym z) ∙ g .after x;
     }
 
 pub lines-known : (k k′ : ℕ) (t ns old : List ℕ) (at : ℕ) (out : List ℕ) (p : ℕ) → k ≡ k′ → Emits (entryLines k 0 t ns) old at out p → Emits (entryLines k′ 0 t ns) old at out p

@@ -2,5 +2,5 @@ pub mod Positions
 pub mod Blocks
 pub mod Ends
 pub mod Outcomes
-mod Tells
+mod Returns
 pub mod GapEnds

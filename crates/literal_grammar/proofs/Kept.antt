@@ -16,7 +16,7 @@ use Rattle.literal_grammar.proofs.Texts.{headOf, tailOf, Alike, alike-s
 use Rattle.literal_grammar.proofs.Layers.{Literal, raise′}
 use Rattle.literal_grammar.proofs.Same.{given, some-layer}
 use Rattle.literal_grammar.proofs.Reading.{Read, literal}
-use Rattle.literal_grammar.proofs.Told.{By, Tells, reads}
+use Rattle.literal_grammar.proofs.Told.{By, Returns, reads}
 use Rattle.literal_grammar.proofs.Limits.{fault-wider}
 use Rattle.literal_grammar.proofs.Whole.{told-literal, nothing-left, sound, complete, layer-complete, literal-suc, one-value}
 
@@ -59,7 +59,7 @@ unfolding isOpen
 open-cons [] h = true-false (sym h)
 open-cons (b ∷ q) h = refl
 
-promise-of : (k : ℕ) (s : List ℕ) (g : Read Value) → Tells (Literal k) (Literal (suc k)) (By (literal k)) s g → literal k s ≡ g → Promise k s g
+promise-of : (k : ℕ) (s : List ℕ) (g : Read Value) → Returns (Literal k) (Literal (suc k)) (By (literal k)) s g → literal k s ≡ g → Promise k s g
 promise-of k s (got v q) x h = (nothing-left k s v q h, sound k s v q h)
 promise-of k s (fault q) (u, e, via, same) h = (u, e, record { before = completable-in k u via; there = barred-of Gives u q (λ r al v g. no-text k (u ++ r) r v (same r al) g) })
 promise-of k s (deep q) (u, e, via, via⁺, op, same) h = (

@@ -21,15 +21,15 @@ abbrev pub Same : {A : Type 0} → (List ℕ → Read A → Type 0) → List ℕ
 Same Rd u out rest = (r : List ℕ) → Alike rest r → Rd (u ++ r) (out r)
 
 -- R is the grammar within a limit, R⁺ with one bracket more
-abbrev pub Tells : {A : Type 0} → (R R⁺ : List ℕ → A → Type 0) → (List ℕ → Read A → Type 0) → List ℕ → Read A → Type 0
-Tells R R⁺ Rd s (got v rest) = (u : List ℕ) × (s ≡ u ++ rest) × R u v × Same Rd u (got v) rest
-Tells R R⁺ Rd s (fault rest) = (u : List ℕ) × (s ≡ u ++ rest) × Completable R u × Same Rd u fault rest
-Tells R R⁺ Rd s (deep rest) = (u : List ℕ) × (s ≡ u ++ rest) × Completable R u × Completable R⁺ (u ++ (headOf rest ∷ [])) × (isOpen (headOf rest) ≡ true) × Same Rd u deep rest
+abbrev pub Returns : {A : Type 0} → (R R⁺ : List ℕ → A → Type 0) → (List ℕ → Read A → Type 0) → List ℕ → Read A → Type 0
+Returns R R⁺ Rd s (got v rest) = (u : List ℕ) × (s ≡ u ++ rest) × R u v × Same Rd u (got v) rest
+Returns R R⁺ Rd s (fault rest) = (u : List ℕ) × (s ≡ u ++ rest) × Completable R u × Same Rd u fault rest
+Returns R R⁺ Rd s (deep rest) = (u : List ℕ) × (s ≡ u ++ rest) × Completable R u × Completable R⁺ (u ++ (headOf rest ∷ [])) × (isOpen (headOf rest) ≡ true) × Same Rd u deep rest
 
 abbrev pub Told : {A : Type 0} → (R R⁺ : List ℕ → A → Type 0) → (List ℕ → Read A → Type 0) → List ℕ → Type 0
-Told {A} R R⁺ Rd s = (g : Read A) × Tells R R⁺ Rd s g
+Told {A} R R⁺ Rd s = (g : Read A) × Returns R R⁺ Rd s g
 
-pub reads : {A : Type 0} (R R⁺ : List ℕ → A → Type 0) (Rd : List ℕ → Read A → Type 0) (s : List ℕ) (g : Read A) → Tells R R⁺ Rd s g → Rd s g
+pub reads : {A : Type 0} (R R⁺ : List ℕ → A → Type 0) (Rd : List ℕ → Read A → Type 0) (s : List ℕ) (g : Read A) → Returns R R⁺ Rd s g → Rd s g
 reads R R⁺ Rd s (got v q) (u, e, x, same) = subst (λ y. Rd y (got v q)) (sym e) (same q (alike-self q))
 reads R R⁺ Rd s (fault q) (u, e, x, same) = subst (λ y. Rd y (fault q)) (sym e) (same q (alike-self q))
 reads R R⁺ Rd s (deep q) (u, e, x, y, o, same) = subst (λ z. Rd z (deep q)) (sym e) (same q (alike-self q))
@@ -51,12 +51,12 @@ module _ {A B : Type 0} (R R⁺ : List ℕ → A → Type 0) (Q Q⁺ : List ℕ 
   -- a refusal within a part is the refusal of the whole: `end` completes the whole once the part is complete
   pub told-fault : (end s q : List ℕ) → AllBytes end → ((u : List ℕ) (v : A) → R u v → Q (p ++ (u ++ end)) (f v))
       → ((y r : List ℕ) → Alike s y → Rd y (fault r) → Rd′ (p ++ y) (fault r))
-      → Tells R R⁺ Rd s (fault q) → Told Q Q⁺ Rd′ (p ++ s)
+      → Returns R R⁺ Rd s (fault q) → Told Q Q⁺ Rd′ (p ++ s)
   told-fault end s q be up on (u, e, via, same) = (fault q, (p ++ u, parts s u q e, before R Q end u be up via, onward s u q fault fault e on same))
 
   pub told-deep : (end s q : List ℕ) → AllBytes end → ((u : List ℕ) (v : A) → R u v → Q (p ++ (u ++ end)) (f v)) → ((u : List ℕ) (v : A) → R⁺ u v → Q⁺ (p ++ (u ++ end)) (f v))
       → ((y r : List ℕ) → Alike s y → Rd y (deep r) → Rd′ (p ++ y) (deep r))
-      → Tells R R⁺ Rd s (deep q) → Told Q Q⁺ Rd′ (p ++ s)
+      → Returns R R⁺ Rd s (deep q) → Told Q Q⁺ Rd′ (p ++ s)
   told-deep end s q be up up⁺ on (u, e, via, via⁺, o, same) =
       (deep q, (p ++ u, parts s u q e, before R Q end u be up via, subst (Completable Q⁺) (sym (append-assoc p u (headOf q ∷ []))) (before R⁺ Q⁺ end (u ++ (headOf q ∷ [])) be up⁺ via⁺), o, onward s u q deep deep e on same))
 

@@ -14,7 +14,7 @@ use Rattle.literal_grammar.proofs.Texts.{Blanks, headOf, Alike, alike-h
 use Rattle.literal_grammar.proofs.Layers.{padded, padded-sub, Layer, Literal, deeper, raise, raise′}
 use Rattle.literal_grammar.proofs.Same.{given, at-depth, some-layer}
 use Rattle.literal_grammar.proofs.Reading.{Read, skip, value, alone, literal}
-use Rattle.literal_grammar.proofs.Told.{By, Same, Tells, Told, reads, moved, told-fault, told-deep}
+use Rattle.literal_grammar.proofs.Told.{By, Same, Returns, Told, reads, moved, told-fault, told-deep}
 use Rattle.literal_grammar.proofs.Tokens.{skips}
 use Rattle.literal_grammar.proofs.Values.{told-value}
 use Rattle.literal_grammar.proofs.Complete.{Stop, stop-blanks, starts-on, starts-blank, value-starts, value-complete}
@@ -53,7 +53,7 @@ module _ (k : ℕ) (a t : List ℕ) (ba : Blanks a) (nt : isBlank (headOf t) ≡
       by-rest (x ∷ z) e nz on =
           (fault (x ∷ z), (a ++ (u ++ b), e, ([], v, tt, subst (λ y. Literal k y v) (sym (append-nil (a ++ (u ++ b)))) (padded a u b ba ru bb)), λ r al. on r al ∙ ap (λ y. alone (got v (b ++ y))) (al .1) ∙ alone-stray v b (al .0) x bb nz ∙ ap fault (sym (al .1))))
 
-  told-front : (g : Read Value) → Tells (Layer k) (Layer (suc k)) (By (value k)) t g → Good
+  told-front : (g : Read Value) → Returns (Layer k) (Layer (suc k)) (By (value k)) t g → Good
   unfolding alone
   told-front (got v q) (u, eu, ru, same) = let (b, z, bb, ez, nz) = gap q in told-behind v u q b z eu ru same bb ez nz
   told-front (fault q) x =
@@ -93,7 +93,7 @@ unfolding literal rest-of
 nothing-left k s v q h = sym (ap rest-of h) ∙ alone-rest (value k (skip s))
 
 -- ---- sound, complete, one value
-layer-sound : (k : ℕ) (s : List ℕ) (g : Read Value) → Tells (Literal k) (Literal (suc k)) (By (literal k)) s g → (v : Value) (q : List ℕ) → g ≡ got v q → q ≡ [] → Literal k s v
+layer-sound : (k : ℕ) (s : List ℕ) (g : Read Value) → Returns (Literal k) (Literal (suc k)) (By (literal k)) s g → (v : Value) (q : List ℕ) → g ≡ got v q → q ≡ [] → Literal k s v
 unfolding rest-of value-of
 layer-sound k s (got w r) (u, e, x, same) v q h n =
     let er : r ≡ [] = ap rest-of h ∙ n in

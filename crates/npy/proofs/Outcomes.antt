@@ -6,12 +6,12 @@ use mathlib.Core.List.{List}
 use Rattle.counts.specs.Outcome.{Outcome}
 use Rattle.counts.specs.OneOutcome.{OneOutcome}
 use Rattle.record.specs.Rooms.{Lent}
-use Rattle.npy_codes.specs.Codes.{Tells}
+use Rattle.npy_codes.specs.Codes.{Returns}
 use Rattle.npy_codes.proofs.Outcomes.{tells-one}
 use Rattle.npy.specs.Calls.{Reads, ReadsHeld, ReadsText, Writes, Lists, Strides, Prints, Puts}
 
 -- of a function that is lent room for its values alone
-pub told-one : {A : Type 0} (values : A → List ℕ) (o : Outcome A) (room : List ℕ) → OneOutcome {A = ℕ × List ℕ} (λ r. Tells values o room (r .0) (r .1))
+pub told-one : {A : Type 0} (values : A → List ℕ) (o : Outcome A) (room : List ℕ) → OneOutcome {A = ℕ × List ℕ} (λ r. Returns values o room (r .0) (r .1))
 told-one values o room = tells-one values o room
 
 -- of one that is lent other rooms too: its number, these rooms, and the values
@@ -23,7 +23,7 @@ module _ {L : Type 0} where
   three-eq hm hk hx = cc
 
   both-one : {A : Type 0} {values : A → List ℕ} {o : Outcome A} {said : List ℕ} {l : L} (x y : Three L)
-      → Tells values o said (x .0 .0) (x .1) → x .0 .1 ≡ l → Tells values o said (y .0 .0) (y .1) → y .0 .1 ≡ l → x ≡ y
+      → Returns values o said (x .0 .0) (x .1) → x .0 .1 ≡ l → Returns values o said (y .0 .0) (y .1) → y .0 .1 ≡ l → x ≡ y
   both-one x y p k q m = three-eq (p .answered ∙ sym (q .answered)) (k ∙ sym m) (p .after ∙ sym (q .after))
 
 pub npy-read-one : (file : List ℕ) (l : Lent) (said : List ℕ) → OneOutcome {A = Three Lent} (λ x. Reads file l said (x .0 .0) (x .0 .1) (x .1))

@@ -6,13 +6,13 @@ use lib.ListN.{length}
 use Rattle.counts.specs.Outcome.{Outcome, gives, refused, then, each, afterwards}
 use Rattle.counts.specs.Front.{atFront}
 use Rattle.counts.specs.Owes.{Owes}
-use Rattle.npy_codes.specs.Codes.{code, Tells, alone}
+use Rattle.npy_codes.specs.Codes.{code, Returns, alone}
 use Rattle.npy.specs.Calls.{Puts}
 use Rattle.npy_codes.proofs.Named.{retold}
 
 module _ {A : Type 0} {given : Outcome A} (next : A → Outcome (List ℕ)) where
   pub then-put : {a : A} {answer : Outcome ℕ} {room room′ count count′ : List ℕ} {r : ℕ}
-      → gives a ≡ given → Owes (next a) room answer room′ → Tells alone answer count r count′ → Puts (then given next) room count r room′ count′
+      → gives a ≡ given → Owes (next a) room answer room′ → Returns alone answer count r count′ → Puts (then given next) room count r room′ count′
   then-put {room = room} is owes tells =
       record {
         answered = retold (owes .answered ∙ ap (λ (g : Outcome A). each length (then g next)) is) tells;

@@ -18,12 +18,12 @@ use Rattle.list_record.specs.Answer.{listed}
 use Rattle.judge.specs.Judged.{reading}
 use Rattle.header.specs.Reads as header
 use Rattle.write.specs.Writes.{headerWritten}
-use Rattle.npy_codes.specs.Codes.{Tells, alone}
+use Rattle.npy_codes.specs.Codes.{Returns, alone}
 use Rattle.npy_codes.specs.Numbers.{orderFor, typeFor, textValues, headerValues}
 
 -- ---- reading: the three lent rooms, and what is said beside them; by any reading of texts as literals, and by the literal's own
 pub record ReadsBy (rd : Reading) (longer : Bool) (file : List ℕ) (l : Lent) (said : List ℕ) (r : ℕ) (l′ : Lent) (said′ : List ℕ) : Type 0 where
-  pub answered : Tells headerValues (each header.headerInfo (heldBy rd longer file l)) said r said′
+  pub answered : Returns headerValues (each header.headerInfo (heldBy rd longer file l)) said r said′
   pub rooms : l′ ≡ afterwards holdingHeader (heldBy rd longer file l) l
 
 -- .. of a file of which only the first bytes are held if it is longer
@@ -34,7 +34,7 @@ abbrev pub Reads : (file : List ℕ) (l : Lent) (said : List ℕ) (r : ℕ) (l�
 Reads file l said r l′ said′ = ReadsBy reading false file l said r l′ said′
 
 pub record ReadsTextBy (rd : Reading) (text : List ℕ) (l : Lent) (said : List ℕ) (r : ℕ) (l′ : Lent) (said′ : List ℕ) : Type 0 where
-  pub answered : Tells textValues (each header.infoOf (textBy rd text l)) said r said′
+  pub answered : Returns textValues (each header.infoOf (textBy rd text l)) said r said′
   pub rooms : l′ ≡ afterwards holding (textBy rd text l) l
 
 abbrev pub ReadsText : (text : List ℕ) (l : Lent) (said : List ℕ) (r : ℕ) (l′ : Lent) (said′ : List ℕ) → Type 0
@@ -42,7 +42,7 @@ ReadsText text l said r l′ said′ = ReadsTextBy reading text l said r l′ sa
 
 -- ---- writing to a lent room: how many were written, and the room afterwards, where `put` is what goes to its front
 pub record Puts (put : Outcome (List ℕ)) (room count : List ℕ) (r : ℕ) (room′ count′ : List ℕ) : Type 0 where
-  pub answered : Tells alone (each length put) count r count′
+  pub answered : Returns alone (each length put) count r count′
   pub room-after : room′ ≡ afterwards atFront put room
 
 abbrev pub Writes : (t ns s : List ℕ) (order : ℕ) (room count : List ℕ) (r : ℕ) (room′ count′ : List ℕ) → Type 0
@@ -61,5 +61,5 @@ Prints order letter size units room count r room′ count′ = Puts (then (typeF
 
 -- the strides go to the room, and the item count is returned
 pub record Strides (s : List ℕ) (order : ℕ) (room count : List ℕ) (r : ℕ) (room′ count′ : List ℕ) : Type 0 where
-  pub answered : Tells alone (then (orderFor order) (λ o. stridesCount o s (length room))) count r count′
+  pub answered : Returns alone (then (orderFor order) (λ o. stridesCount o s (length room))) count r count′
   pub room-after : room′ ≡ afterwards (λ o. afterwards (λ n. atFront (strides o s)) (stridesCount o s (length room))) (orderFor order) room

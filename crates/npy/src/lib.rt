@@ -17,7 +17,7 @@ ghost use Rattle.string_value.specs.Rooms.{readBytes, readPoints, writeBytes, w
 ghost use Rattle.element.specs.Element.{elementBytes, elementPoints};
 ghost use Rattle.header_prefix.specs.Answer.{versionIs};
 ghost use Rattle.header.specs.Reads.{lent};
-ghost use Rattle.npy_codes.specs.Codes.{Tells, alone};
+ghost use Rattle.npy_codes.specs.Codes.{Returns, alone};
 ghost use Rattle.npy_codes.specs.Numbers.{orderFor, typeFor, typeValues, summaryValues, runValues};
 ghost use Rattle.npy.specs.Calls.{Reads, ReadsHeld, ReadsText, Writes, Lists, ListsAs, Strides, Prints, Puts};
 
@@ -32,7 +32,7 @@ pub extern "C" fn npy_read(
 ) -> u8
     ensures { λ r. ⌜ Reads (now (file .entry)) (lent (now (table .entry)) (now (names .entry)) (now (shape .entry))) (now (said .entry)) r (lent (now (table .exit)) (now (names .exit)) (now (shape .exit))) (now (said .exit)) ⌝ }
 {
-    npy_codes::tell_header(header::read(file, table, names, shape), said)
+    npy_codes::return_header(header::read(file, table, names, shape), said)
 }
 
 // The same for a file of which only the first bytes are held: `longer` if it has more.
@@ -47,7 +47,7 @@ pub extern "C" fn npy_read_held(
 ) -> u8
     ensures { λ r. ⌜ ReadsHeld longer (now (file .entry)) (lent (now (table .entry)) (now (names .entry)) (now (shape .entry))) (now (said .entry)) r (lent (now (table .exit)) (now (names .exit)) (now (shape .exit))) (now (said .exit)) ⌝ }
 {
-    npy_codes::tell_header(header::read_held(file, longer, table, names, shape), said)
+    npy_codes::return_header(header::read_held(file, longer, table, names, shape), said)
 }
 
 // The record of a header's text, of any length; `said` is its order, rank, entries and name bytes.
@@ -61,7 +61,7 @@ pub extern "C" fn npy_read_text(
 ) -> u8
     ensures { λ r. ⌜ ReadsText (now (text .entry)) (lent (now (table .entry)) (now (names .entry)) (now (shape .entry))) (now (said .entry)) r (lent (now (table .exit)) (now (names .exit)) (now (shape .exit))) (now (said .exit)) ⌝ }
 {
-    npy_codes::tell_text(header::read_text(text, table, names, shape), said)
+    npy_codes::return_text(header::read_text(text, table, names, shape), said)
 }
 
 // Whether a record is one that some reading gives, 7 and 4 aside; `said` is its rank, entries, 1 and its item size or 0 and 0, and its item count.
@@ -73,10 +73,10 @@ pub extern "C" fn npy_check(
     order: u64,
     said: &mut [u64; 5],
 ) -> u8
-    ensures { λ r. ⌜ Tells summaryValues (then (orderFor order) (λ o. each summary (checkedRecord (now (table .entry)) (now (names .entry)) (now (shape .entry)) o))) (now (said .entry)) r (now (said .exit)) ⌝ }
+    ensures { λ r. ⌜ Returns summaryValues (then (orderFor order) (λ o. each summary (checkedRecord (now (table .entry)) (now (names .entry)) (now (shape .entry)) o))) (now (said .entry)) r (now (said .exit)) ⌝ }
 {
     match npy_codes::order_for(order) {
-        OrderGiven::Is(o) => npy_codes::tell_checked(
+        OrderGiven::Is(o) => npy_codes::return_checked(
             check_record::check(table, names, shape, o),
             said,
         ),
@@ -97,7 +97,7 @@ pub extern "C" fn npy_write_header(
     ensures { λ r. ⌜ Writes (now (table .entry)) (now (names .entry)) (now (shape .entry)) order (now (out .entry)) (now (count .entry)) r (now (out .exit)) (now (count .exit)) ⌝ }
 {
     match npy_codes::order_for(order) {
-        OrderGiven::Is(o) => npy_codes::tell_bytes(
+        OrderGiven::Is(o) => npy_codes::return_bytes(
             write::write_header(table, names, shape, o, out),
             count,
         ),
@@ -139,7 +139,7 @@ fn list_as(
     ensures { λ r. ⌜ ListsAs (versionIs version) start (now (table .entry)) (now (names .entry)) (now (shape .entry)) order (now (out .entry)) (now (count .entry)) r (now (out .exit)) (now (count .exit)) ⌝ }
 {
     match npy_codes::order_for(order) {
-        OrderGiven::Is(o) => npy_codes::tell_bytes(
+        OrderGiven::Is(o) => npy_codes::return_bytes(
             list_record::list(version, Bytes(start), table, names, shape, o, out),
             count,
         ),
@@ -150,10 +150,10 @@ fn list_as(
 // The item count of a shape.
 #[no_mangle]
 pub extern "C" fn npy_count(shape: &[u64], order: u64, count: &mut [u64; 1]) -> u8
-    ensures { λ r. ⌜ Tells alone (then (orderFor order) (λ o. itemCount o (now (shape .entry)))) (now (count .entry)) r (now (count .exit)) ⌝ }
+    ensures { λ r. ⌜ Returns alone (then (orderFor order) (λ o. itemCount o (now (shape .entry)))) (now (count .entry)) r (now (count .exit)) ⌝ }
 {
     match npy_codes::order_for(order) {
-        OrderGiven::Is(o) => npy_codes::tell_items(shape::count(shape, o), count),
+        OrderGiven::Is(o) => npy_codes::return_items(shape::count(shape, o), count),
         OrderGiven::Refused(why) => why.number(),
     }
 }
@@ -169,7 +169,7 @@ pub extern "C" fn npy_strides(
     ensures { λ r. ⌜ Strides (now (shape .entry)) order (now (out .entry)) (now (count .entry)) r (now (out .exit)) (now (count .exit)) ⌝ }
 {
     match npy_codes::order_for(order) {
-        OrderGiven::Is(o) => npy_codes::tell_items(shape::strides(shape, o, out), count),
+        OrderGiven::Is(o) => npy_codes::return_items(shape::strides(shape, o, out), count),
         OrderGiven::Refused(why) => why.number(),
     }
 }
@@ -182,10 +182,13 @@ pub extern "C" fn npy_item_number(
     index: &[u64],
     item: &mut [u64; 1],
 ) -> u8
-    ensures { λ r. ⌜ Tells alone (then (orderFor order) (λ o. itemOf o (now (shape .entry)) (now (index .entry)))) (now (item .entry)) r (now (item .exit)) ⌝ }
+    ensures { λ r. ⌜ Returns alone (then (orderFor order) (λ o. itemOf o (now (shape .entry)) (now (index .entry)))) (now (item .entry)) r (now (item .exit)) ⌝ }
 {
     match npy_codes::order_for(order) {
-        OrderGiven::Is(o) => npy_codes::tell_items(place_item::item_number(shape, o, index), item),
+        OrderGiven::Is(o) => npy_codes::return_items(
+            place_item::item_number(shape, o, index),
+            item,
+        ),
         OrderGiven::Refused(why) => why.number(),
     }
 }
@@ -203,10 +206,10 @@ pub extern "C" fn npy_place(
     path: &[u64],
     run: &mut [u64; 6],
 ) -> u8
-    ensures { λ r. ⌜ Tells runValues (then (orderFor order) (λ o. placeOf file start (now (table .entry)) (now (names .entry)) (now (shape .entry)) o (now (index .entry)) (now (path .entry)))) (now (run .entry)) r (now (run .exit)) ⌝ }
+    ensures { λ r. ⌜ Returns runValues (then (orderFor order) (λ o. placeOf file start (now (table .entry)) (now (names .entry)) (now (shape .entry)) o (now (index .entry)) (now (path .entry)))) (now (run .entry)) r (now (run .exit)) ⌝ }
 {
     match npy_codes::order_for(order) {
-        OrderGiven::Is(o) => npy_codes::tell_place(
+        OrderGiven::Is(o) => npy_codes::return_place(
             place::place(
                 Bytes(file),
                 Bytes(start),
@@ -240,7 +243,7 @@ pub extern "C" fn npy_element_bytes(
     ensures { λ r. ⌜ Puts (then (orderFor order) (λ o. elementBytes (now (file .entry)) start (now (table .entry)) (now (names .entry)) (now (shape .entry)) o (now (index .entry)) (now (path .entry)) (now (out .entry)))) (now (out .entry)) (now (count .entry)) r (now (out .exit)) (now (count .exit)) ⌝ }
 {
     match npy_codes::order_for(order) {
-        OrderGiven::Is(o) => npy_codes::tell_bytes(
+        OrderGiven::Is(o) => npy_codes::return_bytes(
             element::read_bytes(file, Bytes(start), table, names, shape, o, index, path, out),
             count,
         ),
@@ -265,7 +268,7 @@ pub extern "C" fn npy_element_points(
     ensures { λ r. ⌜ Puts (then (orderFor order) (λ o. elementPoints (now (file .entry)) start (now (table .entry)) (now (names .entry)) (now (shape .entry)) o (now (index .entry)) (now (path .entry)) (now (out .entry)))) (now (out .entry)) (now (count .entry)) r (now (out .exit)) (now (count .exit)) ⌝ }
 {
     match npy_codes::order_for(order) {
-        OrderGiven::Is(o) => npy_codes::tell_points(
+        OrderGiven::Is(o) => npy_codes::return_points(
             element::read_points(file, Bytes(start), table, names, shape, o, index, path, out),
             count,
         ),
@@ -287,7 +290,10 @@ pub extern "C" fn npy_read_bytes(
     ensures { λ r. ⌜ Puts (then (typeFor order letter size units) (λ t. readBytes t (now (run .entry)) (now (out .entry)))) (now (out .entry)) (now (count .entry)) r (now (out .exit)) (now (count .exit)) ⌝ }
 {
     match npy_codes::type_for(order, letter, size, units) {
-        TypeRead::Read(t) => npy_codes::tell_bytes(string_element::read_bytes(run, t, out), count),
+        TypeRead::Read(t) => npy_codes::return_bytes(
+            string_element::read_bytes(run, t, out),
+            count,
+        ),
         TypeRead::Refused(why) => why.number(),
     }
 }
@@ -306,7 +312,7 @@ pub extern "C" fn npy_read_points(
     ensures { λ r. ⌜ Puts (then (typeFor order letter size units) (λ t. readPoints t (now (run .entry)) (now (out .entry)))) (now (out .entry)) (now (count .entry)) r (now (out .exit)) (now (count .exit)) ⌝ }
 {
     match npy_codes::type_for(order, letter, size, units) {
-        TypeRead::Read(t) => npy_codes::tell_points(
+        TypeRead::Read(t) => npy_codes::return_points(
             string_element::read_points(run, t, out),
             count,
         ),
@@ -328,7 +334,7 @@ pub extern "C" fn npy_write_bytes(
     ensures { λ r. ⌜ Puts (then (typeFor order letter size units) (λ t. writeBytes t (now (value .entry)) (now (out .entry)))) (now (out .entry)) (now (count .entry)) r (now (out .exit)) (now (count .exit)) ⌝ }
 {
     match npy_codes::type_for(order, letter, size, units) {
-        TypeRead::Read(t) => npy_codes::tell_bytes(
+        TypeRead::Read(t) => npy_codes::return_bytes(
             string_element::write_bytes(t, value, out),
             count,
         ),
@@ -350,7 +356,7 @@ pub extern "C" fn npy_write_points(
     ensures { λ r. ⌜ Puts (then (typeFor order letter size units) (λ t. writePoints t (now (value .entry)) (now (out .entry)))) (now (out .entry)) (now (count .entry)) r (now (out .exit)) (now (count .exit)) ⌝ }
 {
     match npy_codes::type_for(order, letter, size, units) {
-        TypeRead::Read(t) => npy_codes::tell_bytes(
+        TypeRead::Read(t) => npy_codes::return_bytes(
             string_element::write_points(t, value, out),
             count,
         ),
@@ -361,9 +367,9 @@ pub extern "C" fn npy_write_points(
 // The type that a type string gives, as its four numbers.
 #[no_mangle]
 pub extern "C" fn npy_type_read(text: &[u8], said: &mut [u64; 4]) -> u8
-    ensures { λ r. ⌜ Tells typeValues (typeString (now (text .entry))) (now (said .entry)) r (now (said .exit)) ⌝ }
+    ensures { λ r. ⌜ Returns typeValues (typeString (now (text .entry))) (now (said .entry)) r (now (said .exit)) ⌝ }
 {
-    npy_codes::tell_type(type_read::parse(text), said)
+    npy_codes::return_type(type_read::parse(text), said)
 }
 
 // The type string of a type, at the front of `out`; `count` is its length.
@@ -379,7 +385,7 @@ pub extern "C" fn npy_type_print(
     ensures { λ r. ⌜ Prints order letter size units (now (out .entry)) (now (count .entry)) r (now (out .exit)) (now (count .exit)) ⌝ }
 {
     match npy_codes::type_for(order, letter, size, units) {
-        TypeRead::Read(t) => npy_codes::tell_bytes(type_print::print(t, out), count),
+        TypeRead::Read(t) => npy_codes::return_bytes(type_print::print(t, out), count),
         TypeRead::Refused(why) => why.number(),
     }
 }

@@ -11,7 +11,7 @@ code (gives a) = 0
 code (refused n) = n
 
 -- the outcome o as a C function reports it: r is returned, and the room for the values then holds room′
-pub record Tells {A : Type 0} (values : A → List ℕ) (o : Outcome A) (room : List ℕ) (r : ℕ) (room′ : List ℕ) : Type 0 where
+pub record Returns {A : Type 0} (values : A → List ℕ) (o : Outcome A) (room : List ℕ) (r : ℕ) (room′ : List ℕ) : Type 0 where
   pub answered : r ≡ code o
   pub after : room′ ≡ afterwards (λ a old. values a) o room
 

@@ -24,7 +24,7 @@ ghost use Rattle.type_str.specs.Answer as typed;
 ghost use Rattle.check_record.specs.Answer as checked;
 ghost use Rattle.place.specs.Answer as placed;
 ghost use Rattle.header.specs.Reads as header;
-ghost use Rattle.npy_codes.specs.Codes.{Tells, alone};
+ghost use Rattle.npy_codes.specs.Codes.{Returns, alone};
 ghost use Rattle.npy_codes.specs.Numbers.{orderNumber, orderFor, typeFor, typeValues, textValues, headerValues, summaryValues, runValues};
 ghost use Rattle.npy_codes.specs.Given.{orderGiven, versionGiven};
 
@@ -85,8 +85,8 @@ pub fn type_for(order: u64, letter: u64, size: u64, units: u64) -> TypeRead
 }
 
 // Writes a number of items, or an item's number, to `said` and returns 0, or returns the refusal's number.
-pub fn tell_items(a: ItemsAnswer, said: &mut [u64; 1]) -> u8
-    ensures { λ r. ⌜ Tells alone (itemsAnswer a) (now (said .entry)) r (now (said .exit)) ⌝ }
+pub fn return_items(a: ItemsAnswer, said: &mut [u64; 1]) -> u8
+    ensures { λ r. ⌜ Returns alone (itemsAnswer a) (now (said .entry)) r (now (said .exit)) ⌝ }
 {
     match a {
         ItemsAnswer::Is(n) => {
@@ -98,8 +98,8 @@ pub fn tell_items(a: ItemsAnswer, said: &mut [u64; 1]) -> u8
 }
 
 // Writes a number of bytes to `said` and returns 0, or returns the refusal's number.
-pub fn tell_bytes(a: BytesAnswer, said: &mut [u64; 1]) -> u8
-    ensures { λ r. ⌜ Tells alone (bytesAnswer a) (now (said .entry)) r (now (said .exit)) ⌝ }
+pub fn return_bytes(a: BytesAnswer, said: &mut [u64; 1]) -> u8
+    ensures { λ r. ⌜ Returns alone (bytesAnswer a) (now (said .entry)) r (now (said .exit)) ⌝ }
 {
     match a {
         BytesAnswer::Is(n) => {
@@ -111,8 +111,8 @@ pub fn tell_bytes(a: BytesAnswer, said: &mut [u64; 1]) -> u8
 }
 
 // Writes a number of code points to `said` and returns 0, or returns the refusal's number.
-pub fn tell_points(a: PointsAnswer, said: &mut [u64; 1]) -> u8
-    ensures { λ r. ⌜ Tells alone (pointsAnswer a) (now (said .entry)) r (now (said .exit)) ⌝ }
+pub fn return_points(a: PointsAnswer, said: &mut [u64; 1]) -> u8
+    ensures { λ r. ⌜ Returns alone (pointsAnswer a) (now (said .entry)) r (now (said .exit)) ⌝ }
 {
     match a {
         PointsAnswer::Is(n) => {
@@ -124,8 +124,8 @@ pub fn tell_points(a: PointsAnswer, said: &mut [u64; 1]) -> u8
 }
 
 // Writes the four numbers of a type to `said` and returns 0, or returns the refusal's number.
-pub fn tell_type(a: TypeRead, said: &mut [u64; 4]) -> u8
-    ensures { λ r. ⌜ Tells typeValues (typed.answer a) (now (said .entry)) r (now (said .exit)) ⌝ }
+pub fn return_type(a: TypeRead, said: &mut [u64; 4]) -> u8
+    ensures { λ r. ⌜ Returns typeValues (typed.answer a) (now (said .entry)) r (now (said .exit)) ⌝ }
 {
     match a {
         TypeRead::Read(t) => {
@@ -138,8 +138,8 @@ pub fn tell_type(a: TypeRead, said: &mut [u64; 4]) -> u8
 }
 
 // Writes order, rank, entries and name bytes of the record of a header's text to `said` and returns 0, or returns the refusal's number.
-pub fn tell_text(a: TextRead, said: &mut [u64; 4]) -> u8
-    ensures { λ r. ⌜ Tells textValues (header.textAnswer a) (now (said .entry)) r (now (said .exit)) ⌝ }
+pub fn return_text(a: TextRead, said: &mut [u64; 4]) -> u8
+    ensures { λ r. ⌜ Returns textValues (header.textAnswer a) (now (said .entry)) r (now (said .exit)) ⌝ }
 {
     match a {
         TextRead::Read(info) => {
@@ -165,9 +165,9 @@ fn order_number(order: Order) -> u64
     }
 }
 
-// Writes a header's version, what `tell_text` writes of its record, and where the data starts to `said` and returns 0, or returns the refusal's number.
-pub fn tell_header(a: HeaderRead, said: &mut [u64; 6]) -> u8
-    ensures { λ r. ⌜ Tells headerValues (header.answer a) (now (said .entry)) r (now (said .exit)) ⌝ }
+// Writes a header's version, what `return_text` writes of its record, and where the data starts to `said` and returns 0, or returns the refusal's number.
+pub fn return_header(a: HeaderRead, said: &mut [u64; 6]) -> u8
+    ensures { λ r. ⌜ Returns headerValues (header.answer a) (now (said .entry)) r (now (said .exit)) ⌝ }
 {
     match a {
         HeaderRead::Read(h) => {
@@ -196,8 +196,8 @@ fn put_header(h: Header, said: &mut [u64; 6])
 }
 
 // Writes rank, entries, 1 and the item size or 0 and 0, and the item count of a record that was checked to `said` and returns 0, or returns the refusal's number.
-pub fn tell_checked(a: Checked, said: &mut [u64; 5]) -> u8
-    ensures { λ r. ⌜ Tells summaryValues (checked.answer a) (now (said .entry)) r (now (said .exit)) ⌝ }
+pub fn return_checked(a: Checked, said: &mut [u64; 5]) -> u8
+    ensures { λ r. ⌜ Returns summaryValues (checked.answer a) (now (said .entry)) r (now (said .exit)) ⌝ }
 {
     match a {
         Checked::Accepted(s) => {
@@ -226,8 +226,8 @@ fn put_summary(s: Summary, said: &mut [u64; 5])
 }
 
 // Writes a place's first byte, how many bytes it has, and the four numbers of its type to `said` and returns 0, or returns the refusal's number.
-pub fn tell_place(a: Placed, said: &mut [u64; 6]) -> u8
-    ensures { λ r. ⌜ Tells runValues (placed.answer a) (now (said .entry)) r (now (said .exit)) ⌝ }
+pub fn return_place(a: Placed, said: &mut [u64; 6]) -> u8
+    ensures { λ r. ⌜ Returns runValues (placed.answer a) (now (said .entry)) r (now (said .exit)) ⌝ }
 {
     match a {
         Placed::At(run) => {

@@ -90,8 +90,8 @@ pub skipping-turn : (t : List ℕ) (e i c bytes k : ℕ) → Skipping t e i c by
 skipping-turn t e i c bytes k s l (fs, w, g) x q =
     let h = record-leads fs t e (w .up) (w .name) (w .rest) k (w .is) (w .none-over) (omega arith) in
     let p : x ≡ entryAt t (fieldAt t k (suc e)) = q ∙ ap (λ (j : ℕ). entryAt t j) (s .at) in
-    let b = bytes-exact (h .inner) t (fieldAt t k (suc e)) (h .up) (h .name) (h .rest) (h .stands) (h .none-over) in
-    let y = ap (λ (a : Entry). a .extent) (stands-entry (h .inner) t (fieldAt t k (suc e)) (h .up) (h .name) (h .rest) (h .stands)) in
+    let b = bytes-exact (h .inner) t (fieldAt t k (suc e)) (h .up) (h .name) (h .rest) (h .there) (h .none-over) in
+    let y = ap (λ (a : Entry). a .extent) (stands-entry (h .inner) t (fieldAt t k (suc e)) (h .up) (h .name) (h .rest) (h .there)) in
     record {
       inside = omega (arith, s .at, ap (λ (a : Entry). a .extent) p, y, h .within, stands-room t e (record-of fs) w);
       fits = omega (arith, s .is, ap (λ (a : Entry). a .bytes) p, b, h .inside, size-fits (record-of fs) (w .none-over));
@@ -155,7 +155,7 @@ module _ (t : List ℕ) (e i : ℕ) (x : Entry) (q : x ≡ entryAt t e) where
 -- ---- the loop of `follow`
 pub record Walk (t path : List ℕ) (e before k : ℕ) (root : Dtype) : Type 0 where
   pub d : Dtype
-  pub stands : ListedSized t e d
+  pub there : ListedSized t e d
   pub same-plain : plainAt root path ≡ plainAt d (drop k path)
   pub further : offset root path ≡ before + offset d (drop k path)
   pub inside : before + sizeOf d ≤ sizeOf root
@@ -171,7 +171,7 @@ walking-start t path =
       goes = λ root h s.
           record {
             d = root;
-            stands = record { up = 0; name = 0; rest = []; is = h; none-over = s };
+            there = record { up = 0; name = 0; rest = []; is = h; none-over = s };
             same-plain = refl;
             further = omega arith;
             inside = omega arith;
@@ -180,13 +180,13 @@ walking-start t path =
 
 module _ (t path : List ℕ) (e before k : ℕ) (w : Walking t path e before k) where
   pub step-asks : (d : Dtype) × (t ≡ table d) × (someOver d ≡ false) → (d : Dtype) × ListedSized t e d
-  step-asks (root, h, s) = let r = w .goes root h s in (r .d, r .stands)
+  step-asks (root, h, s) = let r = w .goes root h s in (r .d, r .there)
 
   module _ (l : k < length path) (y : Led) (g : (d : Dtype) → ListedSized t e d → Steps t e d (getD path k 0) y) where
     pub walking-nowhere : y ≡ Led.Nowhere → (root : Dtype) → t ≡ table root → someOver root ≡ false → plainAt root path ≡ refused 26
     walking-nowhere q root h s =
         let r = w .goes root h s in
-        let v : Steps t e (r .d) (getD path k 0) Led.Nowhere = rw q at (g (r .d) (r .stands)) in
+        let v : Steps t e (r .d) (getD path k 0) Led.Nowhere = rw q at (g (r .d) (r .there)) in
         r .same-plain ∙ rw (drop-cons path k 0 l) (v (drop (suc k) path))
 
     module _ (spot : Reached) (q : y ≡ Led.To spot) where
@@ -196,7 +196,7 @@ module _ (t path : List ℕ) (e before k : ℕ) (w : Walking t path e before k) 
       walking-fits : (d : Dtype) × (t ≡ table d) × (someOver d ≡ false) → before + spot .before .0 < 2 ^ 64
       walking-fits (root, h, s) =
           let r = w .goes root h s in
-          omega (arith, r .inside, leads (r .d) (r .stands) .inside, size-fits root s)
+          omega (arith, r .inside, leads (r .d) (r .there) .inside, size-fits root s)
 
       pub walking-over : {A : Type 0} → (d : Dtype) × (t ≡ table d) × (someOver d ≡ false) → ByteCount.Over ≡ byteCount (number (before + spot .before .0)) → A
       walking-over g o = absurd (omega (arith, walking-fits g, bytes-over (before + spot .before .0) o))
@@ -209,10 +209,10 @@ module _ (t path : List ℕ) (e before k : ℕ) (w : Walking t path e before k) 
             within = omega arith;
             goes = λ root h s.
                 let r = w .goes root h s in
-                let v = leads (r .d) (r .stands) in
+                let v = leads (r .d) (r .there) in
                 record {
                   d = v .inner;
-                  stands = record { up = v .up; name = v .name; rest = v .rest; is = v .stands; none-over = v .none-over };
+                  there = record { up = v .up; name = v .name; rest = v .rest; is = v .there; none-over = v .none-over };
                   same-plain = rw z (r .same-plain ∙ rw (drop-cons path k 0 l) (v .same-plain (drop (suc k) path)));
                   further = rw z (further-next (r .d) (v .inner) (r .further) (v .further (drop (suc k) path)));
                   inside = omega (arith, r .inside, v .inside);
@@ -232,7 +232,7 @@ module _ (t path : List ℕ) (e before k : ℕ) (w : Walking t path e before k) 
   walking-end l root h s =
       let r = w .goes root h s in
       let a : drop k path ≡ [] = drop-of-length-le path {i = k} l in
-      (r .d, r .stands, rw a at (r .same-plain), rw a at (r .further))
+      (r .d, r .there, rw a at (r .same-plain), rw a at (r .further))
 
 -- a path leads to a plain type, and what is none is refused
 in-array : (n : ℕ) (d : Dtype) (i : ℕ) (p : List ℕ) → Path-to d p ⊎ (plainAt d p ≡ refused 26) → (i < n) ⊎ (n ≤ i)

@@ -19,7 +19,7 @@ use Rattle.type_letters.specs.declared.TypeChar.{TypeChar}
 use Rattle.type_units.specs.Units.{units, unitText, unitsOf}
 use Rattle.type_str.specs.Rules.{allows}
 use Rattle.type_str.specs.declared.TypeStr.{TypeStr}
-use Rattle.type_str.specs.TypeString.{sizeStands, sized, sizedBy, syntax, lacksOrder, misplacesUnits, validated, checked, typeString}
+use Rattle.type_str.specs.TypeString.{sizeAllowed, sized, sizedBy, syntax, lacksOrder, misplacesUnits, validated, checked, typeString}
 use Rattle.dtype.specs.declared.Order.the-variants.{C, Fortran}
 use Rattle.dtype.specs.Dtype.{plain, record-of, end-of-fields, field-then}
 use Rattle.dtype.specs.Record.{Record}
@@ -93,7 +93,7 @@ units-numbered text = first-numbered (λ u. same text (unitText u [])) units
 sized-numbered : (o : Endianness) (l : TypeChar) (digits rest : List ℕ) → Numbered (sized o l digits rest)
 unfolding sized
 sized-numbered o l digits rest =
-    unless-numbered (not (sizeStands l digits)) 15 (refl, refl)
+    unless-numbered (not (sizeAllowed l digits)) 15 (refl, refl)
     (each-numbered (λ units. record { order = o; letter = l; size = decimal digits; units = units }) (unitsOf rest) (units-numbered rest))
 
 syntax-numbered : (text : List ℕ) → Numbered (syntax text)

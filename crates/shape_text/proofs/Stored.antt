@@ -185,7 +185,7 @@ module _ (k : ℕ) (s : List ℕ) (close from : ℕ) (old out : List ℕ) (g : G
 pub record ShapeAt (k : ℕ) (s : List ℕ) (at close : ℕ) (ns : List ℕ) : Type 0 where
   pub node : Node
   pub end : ℕ
-  pub stands : value k s at ≡ got node end
+  pub there : value k s at ≡ got node end
   pub is : Bracket k s at node end close
   pub gives-them : dimensionsOf (is .held) ≡ gives ns
   pub some : eqb close 0 ≡ false
@@ -198,7 +198,7 @@ module _ (k : ℕ) (s : List ℕ) (at : ℕ) (ns : List ℕ) (c : ValueKind) (hk
       absurd (let z : _≡_ {A = ℕ} 0 1 = cc in omega arith)
   bracket-or n e hv h false z =
       let b = bracket k s at e n hv c (sym hk) (eqb-false _ _ z) in
-      record { node = n; end = e; stands = hv; is = b; gives-them = sym (ap (λ (o : Outcome Values). then o dimensions) (b .holds 11)) ∙ h; some = z }
+      record { node = n; end = e; there = hv; is = b; gives-them = sym (ap (λ (o : Outcome Values). then o dimensions) (b .holds 11)) ∙ h; some = z }
 
   read-or : (g : Got Node) → value k s at ≡ g → dimensionsAt g ≡ gives ns → ShapeAt k s at (closingOf c) ns
   read-or (got n e) hv h = bracket-or n e hv h (eqb (closingOf c) 0) refl
@@ -305,7 +305,7 @@ stop-shape k s at ns h =
     let e : stopAt k s at ≡ Shut (x .end) =
     rw (stopAt, x .some, ne-eqb k 0 (λ (z : k ≡ 0). omega arith))
     (stop-row (k - 1) s (closingOf c) (closing-small c) (length s + 2) (gapAt s (at + 1) (closingOf c)) (x .is .held) (x .end) ns (gap-enough (length s) (gapAt s (at + 1) (closingOf c))) (x .is .row) (x .gives-them)) in
-    e ∙ sym (ap (λ (g : Got Node). Shut (endOf (pos g))) (x .stands))
+    e ∙ sym (ap (λ (g : Got Node). Shut (endOf (pos g))) (x .there))
 
 -- the statement of storing a shape
 pub stored-shape : (k : ℕ) (s : List ℕ) (at : ℕ) (out : List ℕ) (r : DimsStored) (out′ : List ℕ) → Stored (frontAt k s at) (stopAt k s at) out r out′ → FillsShape (value k s at) out r out′

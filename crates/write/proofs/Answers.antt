@@ -197,4 +197,4 @@ module _ (t ns s : List ℕ) (o : Order) (room : List ℕ) where
       → ((x : Record) → printable t ns s o ≡ gives x → bare ≡ capped (length (bareText x)) → WritesRecord x room w out) → WritesHeader t ns s o room w out
   header-measured bare small scratch mid r z h w out k =
       let u = told-end (printable t ns s o) scratch 0 bare mid (subst (λ (y : Printed). Prints (printable t ns s o) scratch 0 y mid) z h) in
-      header-by (u .0) (can-print t ns s o (u .0) (u .1) .0) w out (k (u .0) (u .1) (omega (arith, u .2 .behind [])))
+      header-by (u .0) (can-print t ns s o (u .0) (u .1) .0) w out (k (u .0) (u .1) (omega (arith, u .2 .after [])))

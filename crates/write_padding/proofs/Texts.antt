@@ -21,10 +21,10 @@ use Rattle.header_prefix.specs.Answer.{versionIs}
 pub record Still (f g : List ℕ → List ℕ) (old : List ℕ) (at : ℕ) (out : List ℕ) (p : ℕ) : Type 0 where
   pub same : length out ≡ length old
   pub stored : (x : List ℕ) → sets out p (g x) ≡ sets old at (f x)
-  pub behind : (x : List ℕ) → capped (p + length (g x)) ≡ capped (at + length (f x))
+  pub after : (x : List ℕ) → capped (p + length (g x)) ≡ capped (at + length (f x))
 
 pub still-start : (f : List ℕ → List ℕ) (old : List ℕ) (at : ℕ) → Still f f old at old at
-still-start f old at = record { same = refl; stored = λ x. refl; behind = λ x. refl }
+still-start f old at = record { same = refl; stored = λ x. refl; after = λ x. refl }
 
 pub still-more : (f g h k : List ℕ → List ℕ) (old : List ℕ) (at : ℕ) (out : List ℕ) (p : ℕ) (out′ : List ℕ) (p′ : ℕ) → ((x : List ℕ) → h (k x) ≡ g x)
     → Still f g old at out p → Emits h out p out′ p′ → Still f k old at out′ p′
@@ -32,14 +32,14 @@ still-more f g h k old at out p out′ p′ e s w =
     record {
       same = emits-length h out p out′ p′ w ∙ s .same;
       stored = λ x. w .stored (k x) ∙ ap (λ (y : List ℕ). sets out p y) (e x) ∙ s .stored x;
-      behind = λ x. w .behind (k x) ∙ ap (λ (y : List ℕ). capped (p + length y)) (e x) ∙ s .behind x;
+      after = λ x. w .after (k x) ∙ ap (λ (y : List ℕ). capped (p + length y)) (e x) ∙ s .after x;
     }
 
 pub still-end : (f g : List ℕ → List ℕ) (old : List ℕ) (at : ℕ) (out : List ℕ) (p : ℕ) → ((x : List ℕ) → x ≡ g x) → Still f g old at out p → Emits f old at out p
 still-end f g old at out p e s =
     record {
       stored = λ x. ap (λ (y : List ℕ). sets out p y) (e x) ∙ s .stored x;
-      behind = λ x. ap (λ (y : List ℕ). capped (p + length y)) (e x) ∙ s .behind x;
+      after = λ x. ap (λ (y : List ℕ). capped (p + length y)) (e x) ∙ s .after x;
     }
 
 pub spaces-next : (left : ℕ) (x : List ℕ) → 0 < left → 32 ∷ spaces (left - 1) x ≡ spaces left x

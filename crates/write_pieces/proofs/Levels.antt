@@ -39,7 +39,7 @@ pub record Levels (t : List ℕ) (e : ℕ) (old : List ℕ) (at : ℕ) (out : Li
   pub number-is : number ≡ entryAt t c .number
   pub same : length out ≡ length old
   pub stored : (x : List ℕ) → sets out p (row (levelsFrom most t c) x) ≡ sets old at (row (levelsAt t e) x)
-  pub behind : (x : List ℕ) → capped (p + length (row (levelsFrom most t c) x)) ≡ capped (at + length (row (levelsAt t e) x))
+  pub after : (x : List ℕ) → capped (p + length (row (levelsFrom most t c) x)) ≡ capped (at + length (row (levelsAt t e) x))
 
 pub levels-start : (t : List ℕ) (e : ℕ) (old : List ℕ) (at : ℕ) (x : Entry) → x ≡ entryAt t e → Levels t e old at old at e (x .kind) (x .number)
 levels-start t e old at x q =
@@ -50,7 +50,7 @@ levels-start t e old at x q =
       number-is = ap (λ (a : Entry). a .number) q;
       same = refl;
       stored = λ y. refl;
-      behind = λ y. refl;
+      after = λ y. refl;
     }
 
 module _ (t : List ℕ) (e : ℕ) (old : List ℕ) (at : ℕ) (out : List ℕ) (p c kind number : ℕ) (w : Levels t e old at out p c kind number) where
@@ -59,7 +59,7 @@ module _ (t : List ℕ) (e : ℕ) (old : List ℕ) (at : ℕ) (out : List ℕ) (
 
   pub levels-next : kind ≡ 1 → (out′ : List ℕ) (p′ : ℕ) → Emits (λ x. printed number (44 ∷ x)) out p out′ p′ → (y : Entry) → y ≡ entryAt t (c + 1)
       → Levels t e old at out′ p′ (c + 1) (y .kind) (y .number)
-  levels-next k out′ p′ h y q = go (w .most) (w .enough) (w .stored) (w .behind)
+  levels-next k out′ p′ h y q = go (w .most) (w .enough) (w .stored) (w .after)
     where
       go : (m : ℕ) → m + c ≡ length t + e
           → ((x : List ℕ) → sets out p (row (levelsFrom m t c) x) ≡ sets old at (row (levelsAt t e) x))
@@ -76,7 +76,7 @@ module _ (t : List ℕ) (e : ℕ) (old : List ℕ) (at : ℕ) (out : List ℕ) (
             number-is = ap (λ (a : Entry). a .number) q;
             same = emits-length _ out p out′ p′ h ∙ w .same;
             stored = λ x. h .stored (row rest x) ∙ ap (λ (l : List ℕ). sets out p (row l x)) here ∙ s x;
-            behind = λ x. h .behind (row rest x) ∙ ap (λ (l : List ℕ). capped (p + length (row l x))) here ∙ b x;
+            after = λ x. h .after (row rest x) ∙ ap (λ (l : List ℕ). capped (p + length (row l x))) here ∙ b x;
           }
 
   pub levels-end : (kind ≡ 1 → ⊥) → Emits (printRow (dimensionRow 0 (levelsAt t e))) old at out p
@@ -84,7 +84,7 @@ module _ (t : List ℕ) (e : ℕ) (old : List ℕ) (at : ℕ) (out : List ℕ) (
       let none : [] ≡ levelsFrom (w .most) t c = sym (levels-none t c (w .most) (λ z. k (w .kind-is ∙ z))) in
       record {
         stored = λ x. ap (λ (l : List ℕ). sets out p (row l x)) none ∙ w .stored x;
-        behind = λ x. ap (λ (l : List ℕ). capped (p + length (row l x))) none ∙ w .behind x;
+        after = λ x. ap (λ (l : List ℕ). capped (p + length (row l x))) none ∙ w .after x;
       }
 
 -- ---- `close_field`

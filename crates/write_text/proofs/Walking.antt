@@ -133,19 +133,19 @@ field-text name l (n ∷ s) z = refl
 -- what is left of the fields, and where they are
 pub record Going (t ns : List ℕ) (e b : ℕ) (old : List ℕ) (at : ℕ) (out : List ℕ) (c start p left : ℕ) (fs : Fields) : Type 0 where
   pub still : Fields
-  pub stands : ListedNamedIn t ns c start still
+  pub there : ListedNamedIn t ns c start still
   pub counted : left ≡ fieldCount still
   pub further : e ≤ c
   pub entries : c + entriesIn still ≡ e + entriesIn fs
   pub bytes : start + nameBytesIn still ≡ b + nameBytesIn fs
   pub same : length out ≡ length old
   pub stored : (z : List ℕ) → sets out p (printRow (fieldRow still) z) ≡ sets old at (printRow (fieldRow fs) z)
-  pub behind : (z : List ℕ) → capped (p + length (printRow (fieldRow still) z)) ≡ capped (at + length (printRow (fieldRow fs) z))
+  pub after : (z : List ℕ) → capped (p + length (printRow (fieldRow still) z)) ≡ capped (at + length (printRow (fieldRow fs) z))
 
 pub going-start : (t ns : List ℕ) (e b : ℕ) (old : List ℕ) (at count : ℕ) (fs : Fields) → count ≡ fieldCount fs → ListedNamedIn t ns e b fs
     → Going t ns e b old at old e b at count fs
 going-start t ns e b old at count fs n s =
-    record { still = fs; stands = s; counted = n; further = omega arith; entries = refl; bytes = refl; same = refl; stored = λ z. refl; behind = λ z. refl }
+    record { still = fs; there = s; counted = n; further = omega arith; entries = refl; bytes = refl; same = refl; stored = λ z. refl; after = λ z. refl }
 
 -- the next field: its name's place, and its dtype after that
 pub record Next (t ns : List ℕ) (c start : ℕ) (x : Entry) (name : List ℕ) (d : Dtype) : Type 0 where
@@ -194,7 +194,7 @@ module _ (t ns : List ℕ) (c start : ℕ) (x : Entry) (q : x ≡ entryAt t c) w
   module _ (e b : ℕ) (old : List ℕ) (at : ℕ) (out : List ℕ) (p left : ℕ) (fs : Fields) (g : Going t ns e b old at out c start p left fs) (more : 0 < left) where
     -- what the calls of a turn ask
     pub going-next : (name : List ℕ) × (d : Dtype) × Next t ns c start x name d
-    going-next = go (g .still) (g .counted) (g .stands)
+    going-next = go (g .still) (g .counted) (g .there)
       where
         go : (gs : Fields) → left ≡ fieldCount gs → ListedNamedIn t ns c start gs → (name : List ℕ) × (d : Dtype) × Next t ns c start x name d
         go end-of-fields n s = absurd (omega arith)
@@ -216,7 +216,7 @@ module _ (t ns : List ℕ) (c start : ℕ) (x : Entry) (q : x ≡ entryAt t c) w
           (subst (λ (l : List ℕ). Emits (λ z. subText l (41 ∷ 44 ∷ 32 ∷ z)) m₂ (r .at) out′ p′) (levels-listed (length t) t c d (n .inner .listed) (omega arith)) closed))
 
       pub going-more : Going t ns e b old at out′ (r .entry) (r .byte) p′ (left - 1) fs
-      going-more = go (g .still) (g .counted) (g .stands) (g .entries) (g .bytes) (g .stored) (g .behind)
+      going-more = go (g .still) (g .counted) (g .there) (g .entries) (g .bytes) (g .stored) (g .after)
         where
           go : (gs : Fields) → left ≡ fieldCount gs → ListedNamedIn t ns c start gs → c + entriesIn gs ≡ e + entriesIn fs → start + nameBytesIn gs ≡ b + nameBytesIn fs
               → ((z : List ℕ) → sets out p (printRow (fieldRow gs) z) ≡ sets old at (printRow (fieldRow fs) z))
@@ -230,23 +230,23 @@ module _ (t ns : List ℕ) (c start : ℕ) (x : Entry) (q : x ≡ entryAt t c) w
               let m = name-length name d gs s in
               record {
                 still = gs;
-                stands = later-stands name d gs s r (w .next) (w .next-name);
+                there = later-stands name d gs s r (w .next) (w .next-name);
                 counted = omega arith;
                 further = omega (arith, w .next, g .further);
                 entries = omega (arith, w .next);
                 bytes = omega (arith, w .next-name);
                 same = emits-length _ out p out′ p′ f ∙ g .same;
                 stored = λ z. f .stored (printRow (fieldRow gs) z) ∙ k z;
-                behind = λ z. f .behind (printRow (fieldRow gs) z) ∙ l z;
+                after = λ z. f .after (printRow (fieldRow gs) z) ∙ l z;
               }
 
 pub going-end : (t ns : List ℕ) (e b : ℕ) (old : List ℕ) (at : ℕ) (out : List ℕ) (c start p left : ℕ) (fs : Fields) → Going t ns e b old at out c start p left fs → left ≤ 0
     → Walked (printRow (fieldRow fs)) (entriesIn fs) (nameBytesIn fs) old e b at out (record { entry = c; byte = start; at = p })
-going-end t ns e b old at out c start p left fs g none = go (g .still) (g .counted) (g .entries) (g .bytes) (g .stored) (g .behind)
+going-end t ns e b old at out c start p left fs g none = go (g .still) (g .counted) (g .entries) (g .bytes) (g .stored) (g .after)
   where
     go : (gs : Fields) → left ≡ fieldCount gs → c + entriesIn gs ≡ e + entriesIn fs → start + nameBytesIn gs ≡ b + nameBytesIn fs
         → ((z : List ℕ) → sets out p (printRow (fieldRow gs) z) ≡ sets old at (printRow (fieldRow fs) z))
         → ((z : List ℕ) → capped (p + length (printRow (fieldRow gs) z)) ≡ capped (at + length (printRow (fieldRow fs) z)))
         → Walked (printRow (fieldRow fs)) (entriesIn fs) (nameBytesIn fs) old e b at out (record { entry = c; byte = start; at = p })
-    go end-of-fields n u v k l = record { emits = record { stored = k; behind = l }; next = omega arith; next-name = omega arith }
+    go end-of-fields n u v k l = record { emits = record { stored = k; after = l }; next = omega arith; next-name = omega arith }
     go (field-then name d gs) n u v k l = absurd (omega arith)

@@ -2,7 +2,7 @@
 use mathlib.Core.Path.{sym, _∙_}
 use borrow.Author.Needs.{needs}
 use native.Mathlib.Omega.{arith}
-use Rattle.literal_bytes.proofs.Tells.{comma-space-item-in, comma-space-item-then, shut-in, shut-then}
+use Rattle.literal_bytes.proofs.Returns.{comma-space-item-in, comma-space-item-then, shut-in, shut-then}
 use Rattle.literal_bytes.proofs.then_at.Statement.{statement}
 use Rattle.literal_bytes.proofs.then_at.Tie as tie
 

@@ -18,8 +18,8 @@ enum-known-o c = search needs
 check-requires : tie.Need-check-requires
 check-requires c κs = search needs
 
-tell-checked-requires : tie.Need-tell-checked-requires
-tell-checked-requires c κs = search needs
+return-checked-requires : tie.Need-return-checked-requires
+return-checked-requires c κs = search needs
 
 enum-known-why : tie.Need-enum-known-why
 enum-known-why c = search needs
@@ -30,7 +30,7 @@ number-requires c κs = search needs
 returns : tie.Need-returns
 returns c =
     let a = c .before .before .before .before .before .before .before .before .before .before .args in
-    then-told (λ o. each summary (checkedRecord (a .table .now) (a .names .now) (a .shape .now) o)) (told orderGiven (c .before .before .before .before .before .before .order-for .ensures) (c .before .before .before .before .o .given .1)) (retold (c .before .before .check .ensures) (c .tell-checked .ensures))
+    then-told (λ o. each summary (checkedRecord (a .table .now) (a .names .now) (a .shape .now) o)) (told orderGiven (c .before .before .before .before .before .before .order-for .ensures) (c .before .before .before .before .o .given .1)) (retold (c .before .before .check .ensures) (c .return-checked .ensures))
 
 returns-2 : tie.Need-returns-2
 returns-2 c =
@@ -44,7 +44,7 @@ npy-check-spec =
     order-for-requires
     enum-known-o
     check-requires
-    tell-checked-requires
+    return-checked-requires
     enum-known-why
     number-requires
     returns

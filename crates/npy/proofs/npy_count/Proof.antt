@@ -16,8 +16,8 @@ enum-known-o c = search needs
 count-requires : tie.Need-count-requires
 count-requires c κs = search needs
 
-tell-items-requires : tie.Need-tell-items-requires
-tell-items-requires c κs = search needs
+return-items-requires : tie.Need-return-items-requires
+return-items-requires c κs = search needs
 
 enum-known-why : tie.Need-enum-known-why
 enum-known-why c = search needs
@@ -28,7 +28,7 @@ number-requires c κs = search needs
 returns : tie.Need-returns
 returns c =
     let a = c .before .before .before .before .before .before .before .before .args in
-    then-told (λ o. itemCount o (a .shape .now)) (told orderGiven (c .before .before .before .before .before .before .order-for .ensures) (c .before .before .before .before .o .given .1)) (retold (c .before .before .count .ensures) (c .tell-items .ensures))
+    then-told (λ o. itemCount o (a .shape .now)) (told orderGiven (c .before .before .before .before .before .before .order-for .ensures) (c .before .before .before .before .o .given .1)) (retold (c .before .before .count .ensures) (c .return-items .ensures))
 
 returns-2 : tie.Need-returns-2
 returns-2 c =
@@ -42,7 +42,7 @@ npy-count-spec =
     order-for-requires
     enum-known-o
     count-requires
-    tell-items-requires
+    return-items-requires
     enum-known-why
     number-requires
     returns

@@ -16,8 +16,8 @@ enum-known-o c = search needs
 read-bytes-requires : tie.Need-read-bytes-requires
 read-bytes-requires c κs = search needs
 
-tell-bytes-requires : tie.Need-tell-bytes-requires
-tell-bytes-requires c κs = search needs
+return-bytes-requires : tie.Need-return-bytes-requires
+return-bytes-requires c κs = search needs
 
 enum-known-why : tie.Need-enum-known-why
 enum-known-why c = search needs
@@ -31,7 +31,7 @@ same-length c = search needs
 returns : tie.Need-returns
 returns c =
     let a = c .before .before .before .before .before .before .before .before .before .before .before .before .before .before .before .before .before .args in
-    then-put (λ o. elementBytes (a .file .now) (a .start) (a .table .now) (a .names .now) (a .shape .now) o (a .index .now) (a .path .now) (a .out .now)) (told orderGiven (c .before .before .before .before .before .before .before .before .before .order-for .ensures) (c .before .before .before .before .before .before .before .o .given .1)) (c .before .before .before .before .read-bytes .ensures) (c .tell-bytes .ensures)
+    then-put (λ o. elementBytes (a .file .now) (a .start) (a .table .now) (a .names .now) (a .shape .now) o (a .index .now) (a .path .now) (a .out .now)) (told orderGiven (c .before .before .before .before .before .before .before .before .before .order-for .ensures) (c .before .before .before .before .before .before .before .o .given .1)) (c .before .before .before .before .read-bytes .ensures) (c .return-bytes .ensures)
 
 returns-2 : tie.Need-returns-2
 returns-2 c =
@@ -45,7 +45,7 @@ npy-element-bytes-spec =
     order-for-requires
     enum-known-o
     read-bytes-requires
-    tell-bytes-requires
+    return-bytes-requires
     enum-known-why
     number-requires
     same-length

@@ -16,8 +16,8 @@ enum-known-o c = search needs
 read-points-requires : tie.Need-read-points-requires
 read-points-requires c κs = search needs
 
-tell-points-requires : tie.Need-tell-points-requires
-tell-points-requires c κs = search needs
+return-points-requires : tie.Need-return-points-requires
+return-points-requires c κs = search needs
 
 enum-known-why : tie.Need-enum-known-why
 enum-known-why c = search needs
@@ -31,7 +31,7 @@ same-length c = search needs
 returns : tie.Need-returns
 returns c =
     let a = c .before .before .before .before .before .before .before .before .before .before .before .before .before .before .before .before .before .args in
-    then-put (λ o. elementPoints (a .file .now) (a .start) (a .table .now) (a .names .now) (a .shape .now) o (a .index .now) (a .path .now) (a .out .now)) (told orderGiven (c .before .before .before .before .before .before .before .before .before .order-for .ensures) (c .before .before .before .before .before .before .before .o .given .1)) (c .before .before .before .before .read-points .ensures) (c .tell-points .ensures)
+    then-put (λ o. elementPoints (a .file .now) (a .start) (a .table .now) (a .names .now) (a .shape .now) o (a .index .now) (a .path .now) (a .out .now)) (told orderGiven (c .before .before .before .before .before .before .before .before .before .order-for .ensures) (c .before .before .before .before .before .before .before .o .given .1)) (c .before .before .before .before .read-points .ensures) (c .return-points .ensures)
 
 returns-2 : tie.Need-returns-2
 returns-2 c =
@@ -45,7 +45,7 @@ npy-element-points-spec =
     order-for-requires
     enum-known-o
     read-points-requires
-    tell-points-requires
+    return-points-requires
     enum-known-why
     number-requires
     same-length

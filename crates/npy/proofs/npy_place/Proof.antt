@@ -16,8 +16,8 @@ enum-known-o c = search needs
 place-requires : tie.Need-place-requires
 place-requires c κs = search needs
 
-tell-place-requires : tie.Need-tell-place-requires
-tell-place-requires c κs = search needs
+return-place-requires : tie.Need-return-place-requires
+return-place-requires c κs = search needs
 
 enum-known-why : tie.Need-enum-known-why
 enum-known-why c = search needs
@@ -28,7 +28,7 @@ number-requires c κs = search needs
 returns : tie.Need-returns
 returns c =
     let a = c .before .before .before .before .before .before .before .before .before .before .before .before .args in
-    then-told (λ o. placeOf (a .file) (a .start) (a .table .now) (a .names .now) (a .shape .now) o (a .index .now) (a .path .now)) (told orderGiven (c .before .before .before .before .before .before .order-for .ensures) (c .before .before .before .before .o .given .1)) (retold (c .before .before .place .ensures) (c .tell-place .ensures))
+    then-told (λ o. placeOf (a .file) (a .start) (a .table .now) (a .names .now) (a .shape .now) o (a .index .now) (a .path .now)) (told orderGiven (c .before .before .before .before .before .before .order-for .ensures) (c .before .before .before .before .o .given .1)) (retold (c .before .before .place .ensures) (c .return-place .ensures))
 
 returns-2 : tie.Need-returns-2
 returns-2 c =
@@ -42,7 +42,7 @@ npy-place-spec =
     order-for-requires
     enum-known-o
     place-requires
-    tell-place-requires
+    return-place-requires
     enum-known-why
     number-requires
     returns

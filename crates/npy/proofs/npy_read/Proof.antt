@@ -8,8 +8,8 @@ use Rattle.npy.proofs.npy_read.Tie as tie
 read-requires : tie.Need-read-requires
 read-requires c κs = search needs
 
-tell-header-requires : tie.Need-tell-header-requires
-tell-header-requires c κs = search needs
+return-header-requires : tie.Need-return-header-requires
+return-header-requires c κs = search needs
 
 same-length : tie.Need-same-length
 same-length c = search needs
@@ -22,9 +22,9 @@ same-length-3 c = search needs
 
 returns : tie.Need-returns
 returns c =
-    record { answered = retold (c .before .before .before .before .before .before .before .before .read .ensures .answered) (c .tell-header .ensures); rooms = c .before .before .before .before .before .before .before .before .read .ensures .after }
+    record { answered = retold (c .before .before .before .before .before .before .before .before .read .ensures .answered) (c .return-header .ensures); rooms = c .before .before .before .before .before .before .before .before .read .ensures .after }
 
 pub npy-read-spec : {M : Type 1} → statement M
 npy-read-spec =
     tie.close
-    (tie.spec read-requires tell-header-requires same-length same-length-2 same-length-3 returns)
+    (tie.spec read-requires return-header-requires same-length same-length-2 same-length-3 returns)

@@ -7,8 +7,8 @@ use Rattle.npy.proofs.npy_read_held.Tie as tie
 read-held-requires : tie.Need-read-held-requires
 read-held-requires c κs = search needs
 
-tell-header-requires : tie.Need-tell-header-requires
-tell-header-requires c κs = search needs
+return-header-requires : tie.Need-return-header-requires
+return-header-requires c κs = search needs
 
 same-length : tie.Need-same-length
 same-length c = search needs
@@ -20,14 +20,14 @@ same-length-3 : tie.Need-same-length-3
 same-length-3 c = search needs
 
 returns : tie.Need-returns
-returns c = record { answered = retold (c .before .before .before .before .before .before .before .before .read-held .ensures .answered) (c .tell-header .ensures); rooms = c .before .before .before .before .before .before .before .before .read-held .ensures .after }
+returns c = record { answered = retold (c .before .before .before .before .before .before .before .before .read-held .ensures .answered) (c .return-header .ensures); rooms = c .before .before .before .before .before .before .before .before .read-held .ensures .after }
 
 pub npy-read-held-spec : {M : Type 1} → statement M
 npy-read-held-spec =
     tie.close
     (tie.spec
     read-held-requires
-    tell-header-requires
+    return-header-requires
     same-length
     same-length-2
     same-length-3

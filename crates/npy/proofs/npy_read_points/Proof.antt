@@ -16,8 +16,8 @@ enum-known-t c = search needs
 read-points-requires : tie.Need-read-points-requires
 read-points-requires c κs = search needs
 
-tell-points-requires : tie.Need-tell-points-requires
-tell-points-requires c κs = search needs
+return-points-requires : tie.Need-return-points-requires
+return-points-requires c κs = search needs
 
 enum-known-why : tie.Need-enum-known-why
 enum-known-why c = search needs
@@ -31,7 +31,7 @@ same-length c = search needs
 returns : tie.Need-returns
 returns c =
     let a = c .before .before .before .before .before .before .before .before .before .before .before .before .args in
-    then-put (λ t. readPoints t (a .run .now) (a .out .now)) (told typed.answer (c .before .before .before .before .before .before .before .before .before .type-for .ensures) (c .before .before .before .before .before .before .before .t .given .1)) (c .before .before .before .before .read-points .ensures) (c .tell-points .ensures)
+    then-put (λ t. readPoints t (a .run .now) (a .out .now)) (told typed.answer (c .before .before .before .before .before .before .before .before .before .type-for .ensures) (c .before .before .before .before .before .before .before .t .given .1)) (c .before .before .before .before .read-points .ensures) (c .return-points .ensures)
 
 returns-2 : tie.Need-returns-2
 returns-2 c =
@@ -45,7 +45,7 @@ npy-read-points-spec =
     type-for-requires
     enum-known-t
     read-points-requires
-    tell-points-requires
+    return-points-requires
     enum-known-why
     number-requires
     same-length

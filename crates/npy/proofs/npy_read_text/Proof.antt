@@ -8,8 +8,8 @@ use Rattle.npy.proofs.npy_read_text.Tie as tie
 read-text-requires : tie.Need-read-text-requires
 read-text-requires c κs = search needs
 
-tell-text-requires : tie.Need-tell-text-requires
-tell-text-requires c κs = search needs
+return-text-requires : tie.Need-return-text-requires
+return-text-requires c κs = search needs
 
 same-length : tie.Need-same-length
 same-length c = search needs
@@ -22,14 +22,14 @@ same-length-3 c = search needs
 
 returns : tie.Need-returns
 returns c =
-    record { answered = retold (c .before .before .before .before .before .before .before .before .read-text .ensures .answered) (c .tell-text .ensures); rooms = c .before .before .before .before .before .before .before .before .read-text .ensures .after }
+    record { answered = retold (c .before .before .before .before .before .before .before .before .read-text .ensures .answered) (c .return-text .ensures); rooms = c .before .before .before .before .before .before .before .before .read-text .ensures .after }
 
 pub npy-read-text-spec : {M : Type 1} → statement M
 npy-read-text-spec =
     tie.close
     (tie.spec
     read-text-requires
-    tell-text-requires
+    return-text-requires
     same-length
     same-length-2
     same-length-3

@@ -20,8 +20,8 @@ enum-known-o c = search needs
 strides-requires : tie.Need-strides-requires
 strides-requires c κs = search needs
 
-tell-items-requires : tie.Need-tell-items-requires
-tell-items-requires c κs = search needs
+return-items-requires : tie.Need-return-items-requires
+return-items-requires c κs = search needs
 
 enum-known-why : tie.Need-enum-known-why
 enum-known-why c = search needs
@@ -36,7 +36,7 @@ returns : tie.Need-returns
 returns c =
     let a = c .before .before .before .before .before .before .before .before .before .before .before .before .args in
     let is = told orderGiven (c .before .before .before .before .before .before .before .before .before .order-for .ensures) (c .before .before .before .before .before .before .before .o .given .1) in
-    record { answered = then-told (λ o. stridesCount o (a .shape .now) (length (a .out .now))) is (retold (c .before .before .before .before .strides .ensures .answered) (c .tell-items .ensures)); room-after = then-stored (λ o. afterwards (λ n. atFront (strides o (a .shape .now))) (stridesCount o (a .shape .now) (length (a .out .now)))) (a .out .now) is (c .before .before .before .before .strides .ensures .out-after) }
+    record { answered = then-told (λ o. stridesCount o (a .shape .now) (length (a .out .now))) is (retold (c .before .before .before .before .strides .ensures .answered) (c .return-items .ensures)); room-after = then-stored (λ o. afterwards (λ n. atFront (strides o (a .shape .now))) (stridesCount o (a .shape .now) (length (a .out .now)))) (a .out .now) is (c .before .before .before .before .strides .ensures .out-after) }
 
 returns-2 : tie.Need-returns-2
 returns-2 c =
@@ -51,7 +51,7 @@ npy-strides-spec =
     order-for-requires
     enum-known-o
     strides-requires
-    tell-items-requires
+    return-items-requires
     enum-known-why
     number-requires
     same-length

@@ -16,8 +16,8 @@ enum-known-t c = search needs
 print-requires : tie.Need-print-requires
 print-requires c κs = search needs
 
-tell-bytes-requires : tie.Need-tell-bytes-requires
-tell-bytes-requires c κs = search needs
+return-bytes-requires : tie.Need-return-bytes-requires
+return-bytes-requires c κs = search needs
 
 enum-known-why : tie.Need-enum-known-why
 enum-known-why c = search needs
@@ -32,7 +32,7 @@ returns : tie.Need-returns
 returns c =
     let a = c .before .before .before .before .before .before .before .before .before .before .before .args in
     let is = told typed.answer (c .before .before .before .before .before .before .before .before .before .type-for .ensures) (c .before .before .before .before .before .before .before .t .given .1) in
-    then-put (λ t. typePrinted t (a .out .now)) is (c .before .before .before .before .print .ensures) (c .tell-bytes .ensures)
+    then-put (λ t. typePrinted t (a .out .now)) is (c .before .before .before .before .print .ensures) (c .return-bytes .ensures)
 
 returns-2 : tie.Need-returns-2
 returns-2 c =
@@ -47,7 +47,7 @@ npy-type-print-spec =
     type-for-requires
     enum-known-t
     print-requires
-    tell-bytes-requires
+    return-bytes-requires
     enum-known-why
     number-requires
     same-length

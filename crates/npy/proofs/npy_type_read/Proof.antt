@@ -7,11 +7,11 @@ use Rattle.npy.proofs.npy_type_read.Tie as tie
 parse-requires : tie.Need-parse-requires
 parse-requires c κs = search needs
 
-tell-type-requires : tie.Need-tell-type-requires
-tell-type-requires c κs = search needs
+return-type-requires : tie.Need-return-type-requires
+return-type-requires c κs = search needs
 
 returns : tie.Need-returns
-returns c = retold (c .before .before .parse .ensures) (c .tell-type .ensures)
+returns c = retold (c .before .before .parse .ensures) (c .return-type .ensures)
 
 pub npy-type-read-spec : {M : Type 1} → statement M
-npy-type-read-spec = tie.close (tie.spec parse-requires tell-type-requires returns)
+npy-type-read-spec = tie.close (tie.spec parse-requires return-type-requires returns)

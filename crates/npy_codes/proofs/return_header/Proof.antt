@@ -4,8 +4,8 @@ use mathlib.Core.Path.{refl}
 use Rattle.npy_codes.specs.Numbers.{headerValues}
 use Rattle.npy_codes.proofs.Told.{gives-told, refuses-told}
 use borrow.Author.Needs.{needs}
-use Rattle.npy_codes.proofs.tell_header.Statement.{statement}
-use Rattle.npy_codes.proofs.tell_header.Tie as tie
+use Rattle.npy_codes.proofs.return_header.Statement.{statement}
+use Rattle.npy_codes.proofs.return_header.Tie as tie
 
 enum-known-a : tie.Need-enum-known-a
 enum-known-a c = search needs
@@ -25,7 +25,7 @@ returns c = gives-told headerValues answer (c .before .before .before .a .given 
 returns-2 : tie.Need-returns-2
 returns-2 c = refuses-told headerValues answer (c .before .before .a2 .given .1) refl (c .number .ensures)
 
-pub tell-header-spec : {M : Type 1} → statement M
-tell-header-spec =
+pub return-header-spec : {M : Type 1} → statement M
+return-header-spec =
     tie.close
     (tie.spec enum-known-a put-header-requires enum-known-a-2 number-requires returns returns-2)

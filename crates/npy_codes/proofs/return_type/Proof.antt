@@ -4,8 +4,8 @@ use Rattle.type_str.specs.Answer.{answer}
 use Rattle.npy_codes.specs.Numbers.{typeValues}
 use Rattle.npy_codes.proofs.Told.{gives-told, refuses-told, type-numbers}
 use borrow.Author.Needs.{needs}
-use Rattle.npy_codes.proofs.tell_type.Statement.{statement}
-use Rattle.npy_codes.proofs.tell_type.Tie as tie
+use Rattle.npy_codes.proofs.return_type.Statement.{statement}
+use Rattle.npy_codes.proofs.return_type.Tie as tie
 
 enum-known-a : tie.Need-enum-known-a
 enum-known-a c = search needs
@@ -25,5 +25,5 @@ returns c = gives-told typeValues answer (c .before .before .before .a .given .1
 returns-2 : tie.Need-returns-2
 returns-2 c = refuses-told typeValues answer (c .before .before .a2 .given .1) refl (c .number .ensures)
 
-pub tell-type-spec : {M : Type 1} → statement M
-tell-type-spec = tie.close (tie.spec enum-known-a plain-entry-requires enum-known-a-2 number-requires returns returns-2)
+pub return-type-spec : {M : Type 1} → statement M
+return-type-spec = tie.close (tie.spec enum-known-a plain-entry-requires enum-known-a-2 number-requires returns returns-2)

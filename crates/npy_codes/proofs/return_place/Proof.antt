@@ -4,8 +4,8 @@ use Rattle.place.specs.Answer.{answer}
 use Rattle.npy_codes.specs.Numbers.{runValues}
 use Rattle.npy_codes.proofs.Told.{gives-told, refuses-told, run-numbers}
 use borrow.Author.Needs.{needs}
-use Rattle.npy_codes.proofs.tell_place.Statement.{statement}
-use Rattle.npy_codes.proofs.tell_place.Tie as tie
+use Rattle.npy_codes.proofs.return_place.Statement.{statement}
+use Rattle.npy_codes.proofs.return_place.Tie as tie
 
 enum-known-a : tie.Need-enum-known-a
 enum-known-a c = search needs
@@ -25,5 +25,5 @@ returns c = gives-told runValues answer (c .before .before .before .before .befo
 returns-2 : tie.Need-returns-2
 returns-2 c = refuses-told runValues answer (c .before .before .a2 .given .1) refl (c .number .ensures)
 
-pub tell-place-spec : {M : Type 1} → statement M
-tell-place-spec = tie.close (tie.spec enum-known-a plain-entry-requires enum-known-a-2 number-requires returns returns-2)
+pub return-place-spec : {M : Type 1} → statement M
+return-place-spec = tie.close (tie.spec enum-known-a plain-entry-requires enum-known-a-2 number-requires returns returns-2)

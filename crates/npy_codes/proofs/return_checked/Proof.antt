@@ -4,8 +4,8 @@ use Rattle.check_record.specs.Answer.{answer}
 use Rattle.npy_codes.specs.Numbers.{summaryValues}
 use Rattle.npy_codes.proofs.Told.{gives-told, refuses-told}
 use borrow.Author.Needs.{needs}
-use Rattle.npy_codes.proofs.tell_checked.Statement.{statement}
-use Rattle.npy_codes.proofs.tell_checked.Tie as tie
+use Rattle.npy_codes.proofs.return_checked.Statement.{statement}
+use Rattle.npy_codes.proofs.return_checked.Tie as tie
 
 enum-known-a : tie.Need-enum-known-a
 enum-known-a c = search needs
@@ -25,5 +25,5 @@ returns c = gives-told summaryValues answer (c .before .before .before .a .given
 returns-2 : tie.Need-returns-2
 returns-2 c = refuses-told summaryValues answer (c .before .before .a2 .given .1) refl (c .number .ensures)
 
-pub tell-checked-spec : {M : Type 1} → statement M
-tell-checked-spec = tie.close (tie.spec enum-known-a put-summary-requires enum-known-a-2 number-requires returns returns-2)
+pub return-checked-spec : {M : Type 1} → statement M
+return-checked-spec = tie.close (tie.spec enum-known-a put-summary-requires enum-known-a-2 number-requires returns returns-2)

@@ -6,8 +6,8 @@ use mathlib.Core.List.{List, _∷_}
 use Rattle.npy_codes.specs.Numbers.{textValues}
 use Rattle.npy_codes.proofs.Told.{gives-told, refuses-told}
 use borrow.Author.Needs.{needs}
-use Rattle.npy_codes.proofs.tell_text.Statement.{statement}
-use Rattle.npy_codes.proofs.tell_text.Tie as tie
+use Rattle.npy_codes.proofs.return_text.Statement.{statement}
+use Rattle.npy_codes.proofs.return_text.Tie as tie
 
 first-is : {a b : ℕ} {x : List ℕ} → a ≡ b → _≡_ {A = List ℕ} (a ∷ x) (b ∷ x)
 first-is {x = x} e = ap (λ n. n ∷ x) e
@@ -30,7 +30,7 @@ returns c = gives-told textValues textAnswer (c .before .before .before .a .give
 returns-2 : tie.Need-returns-2
 returns-2 c = refuses-told textValues textAnswer (c .before .before .a2 .given .1) refl (c .number .ensures)
 
-pub tell-text-spec : {M : Type 1} → statement M
-tell-text-spec =
+pub return-text-spec : {M : Type 1} → statement M
+return-text-spec =
     tie.close
     (tie.spec enum-known-a order-number-requires enum-known-a-2 number-requires returns returns-2)
