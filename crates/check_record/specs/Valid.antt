@@ -1,6 +1,7 @@
 -- Document 01, "The refusal numbers": 27, "caller's record or type that no reading gives (13, 20 to 22, 7, 4 aside), or outermost an array", and "Places: the given record's 27,
 -- 13, 20, 21, 22". As a relation between a caller's table, names, shape and order and a record. `checkedRecord` (Checked.antt) gives the record, or the first of these
--- numbers; that it gives exactly the valid ones is proofs/Accepts.antt.
+-- numbers; that it gives exactly the valid ones is proofs/Accepts.antt. That each number of a table and a
+-- shape is at most 2^64-1 is `Small` (record/specs/Sound.antt), and holds of every lent slice.
 use Prim.Native.Nat.{ℕ}
 use mathlib.Core.Path.{_≡_}
 use mathlib.Core.Bool.{false}

@@ -1,7 +1,8 @@
 -- Demand 2, in both directions. Document 01, "What counts as an answer": "Demand 2 excludes a reader that refuses everything, one that returns a single fixed record, and a
--- writer that writes nothing: acceptance, record and bytes are all given here." Each function that reads a header, writes one, finds a place, reads an element or writes one accepts
+-- writer that writes nothing: acceptance, record and bytes are all given here." Each function that reads a header, writes one, finds a place, reads an element at a place or writes one accepts
 -- exactly the inputs that document 01 accepts, and returns exactly their record, bytes, place or element. What a text gives is said by the grammar. With which number
--- any other input is refused is said by the function's predicate (Functions.antt, InC.antt). The other functions are in Further.antt.
+-- any other input is refused is said by the function's predicate (Functions.antt, InC.antt). Other functions are in
+-- Further.antt, the check in Accepted.antt, the program's in Program.antt; what `count`, `item_number` and `type_read` return is one definition each, by their predicates.
 use Prim.Native.Nat.{ℕ, _+_, _≤_}
 use mathlib.Core.Path.{_≡_}
 use mathlib.Core.Bool.{Bool, true, false}
@@ -116,13 +117,13 @@ pub record Element (within : TypeStr → List ℕ → Outcome (List ℕ)) (file 
   pub is : within kind (runBytes file (runFrom (place start says x p) kind)) ≡ gives content
   pub fits : length content ≤ length room
 
--- an element by itself: its type k is one that readings give, the definition gives its run (or its content, Further.antt), and that fits the room
+-- what is read or written of a type by itself: the type k is one that readings give, the definition gives the content, and that fits the room
 pub record By-itself (k : TypeStr) (given : Outcome (List ℕ)) (room content : List ℕ) : Type 0 where
   pub typed : isType k ≡ true
   pub is : given ≡ gives content
   pub fits : length content ≤ length room
 
--- an element is read, or written, exactly there, and what goes to the room is exactly its content, or its run
+-- content is put in a room exactly where it is due, and it is exactly that; its length is returned
 abbrev pub Takes-exactly : {R : Type 0} → Door ℕ R → (Due : List ℕ → Type 0) (room : List ℕ) (y : R) (room′ : List ℕ) → Type 0
 Takes-exactly door Due = Exactly door Due length atFront
 

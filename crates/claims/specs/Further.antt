@@ -1,4 +1,4 @@
--- The functions beside those that demand 2 names (Exact.antt): a text by itself, an element by itself, strides, a listing, a type string, one character, the program's text.
+-- The functions beside those that demand 2 names (Exact.antt): a text by itself, an element by itself, strides, a listing, a type string printed, one character, the program's text.
 -- Each succeeds exactly where it is due, and returns and writes exactly what is due. With which number any other input is refused is said by the function's predicate.
 use Prim.Native.Nat.{ℕ, _≤_}
 use mathlib.Core.Path.{_≡_}

@@ -2,7 +2,7 @@
 -- `npy_read`. `Written-read`: the bytes that were written, with anything after them, are read as the caller's table, names, shape and order, and the data
 -- starts after them; or the result is 23, if a room is too small. `Read-written`: the record that a reading left in the rooms is refused by the writer with 4 exactly if its
 -- text is over 131,072 bytes, then with 28 exactly if the output room is too small; else it is written and read back. That some header is
--- read and written at all is claimed of document 01's 80 bytes (`eighty-read` and `eighty-written`, Edges.antt).
+-- read and written at all follows with Exact.antt from document 01's 80 bytes (`eighty-read` and `eighty-written`, Edges.antt).
 use Prim.Native.Nat.{ℕ, _*_, _<_, _≤_}
 use mathlib.Core.Path.{_≡_}
 use mathlib.Core.List.{List, [], _∷_, _++_}
@@ -29,7 +29,8 @@ use Rattle.claims.specs.Functions.{Read, Write-header}
 use Rattle.claims.specs.InC.{Npy-read, Npy-write-header}
 
 -- ---- what was written is read back
--- a header was read with this order, whose data starts at `start`: its values are returned, and the rooms begin with the table, the names and the shape, whose lengths are among the values
+-- a header was read with this order, whose data starts at `start`: its values are returned (its version is Exact.antt's), and the rooms begin with the table, the names and the
+-- shape, whose lengths are among the values
 pub record Read-as {R : Type 0} (door : Door HeaderInfo R) (t ns s : List ℕ) (o : Order) (start : ℕ) (l : Lent) (y : R) (l′ : Lent) : Type 0 where
   pub header : HeaderInfo
   pub is : y ≡ door .returned (gives header)
