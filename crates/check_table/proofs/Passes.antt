@@ -7,23 +7,22 @@ use mathlib.Core.List.{List, []}
 use native.Mathlib.Omega.{arith}
 use lib.ListN.{length}
 use Rattle.counts.specs.Outcome.{Outcome, gives, refused, then, unless}
-use Rattle.counts.specs.Same.{same}
+use Rattle.counts.specs.Lists.{same}
 use Rattle.counts.proofs.Alike.{true-false}
 use Rattle.utf8.specs.Decode.{utf8, scan}
 use Rattle.dtype.specs.declared.Entry.{Entry}
 use Rattle.dtype.specs.Dtype.{Dtype, plain, array, record-of}
 use Rattle.dtype.specs.Entries.{entriesOf}
-use Rattle.dtype.specs.Flat.{entry-width}
+use Rattle.dtype.specs.Record.{entry-width, table, names, unflat, tableOf}
 use Rattle.dtype.specs.EntryOf.{kindColumn}
-use Rattle.dtype.specs.Record.{table, names, unflat, tableOf}
 use Rattle.dtype.specs.Agrees.{entryAt}
 use Rattle.dtype.proofs.Record.{tableOf-right, tableOf-these}
-use Rattle.dtype.proofs.Stands.{stands-entry}
+use Rattle.dtype.proofs.InTable.{in-table-entry}
 use Rattle.dtype.proofs.Seen.{or-left, or-right, names-seen, table-length}
 use Rattle.dtype.proofs.Whole.{whole-lists, lists-whole}
 use Rattle.check_table.specs.Decides.{refuses, Decides, untypedAt, SoundEntry}
 use Rattle.check_table.specs.Reading.{untyped, illNamed, isArray, unread, readDtype}
-use Rattle.check_table.specs.Named.{Named, Outermost}
+use Rattle.check_table.specs.Named.{NamesPass, Outermost}
 use Rattle.table_entry.proofs.Walks.{none-passes, none-back}
 use Rattle.check_table.proofs.Typed.{untyped-seen}
 
@@ -33,7 +32,7 @@ pub record Passes (t ns : List ℕ) (n : ℕ) : Type 0 where
   pub some : 0 < n
   pub first : Outermost (entryAt t 0) n
   pub sound : (e : ℕ) → e < n → SoundEntry t n e
-  pub named : Named t ns n
+  pub named : NamesPass t ns n
 
 array-kind : (d : Dtype) → isArray d ≡ false → kindColumn d ≡ 1 → ⊥
 array-kind (plain t) h k = omega arith
@@ -51,7 +50,7 @@ empty-well = refl
 
 module _ (d : Dtype) where
   first-entry : entryAt (table d) 0 .kind ≡ kindColumn d
-  first-entry = ap (λ (a : Entry). a .kind) (stands-entry d (table d) 0 0 0 [] refl)
+  first-entry = ap (λ (a : Entry). a .kind) (in-table-entry d (table d) 0 0 0 [] refl)
 
   listed-passes : isArray d ≡ false → untyped d ≡ false → illNamed d ≡ false → Passes (table d) (names d) (entriesOf d)
   listed-passes a u i =
@@ -171,7 +170,7 @@ module _ (t ns : List ℕ) (k n : ℕ) (p : Passes t ns k) (l : length t ≡ ent
   passes-sound = rw (← count-is) (p .sound)
 
 pub read-named : (t ns : List ℕ) (n : ℕ) (r : Bool) → length t ≡ entry-width * n → 0 < n → Outermost (entryAt t 0) n → ((e : ℕ) → e < n → SoundEntry t n e)
-    → Decides r (Named t ns n) → r ≡ not (refuses (readDtype t ns))
+    → Decides r (NamesPass t ns n) → r ≡ not (refuses (readDtype t ns))
 read-named t ns n r l s f a d = go r refl
   where
     go : (b : Bool) → r ≡ b → r ≡ not (refuses (readDtype t ns))
@@ -181,5 +180,5 @@ read-named t ns n r l s f a d = go r refl
     go false e =
         e ∙ read-no t ns (λ k p.
         let z : k ≡ n = omega (arith, p .long) in
-        let q : Named t ns n = rw z at (p .named) in
+        let q : NamesPass t ns n = rw z at (p .named) in
         true-false (sym (d .all q) ∙ e))

@@ -12,7 +12,7 @@ use Rattle.utf8.proofs.Outcomes.{accepted-exactly}
 use Rattle.type_str.specs.Text.{isType}
 use Rattle.dtype.specs.Dtype.{Dtype, Fields, plain, array, record-of, end-of-fields, field-then}
 use Rattle.dtype.specs.Entries.{someEntryIn, plainOnly}
-use Rattle.dtype.specs.Names.{someNameIn}
+use Rattle.dtype.specs.Record.{someNameIn}
 use Rattle.dtype.proofs.Seen.{or-left, or-right}
 use Rattle.check_table.specs.Decides.{refuses}
 use Rattle.check_table.specs.Reading.{untyped, illNamed, Readable, All-readable}

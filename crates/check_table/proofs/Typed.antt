@@ -11,13 +11,12 @@ use Rattle.type_str.specs.Text.{isType}
 use Rattle.type_str.specs.declared.TypeStr.{TypeStr}
 use Rattle.dtype.specs.Dtype.{Dtype, plain, array, record-of}
 use Rattle.dtype.specs.Entries.{entriesOf, plainOnly}
-use Rattle.dtype.specs.Flat.{entry-width, flat}
+use Rattle.dtype.specs.Record.{entry-width, flat, table}
 use Rattle.dtype.specs.EntryOf.{entryOf}
-use Rattle.dtype.specs.Record.{table}
 use Rattle.dtype.specs.Agrees.{entryAt}
 use Rattle.dtype.specs.Seen.{someFrom}
 use Rattle.dtype.specs.declared.Entry.{Entry}
-use Rattle.dtype.proofs.Stands.{stands-entry}
+use Rattle.dtype.proofs.InTable.{in-table-entry}
 use Rattle.dtype.proofs.Seen.{someBelow, seen}
 use Rattle.table_entry.specs.EntryType.{in-record, typed, typeOf}
 use Rattle.check_table.specs.Decides.{refuses, untypedAt}
@@ -42,9 +41,9 @@ as-entry t e x s = ap (λ (a : Entry). eqb (a .kind) 0 && refuses (typeOf a)) s
 
 untyped-at : (d : Dtype) (t : List ℕ) (e up m : ℕ) (x : List ℕ) → drop (entry-width * e) t ≡ flat d e up m x
     → untypedAt t e ≡ plainOnly (λ ty. not (isType ty)) d
-untyped-at (plain ty) t e up m x h = as-entry t e (entryOf (plain ty) up m) (stands-entry (plain ty) t e up m x h) ∙ untyped-plain ty up m
-untyped-at (array n d) t e up m x h = as-entry t e (entryOf (array n d) up m) (stands-entry (array n d) t e up m x h)
-untyped-at (record-of fs) t e up m x h = as-entry t e (entryOf (record-of fs) up m) (stands-entry (record-of fs) t e up m x h)
+untyped-at (plain ty) t e up m x h = as-entry t e (entryOf (plain ty) up m) (in-table-entry (plain ty) t e up m x h) ∙ untyped-plain ty up m
+untyped-at (array n d) t e up m x h = as-entry t e (entryOf (array n d) up m) (in-table-entry (array n d) t e up m x h)
+untyped-at (record-of fs) t e up m x h = as-entry t e (entryOf (record-of fs) up m) (in-table-entry (record-of fs) t e up m x h)
 
 pub untyped-seen : (d : Dtype) → someFrom (untypedAt (table d)) (entriesOf d) 0 ≡ untyped d
 untyped-seen d =

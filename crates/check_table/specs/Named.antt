@@ -11,13 +11,13 @@ use Rattle.dtype.specs.Seen.{someFrom, nameAt}
 use Rattle.check_table.specs.Decides.{refuses}
 
 -- whether the name of entry e is not UTF-8
-abbrev pub illAt : (t ns : List ℕ) → ℕ → Bool
-illAt t ns e = refuses (utf8 (nameAt t ns e))
+abbrev pub illNameAt : (t ns : List ℕ) → ℕ → Bool
+illNameAt t ns e = refuses (utf8 (nameAt t ns e))
 
 -- the names of n entries, end to end, are ns, and each is UTF-8
-pub record Named (t ns : List ℕ) (n : ℕ) : Type 0 where
+pub record NamesPass (t ns : List ℕ) (n : ℕ) : Type 0 where
   pub long : nameStart t n ≡ length ns
-  pub all-well : someFrom (illAt t ns) n 0 ≡ false
+  pub all-well : someFrom (illNameAt t ns) n 0 ≡ false
 
 -- the outermost of n entries: it extends to the table's end, is no array, and has neither parent nor name
 pub record Outermost (e : Entry) (n : ℕ) : Type 0 where

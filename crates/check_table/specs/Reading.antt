@@ -10,8 +10,7 @@ use Rattle.utf8.specs.Utf8.{WellFormed}
 use Rattle.utf8.specs.Decode.{utf8}
 use Rattle.dtype.specs.Dtype.{Dtype, Fields, plain, array, record-of, end-of-fields, field-then}
 use Rattle.dtype.specs.Entries.{someEntry, plainOnly}
-use Rattle.dtype.specs.Names.{someName}
-use Rattle.dtype.specs.Record.{tableOf}
+use Rattle.dtype.specs.Record.{someName, tableOf}
 use Rattle.check_table.specs.Decides.{refuses}
 
 -- whether no type string has some plain type in it

@@ -15,7 +15,7 @@ ghost use mathlib.Core.Path.{_≡_};
 ghost use mathlib.Core.Bool.{not};
 ghost use Rattle.utf8.specs.Decode.{utf8};
 ghost use Rattle.check_table.specs.Reading.{readDtype};
-ghost use Rattle.check_table.specs.Named.{Named, Outermost};
+ghost use Rattle.check_table.specs.Named.{NamesPass, Outermost};
 
 // Whether a plain entry has a type, and agrees with its size.
 fn plain_agrees(entry: Entry) -> bool
@@ -154,7 +154,7 @@ fn is_utf8(text: &[u8]) -> bool
 
 // Whether `names` is the names of n entries end to end, each UTF-8 by itself.
 fn names_match(table: &[u64], n: usize, names: &[u8]) -> bool
-    ensures { λ r. ⌜ Decides r (Named (now (table .entry)) (now (names .entry)) n) ⌝ }
+    ensures { λ r. ⌜ Decides r (NamesPass (now (table .entry)) (now (names .entry)) n) ⌝ }
 {
     let mut start: usize = 0;
     let mut e: usize = 0;

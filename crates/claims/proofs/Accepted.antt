@@ -9,12 +9,12 @@ use borrow.Author.Tests.{le-ltb}
 use Rattle.counts.specs.Outcome.{Outcome, gives, then, each, unless, afterwards}
 use Rattle.counts.proofs.Owes.{roomed-whole}
 use Rattle.counts.proofs.Holds.{each-back}
-use Rattle.counts.specs.AllBytes.{AllBytes}
+use Rattle.counts.specs.Lists.{AllBytes}
 use Rattle.counts.proofs.AllBytes.{bytes-append}
 use Rattle.dtype.specs.declared.Order.{Order}
 use Rattle.dtype.specs.Limits.{limited}
 use Rattle.dtype.specs.Record.{Record, table, names}
-use Rattle.record.specs.Version as version
+use Rattle.record.specs.Prefix as version
 use Rattle.record.specs.Rooms.{roomsOf, holding, Lent}
 use Rattle.record.specs.Header as header
 use Rattle.record.specs.File.{fileOf}
@@ -34,8 +34,8 @@ use Rattle.header.specs.declared.Header.{Header}
 use Rattle.header.specs.declared.RecordInfo.{RecordInfo}
 use Rattle.header.specs.declared.HeaderRead.{HeaderRead}
 use Rattle.header.specs.Reads.{lent, infoOf, HeaderInfo, headerInfo}
-use Rattle.npy_codes.specs.Numbers.{summaryValues}
-use Rattle.npy_codes.proofs.Named.{retold}
+use Rattle.npy_codes.specs.Codes.{summaryValues}
+use Rattle.npy_codes.proofs.Then.{returns-same}
 use Rattle.claims.specs.Doors.{Door, in-rattle, in-c}
 use Rattle.claims.specs.Accepted.{Some-file, Accepted-as, Accepts, Accepts-exactly}
 use Rattle.read_back.proofs.Accepted.{valid-sound, sound-checked}
@@ -43,7 +43,7 @@ use Rattle.read_back.specs.Rooms.{Holds}
 use Rattle.read_back.proofs.Rooms.{fronts-by, checked-fronts}
 use Rattle.claims.proofs.Roomy.{roomy-fits}
 use Rattle.claims.proofs.Doors.{Fails, rattle-fails, c-fails, c-returned, succeeded}
-use Rattle.claims.proofs.Found.{told-value, order-back, read-was, in-rooms-checked}
+use Rattle.claims.proofs.Found.{found-value, order-back, read-was, in-rooms-checked}
 use Rattle.claims.specs.Exact.{In-text, Printable}
 use Rattle.claims.proofs.Printable.{printable-shallow, printable-short}
 use Rattle.claims.proofs.Exact.{in-text-read}
@@ -83,9 +83,9 @@ declared-is version.three-zero = refl
 abbrev answered : Record → Header
 answered r = record { version = declared (headerFor r .version); info = infoOf r; start = record { 0 = headerLength r } }
 
-told-eq : {v w : version.Version} (r : Record) → v ≡ w
+returned-eq : {v w : version.Version} (r : Record) → v ≡ w
     → _≡_ {A = HeaderInfo} (record { version = v; info = infoOf r; data-start = headerLength r }) (record { version = w; info = infoOf r; data-start = headerLength r })
-told-eq r e = cc
+returned-eq r e = cc
 
 own-file : (r : Record) → Sound r → limited r ≡ gives r → Printable r
     → (f : Some-file (table (r .dtype)) (names (r .dtype)) (r .shape) (r .order)) × AllBytes (f .file) × (f .before ≡ lent (table (r .dtype)) (names (r .dtype)) (r .shape))
@@ -102,11 +102,11 @@ own-file r sound limits p =
         reads =
             read-tied (fileOf r ++ []) l (HeaderRead.Read (answered r)) (holding r l)
             (record {
-              answered = ap gives (told-eq r (declared-is (headerFor r .version))) ∙ sym (ap (each headerInfo) given);
+              answered = ap gives (returned-eq r (declared-is (headerFor r .version))) ∙ sym (ap (each headerInfo) given);
               after = sym (ap (λ (o : Outcome header.Header). afterwards header.holdingHeader o l) given);
             });
         header = headerInfo (headerFor r);
-        is = ap gives (told-eq r (declared-is (headerFor r .version)));
+        is = ap gives (returned-eq r (declared-is (headerFor r .version)));
         holds = fronts-by r l (holding r l) (infoOf r) refl refl;
       },
       bytes-append (fileOf r) [] (file-all-bytes r sound) tt,
@@ -163,14 +163,14 @@ accepts-exactly =
       check = λ t ns s o x h. accepts-by in-rattle t ns s o _ (h .small-table) (h .small-shape) (h .answered) (rattle-fails _) (λ b. refl);
       npy-check = λ t ns s o said r said′ h.
           accepts-by (in-c summaryValues said) t ns s o (r, said′) (h .small-table) (h .small-shape)
-          (c-returned (retold (ap (λ (g : Outcome Order). then g (λ o. each summary (checkedRecord t ns s o))) (order-back o)) (h .answered)))
+          (c-returned (returns-same (ap (λ (g : Outcome Order). then g (λ o. each summary (checkedRecord t ns s o))) (order-back o)) (h .answered)))
           (c-fails summaryValues said _ (each-numbered summary _ (record-checked-numbered t ns s o))) (λ b. refl);
       read-text = λ text l l′ x i h e.
           let (r, given-is, same) = each-back infoOf (header.textBy reading text l) i (sym (h .answered reading reading-keeps) ∙ e) in
           text-holds text l l′ r i given-is (sym same) (h .after reading reading-keeps ∙ ap (λ (o : Outcome Record). afterwards holding o l) given-is);
       npy-read-text = λ text l l′ said said′ h.
           let o = header.textBy reading text l in
-          let (i, e, v) = told-value (each infoOf o) (each-numbered infoOf o (text-numbered reading text l)) (h .answered reading reading-keeps) in
+          let (i, e, v) = found-value (each infoOf o) (each-numbered infoOf o (text-numbered reading text l)) (h .answered reading reading-keeps) in
           let (r, given-is, same) = each-back infoOf o i e in
           (i, v, text-holds text l l′ r i given-is (sym same) (h .after reading reading-keeps ∙ ap (λ (o : Outcome Record). afterwards holding o l) given-is));
     }

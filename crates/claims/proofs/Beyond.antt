@@ -6,14 +6,12 @@ use lib.ListN.{length, drop}
 use Rattle.counts.specs.Outcome.{Outcome, gives, refused, each, afterwards}
 use Rattle.utf8_scalar.specs.Encode.{encode}
 use Rattle.dtype.specs.declared.Order.{Order}
-use Rattle.dtype.specs.Flat.{entry-width}
+use Rattle.dtype.specs.Record.{entry-width, nameBytes, Record, table, names}
 use Rattle.dtype.specs.Entries.{entriesOf}
-use Rattle.dtype.specs.Names.{nameBytes}
-use Rattle.dtype.specs.Record.{Record, table, names}
 use Rattle.dtype.specs.Shape as shape
 use Rattle.dtype.proofs.Strides.{strides-length}
 use Rattle.shape.specs.Count as strides
-use Rattle.counts.specs.Front.{atFront}
+use Rattle.counts.specs.Lists.{atFront}
 use Rattle.counts.proofs.Apart.{refused-gives}
 use Rattle.record.specs.Rooms.{Lent, holding}
 use Rattle.record.specs.Header as header

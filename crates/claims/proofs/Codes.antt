@@ -7,18 +7,17 @@ use lib.ListN.{length, drop, getD}
 use borrow.Author.Tests.{leb-true}
 use Rattle.refusal.specs.Numbers.{last-number}
 use Rattle.counts.specs.Outcome.{Outcome, gives, refused, then, each, afterwards}
-use Rattle.counts.specs.Front.{atFront}
+use Rattle.counts.specs.Lists.{atFront}
 use Rattle.counts.proofs.Owes.{afterwards-refused, owes-rest}
 use Rattle.counts.proofs.OneOutcome.{pair-of}
 use Rattle.type_str.specs.TypeString.{typeString}
 use Rattle.type_str.specs.Text.{typePrinted}
 use Rattle.dtype.specs.declared.Order.{Order}
 use Rattle.dtype.specs.Entries.{entriesOf}
-use Rattle.dtype.specs.Names.{nameBytes}
-use Rattle.dtype.specs.Record.{Record}
+use Rattle.dtype.specs.Record.{nameBytes, Record}
 use Rattle.dtype.specs.Shape.{strides}
 use Rattle.shape.specs.Count as shape
-use Rattle.record.specs.Version.{versionOf}
+use Rattle.record.specs.Prefix.{versionOf}
 use Rattle.record.specs.Rooms.{Lent, holding}
 use Rattle.record.specs.Header as record-of-file
 use Rattle.judge.specs.Judged.{reading}
@@ -31,8 +30,7 @@ use Rattle.header.specs.declared.RecordInfo.{RecordInfo}
 use Rattle.header.specs.Reads as header
 use Rattle.write.specs.Writes.{headerWritten}
 use Rattle.list_record.specs.Answer.{listed}
-use Rattle.npy_codes.specs.Codes.{Returns, alone}
-use Rattle.npy_codes.specs.Numbers.{orderFor, typeFor, typeValues, textValues, headerValues, summaryValues, runValues}
+use Rattle.npy_codes.specs.Codes.{Returns, oneNumber, orderFor, typeFor, typeValues, textValues, headerValues, summaryValues, runValues}
 use Rattle.npy.specs.Calls.{Puts}
 use Rattle.claims.specs.Beyond.{Same-rest}
 use Rattle.claims.specs.Codes.{Coded, Zero-answers, Refused-alone, Alone-in-C, Rest-in-C}
@@ -57,9 +55,9 @@ module _ {A M : Type 0} (values : A → List ℕ) {before after : M} {said said�
             };
       }
 
-told-coded : {A : Type 0} (values : A → List ℕ) (o : Outcome A) (said : List ℕ) (r : ℕ) (said′ : List ℕ) → Numbered o → Returns values o said r said′
+returned-coded : {A : Type 0} (values : A → List ℕ) (o : Outcome A) (said : List ℕ) (r : ℕ) (said′ : List ℕ) → Numbered o → Returns values o said r said′
     → Coded values o said r said′ said′
-told-coded values o said r said′ h t = coded values o h t (λ n e s. s)
+returned-coded values o said r said′ h t = coded values o h t (λ n e s. s)
 
 -- a room and the values together
 beside : {A M : Type 0} (values : A → List ℕ) (o : Outcome A) (l l′ : M) (said said′ : List ℕ) (r : ℕ) → Numbered o → Returns values o said r said′
@@ -67,9 +65,9 @@ beside : {A M : Type 0} (values : A → List ℕ) (o : Outcome A) (l l′ : M) (
 beside values o l l′ said said′ r h t k = coded values o h t (λ n e s. pair-of (k n e) s)
 
 puts-coded : (put : Outcome (List ℕ)) (room count : List ℕ) (r : ℕ) (room′ count′ : List ℕ) → Numbered put → Puts put room count r room′ count′
-    → Coded {M = List ℕ × List ℕ} alone (each length put) (room, count) r (room′, count′) count′
+    → Coded {M = List ℕ × List ℕ} oneNumber (each length put) (room, count) r (room′, count′) count′
 puts-coded put room count r room′ count′ h c =
-    beside alone (each length put) room room′ count count′ r (each-numbered length put h) (c .answered)
+    beside oneNumber (each length put) room room′ count count′ r (each-numbered length put h) (c .answered)
     (λ n e. c .room-after ∙ afterwards-refused atFront length room put n e)
 
 strides-kept : (s room : List ℕ) (given : Outcome Order) (n : ℕ) → then given (λ o. shape.stridesCount o s (length room)) ≡ refused n
@@ -80,51 +78,51 @@ strides-kept s room (refused k) n e = refl
 pub zero-answers : Zero-answers
 zero-answers =
     record {
-      npy-read-held = λ longer file l said reading keeps r new told c.
-          beside headerValues _ l new said told r (each-numbered header.headerInfo _ (held-header-numbered reading longer file l)) (c .answered reading keeps)
+      npy-read-held = λ longer file l said reading keeps r new matched c.
+          beside headerValues _ l new said matched r (each-numbered header.headerInfo _ (held-header-numbered reading longer file l)) (c .answered reading keeps)
           (λ n e. c .after reading keeps ∙ afterwards-refused record-of-file.holdingHeader header.headerInfo l (record-of-file.heldBy reading longer file l) n e);
-      npy-read-text = λ text l said reading keeps r new told c.
-          beside textValues _ l new said told r (each-numbered header.infoOf _ (text-numbered reading text l)) (c .answered reading keeps)
+      npy-read-text = λ text l said reading keeps r new matched c.
+          beside textValues _ l new said matched r (each-numbered header.infoOf _ (text-numbered reading text l)) (c .answered reading keeps)
           (λ n e. c .after reading keeps ∙ afterwards-refused holding header.infoOf l (record-of-file.textBy reading text l) n e);
       npy-check = λ t ns s order said r x c.
-          told-coded summaryValues _ said r x
+          returned-coded summaryValues _ said r x
           (then-numbered (orderFor order) (λ o. each summary (checkedRecord t ns s o)) (for-numbered order) (λ o. each-numbered summary _ (record-checked-numbered t ns s o))) (c .answered);
-      npy-write-header = λ t ns s order room count r new told c.
-          puts-coded _ room count r new told (then-numbered (orderFor order) (λ o. headerWritten t ns s o room) (for-numbered order) (λ o. header-written-numbered t ns s o room)) (c .writes);
-      npy-list = λ version start t ns s order room count r new told c.
-          puts-coded _ room count r new told
+      npy-write-header = λ t ns s order room count r new matched c.
+          puts-coded _ room count r new matched (then-numbered (orderFor order) (λ o. headerWritten t ns s o room) (for-numbered order) (λ o. header-written-numbered t ns s o room)) (c .writes);
+      npy-list = λ version start t ns s order room count r new matched c.
+          puts-coded _ room count r new matched
           (then-numbered (versionOf version 0) (λ v. then (orderFor order) (λ o. listed v start t ns s o room)) (version-for-numbered version)
           (λ v. then-numbered (orderFor order) (λ o. listed v start t ns s o room) (for-numbered order) (λ o. listed-numbered v start t ns s o room))) c;
       npy-count = λ s order count r x c.
-          told-coded alone _ count r x (then-numbered (orderFor order) (λ o. shape.itemCount o s) (for-numbered order) (λ o. count-numbered o s)) c;
-      npy-strides = λ s order room count r new told c.
-          beside alone _ room new count told r
+          returned-coded oneNumber _ count r x (then-numbered (orderFor order) (λ o. shape.itemCount o s) (for-numbered order) (λ o. count-numbered o s)) c;
+      npy-strides = λ s order room count r new matched c.
+          beside oneNumber _ room new count matched r
           (then-numbered (orderFor order) (λ o. shape.stridesCount o s (length room)) (for-numbered order) (λ o. strides-numbered o s (length room))) (c .answered)
           (λ n e. c .room-after ∙ strides-kept s room (orderFor order) n e);
       npy-item-number = λ s order index item r x c.
-          told-coded alone _ item r x (then-numbered (orderFor order) (λ o. itemOf o s index) (for-numbered order) (λ o. item-numbered o s index)) c;
+          returned-coded oneNumber _ item r x (then-numbered (orderFor order) (λ o. itemOf o s index) (for-numbered order) (λ o. item-numbered o s index)) c;
       npy-place = λ file start t ns s order i p run r x c.
-          told-coded runValues _ run r x
+          returned-coded runValues _ run r x
           (then-numbered (orderFor order) (λ o. placeOf file start t ns s o i p) (for-numbered order) (λ o. place-numbered file start t ns s o i p)) c;
-      npy-element-bytes = λ file start t ns s order i p room count r new told c.
-          puts-coded _ room count r new told (then-numbered (orderFor order) _ (for-numbered order) (λ o. element-bytes-numbered file start t ns s o i p room)) c;
-      npy-element-points = λ file start t ns s order i p room count r new told c.
-          puts-coded _ room count r new told (then-numbered (orderFor order) _ (for-numbered order) (λ o. element-points-numbered file start t ns s o i p room)) c;
-      npy-read-bytes = λ run order letter size units room count r new told c.
-          puts-coded _ room count r new told
+      npy-element-bytes = λ file start t ns s order i p room count r new matched c.
+          puts-coded _ room count r new matched (then-numbered (orderFor order) _ (for-numbered order) (λ o. element-bytes-numbered file start t ns s o i p room)) c;
+      npy-element-points = λ file start t ns s order i p room count r new matched c.
+          puts-coded _ room count r new matched (then-numbered (orderFor order) _ (for-numbered order) (λ o. element-points-numbered file start t ns s o i p room)) c;
+      npy-read-bytes = λ run order letter size units room count r new matched c.
+          puts-coded _ room count r new matched
           (then-numbered (typeFor order letter size units) _ (type-for-numbered order letter size units) (λ t. read-bytes-numbered t run room)) c;
-      npy-read-points = λ run order letter size units room count r new told c.
-          puts-coded _ room count r new told
+      npy-read-points = λ run order letter size units room count r new matched c.
+          puts-coded _ room count r new matched
           (then-numbered (typeFor order letter size units) _ (type-for-numbered order letter size units) (λ t. read-points-numbered t run room)) c;
-      npy-write-bytes = λ order letter size units value room count r new told c.
-          puts-coded _ room count r new told
+      npy-write-bytes = λ order letter size units value room count r new matched c.
+          puts-coded _ room count r new matched
           (then-numbered (typeFor order letter size units) _ (type-for-numbered order letter size units) (λ t. write-bytes-numbered t value room)) c;
-      npy-write-points = λ order letter size units value room count r new told c.
-          puts-coded _ room count r new told
+      npy-write-points = λ order letter size units value room count r new matched c.
+          puts-coded _ room count r new matched
           (then-numbered (typeFor order letter size units) _ (type-for-numbered order letter size units) (λ t. write-points-numbered t value room)) c;
-      npy-type-read = λ text said r x c. told-coded typeValues (typeString text) said r x (type-numbered text) c;
-      npy-type-print = λ order letter size units room count r new told c.
-          puts-coded _ room count r new told
+      npy-type-read = λ text said r x c. returned-coded typeValues (typeString text) said r x (type-numbered text) c;
+      npy-type-print = λ order letter size units room count r new matched c.
+          puts-coded _ room count r new matched
           (then-numbered (typeFor order letter size units) (λ t. typePrinted t room) (type-for-numbered order letter size units) (λ t. type-printed-numbered t room)) c;
     }
 
@@ -166,20 +164,20 @@ rest-for r said l l′ e n k q =
 same-left : (said : RecordInfo) (l l′ : Lent) → l′ ≡ l → Same-rest said l l′
 same-left said l l′ q = record { table-rest = rw q refl; names-rest = rw q refl; shape-rest = rw q refl }
 
-header-rest-told : (t : header.HeaderInfo) (said : List ℕ) (l l′ : Lent) (o : Outcome record-of-file.Header)
+header-rest-returned : (t : header.HeaderInfo) (said : List ℕ) (l l′ : Lent) (o : Outcome record-of-file.Header)
     → headerValues t ≡ afterwards (λ a old. headerValues a) (each header.headerInfo o) said → l′ ≡ afterwards record-of-file.holdingHeader o l → Same-rest (t .info) l l′
-header-rest-told t said l l′ (gives h) e q =
+header-rest-returned t said l l′ (gives h) e q =
     rest-for (h .says) (t .info) l l′ (ap (λ x. getD x 3 0) e) (ap (λ x. getD x 4 0) e) (ap (λ x. getD x 2 0) e) q
-header-rest-told t said l l′ (refused n) e q = same-left (t .info) l l′ q
+header-rest-returned t said l l′ (refused n) e q = same-left (t .info) l l′ q
 
-text-rest-told : (t : RecordInfo) (said : List ℕ) (l l′ : Lent) (o : Outcome Record)
+text-rest-returned : (t : RecordInfo) (said : List ℕ) (l l′ : Lent) (o : Outcome Record)
     → textValues t ≡ afterwards (λ a old. textValues a) (each header.infoOf o) said → l′ ≡ afterwards holding o l → Same-rest t l l′
-text-rest-told t said l l′ (gives r) e q = rest-for r t l l′ (ap (λ x. getD x 2 0) e) (ap (λ x. getD x 3 0) e) (ap (λ x. getD x 1 0) e) q
-text-rest-told t said l l′ (refused n) e q = same-left t l l′ q
+text-rest-returned t said l l′ (gives r) e q = rest-for r t l l′ (ap (λ x. getD x 2 0) e) (ap (λ x. getD x 3 0) e) (ap (λ x. getD x 1 0) e) q
+text-rest-returned t said l l′ (refused n) e q = same-left t l l′ q
 
 -- the count is how many were written, or nothing was
 spares : (o : Outcome ℕ) (room room′ count : List ℕ) (n : ℕ) → ((m : ℕ) → o ≡ gives m → drop m room′ ≡ drop m room) → ((k : ℕ) → o ≡ refused k → room′ ≡ room)
-    → n ∷ [] ≡ afterwards (λ a old. alone a) o count → drop n room′ ≡ drop n room
+    → n ∷ [] ≡ afterwards (λ a old. oneNumber a) o count → drop n room′ ≡ drop n room
 spares (gives m) room room′ count n h k e = h n (ap gives (sym (ap (λ x. getD x 0 0) e)))
 spares (refused j) room room′ count n h k e = ap (drop n) (k j refl)
 
@@ -188,22 +186,22 @@ spared put room count r room′ n c =
     spares (each length put) room room′ count n (λ m e. owes-rest put room (each length put) room′ m (record { answered = refl; room-after = c .room-after }) e)
     (λ k e. c .room-after ∙ afterwards-refused atFront length room put k e) (c .answered .after)
 
-strides-behind : (o : Order) (s out : List ℕ) (c : Outcome ℕ) → drop (length s) (afterwards (λ n. atFront (strides o s)) c out) ≡ drop (length s) out
-strides-behind o s out (gives n) = strides-rest o s out n (gives n) refl
-strides-behind o s out (refused n) = refl
+strides-after : (o : Order) (s out : List ℕ) (c : Outcome ℕ) → drop (length s) (afterwards (λ n. atFront (strides o s)) c out) ≡ drop (length s) out
+strides-after o s out (gives n) = strides-rest o s out n (gives n) refl
+strides-after o s out (refused n) = refl
 
 strides-given : (s room : List ℕ) (given : Outcome Order)
     → drop (length s) (afterwards (λ o. afterwards (λ n. atFront (strides o s)) (shape.stridesCount o s (length room))) given room) ≡ drop (length s) room
-strides-given s room (gives o) = strides-behind o s room (shape.stridesCount o s (length room))
+strides-given s room (gives o) = strides-after o s room (shape.stridesCount o s (length room))
 strides-given s room (refused n) = refl
 
 pub rest-in-c : Rest-in-C
 rest-in-c =
     record {
       npy-read-held = λ longer file l l′ said r t c.
-          header-rest-told t said l l′ (header.heldInto longer file l) (c .answered reading reading-keeps .after) (c .after reading reading-keeps);
+          header-rest-returned t said l l′ (header.heldInto longer file l) (c .answered reading reading-keeps .after) (c .after reading reading-keeps);
       npy-read-text = λ text l l′ said r t c.
-          text-rest-told t said l l′ (record-of-file.textBy reading text l) (c .answered reading reading-keeps .after) (c .after reading reading-keeps);
+          text-rest-returned t said l l′ (record-of-file.textBy reading text l) (c .answered reading reading-keeps .after) (c .after reading reading-keeps);
       npy-write-header = λ t ns s order room count r room′ n c. spared _ room count r room′ n (c .writes);
       npy-list = λ version start t ns s order room count r room′ n c. spared _ room count r room′ n c;
       npy-type-print = λ order letter size units room count r room′ n c. spared _ room count r room′ n c;

@@ -1,30 +1,39 @@
 -- The table of the cases marked P (specs/Edges.antt): its two parts are computed where their definitions are. That the last case's text gives that record is computed
 -- here: the grammar's own reading of the text, which keeps the promise, and the dtype of the value.
-use mathlib.Core.Path.{_≡_, refl, subst}
+use Prim.Native.Nat.{ℕ, _≤_}
+use mathlib.Core.Path.{_≡_, refl, ap, subst}
 use mathlib.Core.Bool.{false}
-use mathlib.Core.List.{[], _∷_}
-use lib.ListN.{replicate}
-use Rattle.decimal.specs.Decimal.{isDigit, digitsOf, decimalFrom}
-use Rattle.type_letters.specs.Orders.{orderOf}
-use Rattle.type_letters.specs.Letters.{letterOf}
+use mathlib.Core.List.{List, [], _∷_}
+use native.Mathlib.Omega.{arith}
+use lib.ListN.{length, replicate}
+use Rattle.decimal.specs.Decimal.{isDigit, digitsOf, decimalFrom, lastDigits, printed}
+use Rattle.type_letters.specs.Letters.{orderOf, letterOf}
 use Rattle.type_units.specs.Units.{unitsOf}
 use Rattle.type_str.specs.TypeString.{sized, syntax, validated, checked, typeString}
+use Rattle.type_str.specs.Text.{typeText, isType}
 use Rattle.literal_grammar.specs.Bytes.{isBlank, isQuote, isBreak, isEscape, unescape}
-use Rattle.literal_grammar.specs.Nesting.{most-open}
+use Rattle.literal_grammar.specs.Value.{most-open}
+use Rattle.literal_grammar.specs.Print.{escapeOf}
 use Rattle.literal_grammar.specs.Promise.{GivesIn, got}
 use Rattle.literal_grammar.proofs.Reading.{skip, afterDigits, natural, word, quoted, parted, upTo, paired, bracketed, kindOf, value, alone, literal}
 use Rattle.literal_grammar.proofs.Kept.{Promise, kept}
 use Rattle.type_read.proofs.Edges as types
-use Rattle.dtype.specs.Flat.{entry-width}
+use Rattle.dtype.specs.declared.Order.the-variants.{C}
+use Rattle.dtype.specs.Record.{entry-width, table}
+use Rattle.dtype.specs.Limits.{overShape, limited}
 use Rattle.dtype.proofs.Edges as dtypes
-use Rattle.record.specs.Version.{one-zero}
+use Rattle.record.specs.Prefix.{one-zero}
 use Rattle.record.proofs.Examples.{table-holds, written}
+use Rattle.record.specs.Padding.{spacesAfter, versionFor}
+use Rattle.record.specs.File.{version, textLength, fileOf}
+use Rattle.check_record.specs.Valid.{Valid}
 use Rattle.judge.specs.Judged.{reading}
 use Rattle.judge.proofs.Top.{reading-keeps}
 use Rattle.header.specs.Reads.{lent}
-use Rattle.claims.specs.Exact.{In-file}
+use Rattle.claims.specs.Exact.{In-file, Printable, Writable}
 use Rattle.claims.specs.Edges.{Edges, a-and-b-text, a-and-b-value, eighty, three}
 use Rattle.claims.proofs.Exact.{read-in-file}
+use Rattle.claims.proofs.Printable.{shallow-printable}
 
 a-and-b-literal : literal most-open a-and-b-text ≡ got a-and-b-value []
 unfolding literal alone value kindOf bracketed paired upTo parted quoted word natural afterDigits skip isDigit digitsOf decimalFrom isBlank isQuote isBreak isEscape unescape
@@ -37,6 +46,20 @@ given = subst (Promise most-open a-and-b-text) a-and-b-literal (kept most-open a
 eighty-read : In-file eighty (record { version = one-zero; says = three; data-start = 80 })
 eighty-read = read-in-file false eighty (lent (replicate entry-width 0) [] (0 ∷ [])) _ (table-holds reading reading-keeps .0) .0
 
+-- their record is written
+three-valid : Valid (table (three .dtype)) [] (3 ∷ []) C three
+unfolding limited overShape validated checked isType
+three-valid = record { table-is = refl; names-are = refl; shape-is = refl; order-is = refl; no-array = refl; readable = refl; limits = refl }
+
+three-printable : Printable three
+unfolding printed lastDigits escapeOf typeText spacesAfter versionFor version textLength
+three-printable = let long : textLength three ≡ 70 = refl in shallow-printable three refl (omega (arith, long))
+
+three-written : (room : List ℕ) → 80 ≤ length room → Writable (table (three .dtype)) [] (3 ∷ []) C room three
+three-written room enough =
+    let long : length (fileOf three) ≡ 80 = ap length (written .eighty-bytes) in
+    record { valid = three-valid; printable = three-printable; fits = omega (arith, long, enough) }
+
 pub edges : Edges
 unfolding isDigit digitsOf decimalFrom orderOf letterOf unitsOf sized syntax validated checked typeString
-edges = record { type-strings = types.edges; records = dtypes.edges; a-and-b-given = given; a-and-b-read = refl; eighty-read = eighty-read; eighty-written = written .eighty-bytes }
+edges = record { type-strings = types.edges; records = dtypes.edges; a-and-b-given = given; a-and-b-read = refl; eighty-read = eighty-read; eighty-written = written .eighty-bytes; eighty-writable = three-written }

@@ -9,11 +9,10 @@ use lib.Dec.{ltb}
 use lib.ListN.{length, getD}
 use borrow.Author.Tests.{le-ltb, ltb-false, not-false}
 use Rattle.counts.specs.Outcome.{Outcome, gives, then, each, afterwards, unless}
-use Rattle.counts.specs.Front.{atFront}
+use Rattle.counts.specs.Lists.{atFront}
 use Rattle.counts.proofs.Apart.{refused-gives, gives-apart}
 use Rattle.counts.proofs.Holds.{unless-back, then-back, each-back}
-use Rattle.literal_grammar.specs.Value.{Value}
-use Rattle.literal_grammar.specs.Nesting.{most-open}
+use Rattle.literal_grammar.specs.Value.{Value, most-open}
 use Rattle.literal_grammar.specs.Promise.{Got, got, fault, deep, PromiseAt, GivesIn}
 use Rattle.literal_grammar.proofs.Kept.{one-outcome-at}
 use Rattle.utf8.specs.Decode.{utf8}
@@ -25,10 +24,8 @@ use Rattle.dtype.specs.Entries.{hasObject}
 use Rattle.dtype.specs.Limits.{limited}
 use Rattle.dtype.specs.Shape.{inRange}
 use Rattle.dtype.specs.Record.{Record}
-use Rattle.dtype.specs.Paths.{plainAt}
-use Rattle.dtype.specs.Places.{dataBytes, place}
-use Rattle.record.specs.Prefix.{most-text, Prefix, dataStart, prefix, missing, textHeld, textOf}
-use Rattle.record.specs.Version.{Version}
+use Rattle.dtype.specs.Places.{plainAt, dataBytes, place}
+use Rattle.record.specs.Prefix.{most-text, Prefix, dataStart, prefix, missing, textHeld, textOr, Version}
 use Rattle.record.specs.FromValue.{recordOf}
 use Rattle.record.specs.Rooms.{needs, tooSmall, Lent, roomsOf, holding}
 use Rattle.record.specs.Header as header
@@ -52,11 +49,10 @@ use Rattle.string_value.specs.Rooms.{readBytes, readPoints, writeBytes, writePo
 use Rattle.element.specs.Bytes.{runBytes}
 use Rattle.element.specs.Element.{elementBytes, elementPoints}
 use Rattle.element.proofs.Typed.{bytes-after, points-after}
-use Rattle.npy_codes.specs.Codes.{alone}
-use Rattle.npy_codes.specs.Numbers.{orderNumber, orderFor, typeFor, typeValues, textValues, headerValues, runValues}
+use Rattle.npy_codes.specs.Codes.{oneNumber, orderNumber, orderFor, typeFor, typeValues, textValues, headerValues, runValues}
 use Rattle.npy.specs.Calls.{Puts}
 use Rattle.claims.specs.Doors.{Door, in-rattle, in-c}
-use Rattle.claims.specs.Exact.{In-text, In-file, Fits, Reads-exactly, Writable, Writes-exactly, Named, Element, Takes-exactly, By-itself, By-number, By-order, By-type, Exact, Exact-in-C}
+use Rattle.claims.specs.Exact.{In-text, In-file, Fits, Reads-exactly, Writable, Writes-exactly, Place-is, Element, Takes-exactly, By-itself, By-number, By-order, By-type, Exact, Exact-in-C}
 use Rattle.claims.proofs.Found.{order-named, order-back, type-for-values, values-for-type}
 use Rattle.claims.proofs.Printable.{printable-shallow, printable-short, shallow-printable}
 use Rattle.claims.proofs.Doors.{Fails, rattle-fails, c-fails, c-returned, exactly-by}
@@ -85,17 +81,17 @@ read-in-text text r e =
     record { well-formed = accepted-exactly text .0 well; value = v; literal = value-given text (reading text) (reading-keeps text) v read; is-record = is-record }
 
 -- the text of a file is the same where the file may be longer, if it is all there
-held-whole : (longer : Bool) (p : Prefix) (file text : List ℕ) → textOf p file ≡ gives text → textHeld longer p file ≡ gives text
-unfolding textHeld textOf
+held-whole : (longer : Bool) (p : Prefix) (file text : List ℕ) → textOr 3 p file ≡ gives text → textHeld longer p file ≡ gives text
+unfolding textHeld
 held-whole longer p file text e =
     let (fits, is) = unless-back (ltb (length file) (dataStart p)) 3 _ text e in
     rw (textHeld, fits) is
 
-whole-held : (longer : Bool) (p : Prefix) (file text : List ℕ) → textHeld longer p file ≡ gives text → textOf p file ≡ gives text
-unfolding textHeld textOf
+whole-held : (longer : Bool) (p : Prefix) (file text : List ℕ) → textHeld longer p file ≡ gives text → textOr 3 p file ≡ gives text
+unfolding textHeld
 whole-held longer p file text e =
     let (fits, is) = unless-back (ltb (length file) (dataStart p)) (missing longer) _ text e in
-    rw (textOf, fits) is
+    rw (textOr, fits) is
 
 -- a header by its parts
 abbrev made : Version → Record → ℕ → header.Header
@@ -178,14 +174,14 @@ writes-exactly door Due room y room′ put is held fails due back =
 
 -- ---- places
 module _ (file start : ℕ) (t ns s : List ℕ) (o : Order) (x p : List ℕ) where
-  named-place : (a : Record × TypeStr) → Named file start t ns s o x p (a .0) (a .1) → place.placeOf file start t ns s o x p ≡ gives (place.runFrom (place start (a .0) x p) (a .1))
+  named-place : (a : Record × TypeStr) → Place-is file start t ns s o x p (a .0) (a .1) → place.placeOf file start t ns s o x p ≡ gives (place.runFrom (place start (a .0) x p) (a .1))
   unfolding place.placed
   named-place a n =
       sym (place-given file start t ns s o x p (a .0) (valid-checked t ns s o (a .0) (n .valid)))
       ∙ rw (place.placed, n .no-object, le-ltb _ _ (n .long), n .in-range, n .leads)
 
   place-named : (u : Run) → place.placeOf file start t ns s o x p ≡ gives u
-      → (a : Record × TypeStr) × Named file start t ns s o x p (a .0) (a .1) × (place.runFrom (place start (a .0) x p) (a .1) ≡ u)
+      → (a : Record × TypeStr) × Place-is file start t ns s o x p (a .0) (a .1) × (place.runFrom (place start (a .0) x p) (a .1) ≡ u)
   unfolding place.placeOf place.placed
   place-named u e =
       let (r, accepted, of-record) = then-back (checkedRecord t ns s o) _ u e in
@@ -198,7 +194,7 @@ module _ (file start : ℕ) (t ns s : List ℕ) (o : Order) (x p : List ℕ) whe
         is,
       )
 
-  place-due : (u : Run) → place.placeOf file start t ns s o x p ≡ gives u → (a : Record × TypeStr) × Named file start t ns s o x p (a .0) (a .1)
+  place-due : (u : Run) → place.placeOf file start t ns s o x p ≡ gives u → (a : Record × TypeStr) × Place-is file start t ns s o x p (a .0) (a .1)
   place-due u e = let (a, n, _) = place-named u e in (a, n)
 
 -- ---- elements
@@ -350,21 +346,21 @@ exact =
 -- ---- the same in C
 pub takes-in-c : {N : Type 0} (named : Outcome N) (numbers : List ℕ) (values : N → List ℕ) (Due : N → List ℕ → Type 0) → Names named numbers values Due
     → (next : N → Outcome (List ℕ)) (out : List ℕ) → Numbered named → ((n : N) → Numbered (next n)) → ((n : N) → Puts-due (next n) (Due n)) → (count : List ℕ) (r : ℕ) (out′ count′ : List ℕ)
-    → Puts (then named next) out count r out′ count′ → Takes-exactly (in-c alone count) (By-number numbers values Due) out (r, count′) out′
+    → Puts (then named next) out count r out′ count′ → Takes-exactly (in-c oneNumber count) (By-number numbers values Due) out (r, count′) out′
 takes-in-c named numbers values Due names next out first numbered puts count r out′ count′ h =
-    takes-exactly (in-c alone count) (By-number numbers values Due) out (r, count′) out′ (then named next) (c-returned (h .answered)) (h .room-after)
-    (c-fails alone count _ (each-numbered length _ (then-numbered named next first numbered)))
+    takes-exactly (in-c oneNumber count) (By-number numbers values Due) out (r, count′) out′ (then named next) (c-returned (h .answered)) (h .room-after)
+    (c-fails oneNumber count _ (each-numbered length _ (then-numbered named next first numbered)))
     (by-number named numbers values Due names next (λ c. c) (λ n. puts n .due))
     (λ c e. let (n, is, given-is) = then-back named next c e in (n, names .back n is, puts n .back c given-is))
 
 takes-by-order : (order : ℕ) (Due : Order → List ℕ → Type 0) (next : Order → Outcome (List ℕ)) (out : List ℕ) → ((o : Order) → Numbered (next o)) → ((o : Order) → Puts-due (next o) (Due o))
-    → (count : List ℕ) (r : ℕ) (out′ count′ : List ℕ) → Puts (then (orderFor order) next) out count r out′ count′ → Takes-exactly (in-c alone count) (By-order order Due) out (r, count′) out′
+    → (count : List ℕ) (r : ℕ) (out′ count′ : List ℕ) → Puts (then (orderFor order) next) out count r out′ count′ → Takes-exactly (in-c oneNumber count) (By-order order Due) out (r, count′) out′
 takes-by-order order Due next out numbered puts = takes-in-c (orderFor order) _ _ Due (order-names order Due) next out (for-numbered order) numbered puts
 
 pub takes-by-type : (order letter size units : ℕ) (given : TypeStr → Outcome (List ℕ)) (next : TypeStr → Outcome (List ℕ)) (out : List ℕ) → ((k : TypeStr) → Numbered (next k))
     → ((k : TypeStr) → Puts-due (next k) (By-itself k (given k) out)) → (count : List ℕ) (r : ℕ) (out′ count′ : List ℕ)
     → Puts (then (typeFor order letter size units) next) out count r out′ count′
-    → Takes-exactly (in-c alone count) (By-type order letter size units (λ k. By-itself k (given k) out)) out (r, count′) out′
+    → Takes-exactly (in-c oneNumber count) (By-type order letter size units (λ k. By-itself k (given k) out)) out (r, count′) out′
 takes-by-type order letter size units given next out numbered puts =
     takes-in-c (typeFor order letter size units) _ _ (λ k. By-itself k (given k) out) (type-names order letter size units _ (λ k c d. d .typed)) next out
     (type-for-numbered order letter size units) numbered puts
@@ -378,12 +374,12 @@ exact-in-c =
       npy-write-header = λ t ns s order out count r out′ count′ h.
           let Due : Order → Record → Type 0 = λ o. Writable t ns s o out in
           let next : Order → Outcome (List ℕ) = λ o. headerWritten t ns s o out in
-          writes-exactly (in-c alone count) (By-order order Due) out (r, count′) out′ (then (orderFor order) next) (c-returned (h .writes .answered)) (h .writes .room-after)
-          (c-fails alone count _ (each-numbered length _ (then-numbered (orderFor order) next (for-numbered order) (λ o. header-written-numbered t ns s o out))))
+          writes-exactly (in-c oneNumber count) (By-order order Due) out (r, count′) out′ (then (orderFor order) next) (c-returned (h .writes .answered)) (h .writes .room-after)
+          (c-fails oneNumber count _ (each-numbered length _ (then-numbered (orderFor order) next (for-numbered order) (λ o. header-written-numbered t ns s o out))))
           (by-number _ _ _ Due (order-names order Due) next fileOf (λ o. writable-writes t ns s o out))
           (number-by _ _ _ Due (order-names order Due) next (λ o. writes-writable t ns s o out));
       npy-place = λ file start t ns s order x p run r run′ h.
-          let Due : Order → Record × TypeStr → Type 0 = λ o a. Named file start t ns s o x p (a .0) (a .1) in
+          let Due : Order → Record × TypeStr → Type 0 = λ o a. Place-is file start t ns s o x p (a .0) (a .1) in
           let next : Order → Outcome Run = λ o. place.placeOf file start t ns s o x p in
           exactly-by (in-c runValues run) (By-order order Due) (λ a. place.runFrom (place start (a .0) x p) (a .1)) (λ a m. m) tt (r, run′) tt _ (c-returned h)
           (c-fails runValues run _ (then-numbered (orderFor order) next (for-numbered order) (λ o. place-numbered file start t ns s o x p)))

@@ -24,20 +24,19 @@ use Rattle.judge.specs.Judged.{reading}
 use Rattle.judge.proofs.Top.{reading-keeps}
 use Rattle.header.specs.declared.HeaderRead.{HeaderRead}
 use Rattle.header.specs.Reads.{HeaderInfo, headerInfo, answer, heldInto}
-use Rattle.read_back.specs.Rooms.{tableIn, namesIn, shapeIn, Fronts}
+use Rattle.read_back.specs.Rooms.{tableStored, namesStored, shapeStored, Fronts}
 use Rattle.read_back.proofs.Rooms.{fronts-by, checked-fronts}
 use Rattle.read_back.proofs.Accepted.{read-checked}
-use Rattle.npy_codes.specs.Codes.{Returns}
-use Rattle.npy_codes.specs.Numbers.{orderNumber, orderFor, typeFor, typeValues, headerValues}
+use Rattle.npy_codes.specs.Codes.{Returns, orderNumber, orderFor, typeFor, typeValues, headerValues}
 use Rattle.claims.specs.Functions.{Read}
 use Rattle.claims.specs.InC.{Npy-read}
 use Rattle.record.proofs.Numbers.{Numbered, each-numbered}
 use Rattle.claims.proofs.Numbers.{held-header-numbered}
 
 -- ---- 0 in C is a value
-pub told-value : {A : Type 0} {values : A → List ℕ} {said said′ : List ℕ} (o : Outcome A) → Numbered o → Returns values o said 0 said′ → (a : A) × (o ≡ gives a) × (said′ ≡ values a)
-told-value (gives a) h t = (a, refl, t .after)
-told-value (refused n) h t = absurd (let one = leb-true 1 n (h .so .0) in let is = t .answered in omega arith)
+pub found-value : {A : Type 0} {values : A → List ℕ} {said said′ : List ℕ} (o : Outcome A) → Numbered o → Returns values o said 0 said′ → (a : A) × (o ≡ gives a) × (said′ ≡ values a)
+found-value (gives a) h t = (a, refl, t .after)
+found-value (refused n) h t = absurd (let one = leb-true 1 n (h .so .0) in let is = t .answered in omega arith)
 
 -- ---- the numbers of orders
 pub order-named : (order : ℕ) (o : Order) → orderFor order ≡ gives o → order ≡ orderNumber o
@@ -81,7 +80,7 @@ read-was file l l′ x i h e =
 pub npy-read-was : (file : List ℕ) (l l′ : Lent) (said said′ : List ℕ) → Npy-read file l said 0 l′ said′ → (i : HeaderInfo) × (said′ ≡ headerValues i) × Was-read file l l′ i
 npy-read-was file l l′ said said′ h =
     let o = heldInto false file l in
-    let (i, e, v) = told-value (each headerInfo o) (each-numbered headerInfo o (held-header-numbered reading false file l)) (h .answered reading reading-keeps) in
+    let (i, e, v) = found-value (each headerInfo o) (each-numbered headerInfo o (held-header-numbered reading false file l)) (h .answered reading reading-keeps) in
     let (k, given-is, same) = each-back headerInfo o i e in (
       i,
       v,
@@ -104,5 +103,5 @@ module _ (file : List ℕ) (l l′ : Lent) (i : HeaderInfo) (w : Was-read file l
   by-whole = w .given
 
   -- the check accepts what was read
-  pub in-rooms-checked : checkedRecord (tableIn (i .info) l′) (namesIn (i .info) l′) (shapeIn (i .info) l′) (i .info .order) ≡ gives says
+  pub in-rooms-checked : checkedRecord (tableStored (i .info) l′) (namesStored (i .info) l′) (shapeStored (i .info) l′) (i .info .order) ≡ gives says
   in-rooms-checked = checked-fronts says (i .info) l′ in-rooms (read-checked reading reading-keeps file (roomsOf l) (w .header-is) by-whole)

@@ -7,7 +7,7 @@ use lib.Dec.{ltb, eqb}
 use lib.ListN.{length, getD}
 use borrow.Author.Tests.{le-ltb, ltb-false, not-false, eqb-true}
 use Rattle.counts.specs.Outcome.{Outcome, gives, refused, then, each, afterwards, unless}
-use Rattle.counts.specs.Front.{atFront}
+use Rattle.counts.specs.Lists.{atFront}
 use Rattle.counts.specs.Owes.{roomed}
 use Rattle.counts.proofs.Apart.{refused-gives, gives-apart}
 use Rattle.counts.proofs.Holds.{unless-back, then-back, each-back}
@@ -23,7 +23,7 @@ use Rattle.dtype.specs.Shape.{product, strides}
 use Rattle.shape.specs.Count.{stridesCount}
 use Rattle.record.specs.Header as header
 use Rattle.record.specs.Rooms.{needs, tooSmall, Lent, roomsOf, holding}
-use Rattle.record.specs.Version.{Version, one-zero, two-zero, three-zero, major, versionOf}
+use Rattle.record.specs.Prefix.{Version, one-zero, two-zero, three-zero, major, versionOf}
 use Rattle.record.proofs.Numbers.{Numbered, each-numbered, then-numbered}
 use Rattle.check_record.specs.Checked.{checkedRecord}
 use Rattle.check_record.proofs.Accepts.{checked-valid, valid-checked}
@@ -34,13 +34,12 @@ use Rattle.list_text.specs.Listing.{listing}
 use Rattle.list_record.specs.Answer.{listed}
 use Rattle.string_value.specs.Elements.{bytesIn, pointsIn}
 use Rattle.string_value.specs.Rooms.{readBytes, readPoints}
-use Rattle.npy_codes.specs.Codes.{alone}
+use Rattle.npy_codes.specs.Codes.{oneNumber, orderNumber, orderFor, textValues}
 use Rattle.npy.specs.Calls.{Puts}
-use Rattle.npy_codes.specs.Numbers.{orderNumber, orderFor, textValues}
 use Rattle.claims.specs.Doors.{Door, in-rattle, in-c}
 use Rattle.claims.specs.Exact.{In-text, Fits, By-itself}
 use Rattle.claims.specs.Functions.{reportBy}
-use Rattle.claims.specs.Further.{Reads-text-exactly, Strides-due, Strides-exactly, Listed, Encoded, Further-exact, Further-exact-in-C}
+use Rattle.claims.specs.Further.{Reads-text-exactly, Strides-due, Strides-exactly, Listing-is, Encoded, Further-exact, Further-exact-in-C}
 use Rattle.claims.proofs.Doors.{Fails, rattle-fails, c-fails, c-returned, exactly-by}
 use Rattle.claims.proofs.Numbers.{text-numbered, for-numbered, version-for-numbered, listed-numbered, strides-numbered, type-printed-numbered, read-bytes-numbered, read-points-numbered}
 use Rattle.claims.proofs.Roomy.{roomy-fits, fits-roomy}
@@ -107,7 +106,7 @@ known-due n room content =
 
 -- ---- a listing
 module _ (start : ℕ) (t ns s out : List ℕ) (v : Version) (o : Order) where
-  listed-due : Puts-due (listed v start t ns s o out) (Listed v start t ns s o out)
+  listed-due : Puts-due (listed v start t ns s o out) (Listing-is v start t ns s o out)
   listed-due =
       record {
         due = λ c d.
@@ -221,8 +220,8 @@ further-exact-in-c =
           (c-fails textValues said _ (each-numbered infoOf _ (text-numbered reading text l)));
       npy-strides = λ s order out count r out′ count′ h.
           let counted = then (orderFor order) (λ o. stridesCount o s (length out)) in
-          exactly-by (in-c alone count) (λ o. (order ≡ orderNumber o) × Strides-due o s out) (λ o. product s) (λ o. atFront (strides o s)) out (r, count′) out′ counted
-          (c-returned (h .answered)) (c-fails alone count _ (then-numbered (orderFor order) _ (for-numbered order) (λ o. strides-numbered o s (length out))))
+          exactly-by (in-c oneNumber count) (λ o. (order ≡ orderNumber o) × Strides-due o s out) (λ o. product s) (λ o. atFront (strides o s)) out (r, count′) out′ counted
+          (c-returned (h .answered)) (c-fails oneNumber count _ (then-numbered (orderFor order) _ (for-numbered order) (λ o. strides-numbered o s (length out))))
           (λ o d.
           let named = ap orderFor (d .0) ∙ order-back o in
           let e = strides-given o s out (d .1) in (
@@ -236,7 +235,7 @@ further-exact-in-c =
           (o, (order-named order o named, given-strides o s out n of-order)));
       npy-list = λ version start t ns s order out count r out′ count′ h.
           let next : Version → Order → Outcome (List ℕ) = λ v o. listed v start t ns s o out in
-          takes-in-c (both version order) _ both-values (λ a. Listed (a .0) start t ns s (a .1) out) (both-names version order _) (λ a. next (a .0) (a .1)) out (both-numbered version order)
+          takes-in-c (both version order) _ both-values (λ a. Listing-is (a .0) start t ns s (a .1) out) (both-names version order _) (λ a. next (a .0) (a .1)) out (both-numbered version order)
           (λ a. listed-numbered (a .0) start t ns s (a .1) out) (λ a. listed-due start t ns s out (a .0) (a .1)) count r out′ count′
           (subst (λ (put : Outcome (List ℕ)). Puts put out count r out′ count′) (by-both next (versionOf version 0) (orderFor order)) h);
       npy-read-bytes = λ run order letter size units out.

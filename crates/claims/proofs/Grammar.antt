@@ -1,5 +1,5 @@
 -- Some reading keeps the promise, the literal's own; and for each text one outcome keeps it (specs/Grammar.antt).
-use Rattle.literal_grammar.specs.Nesting.{most-open}
+use Rattle.literal_grammar.specs.Value.{most-open}
 use Rattle.literal_grammar.proofs.Kept.{one-outcome-at}
 use Rattle.judge.specs.Judged.{reading}
 use Rattle.judge.proofs.Top.{reading-keeps}

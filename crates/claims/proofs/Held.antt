@@ -21,7 +21,7 @@ use Rattle.judge.specs.Judged.{reading}
 use Rattle.judge.proofs.Top.{reading-keeps}
 use Rattle.header.specs.declared.HeaderRead.{HeaderRead}
 use Rattle.header.specs.Reads.{headerInfo, answer, afterPrefix, heldInto}
-use Rattle.npy_codes.proofs.Named.{retold}
+use Rattle.npy_codes.proofs.Then.{returns-same}
 use Rattle.claims.specs.Held.{Held-enough}
 use Rattle.claims.proofs.Readings.{read-held-tied, npy-read-held-tied}
 
@@ -86,12 +86,12 @@ held-enough =
                 let same = front-within k file twelve longer ends l in
                 npy-read-held-tied false file l said r l′ said′
                 (record {
-                  answered = retold (ap (each headerInfo) same) (h .answered reading reading-keeps);
+                  answered = returns-same (ap (each headerInfo) same) (h .answered reading reading-keeps);
                   rooms = h .after reading reading-keeps ∙ ap (λ (o : Outcome header.Header). afterwards header.holdingHeader o l) same;
                 });
             past = λ p e ends.
                 let same = front-past k file twelve longer p e ends l in
-                let t = retold (ap (each headerInfo) same) (h .answered reading reading-keeps) in
+                let t = returns-same (ap (each headerInfo) same) (h .answered reading reading-keeps) in
                 (t .answered, h .after reading reading-keeps ∙ ap (λ (o : Outcome header.Header). afterwards header.holdingHeader o l) same, t .after);
           };
     }

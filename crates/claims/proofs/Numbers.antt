@@ -7,11 +7,9 @@ use mathlib.Core.List.{List, [], _∷_}
 use lib.Dec.{leb, ltb, eqb}
 use lib.ListN.{length}
 use Rattle.counts.specs.Outcome.{Outcome, gives, refused, then, each, unless}
-use Rattle.counts.specs.Same.{same}
+use Rattle.counts.specs.Lists.{same}
 use Rattle.utf8_scalar.specs.Scalar.{isScalar, allScalars}
-use Rattle.type_letters.specs.Orders.{orderOf}
-use Rattle.type_letters.specs.Letters.{letterOf}
-use Rattle.type_letters.specs.Classes.{isUnicode, isBytes, isRaw}
+use Rattle.type_letters.specs.Letters.{orderOf, letterOf, isUnicode, isBytes, isRaw}
 use Rattle.type_letters.specs.declared.Endianness.{Endianness}
 use Rattle.type_units.specs.Units.{units}
 use Rattle.type_str.specs.declared.TypeStr.{TypeStr}
@@ -23,12 +21,10 @@ use Rattle.dtype.specs.Entries.{hasObject}
 use Rattle.dtype.specs.Shape.{product, inRange, item}
 use Rattle.dtype.specs.Record.{Record, table, names, unflat, tableOf}
 use Rattle.dtype.specs.Limits.{overDimensions, overShape, limited}
-use Rattle.dtype.specs.Places.{dataBytes, place}
-use Rattle.dtype.specs.Paths.{plainAt, plainOf}
+use Rattle.dtype.specs.Places.{dataBytes, place, plainAt, plainOf}
 use Rattle.shape.specs.Count.{itemCount, stridesCount}
 use Rattle.literal_grammar.specs.Print.{valueOf}
-use Rattle.record.specs.Version.{Version, versionOf}
-use Rattle.record.specs.Prefix.{most-text, Prefix, prefix, textHeld}
+use Rattle.record.specs.Prefix.{Version, versionOf, most-text, Prefix, prefix, textHeld}
 use Rattle.record.specs.Rooms.{needs, tooSmall, Lent, roomsOf}
 use Rattle.record.specs.Header as header
 use Rattle.record.specs.Layout.{headerLayout}
@@ -51,7 +47,7 @@ use Rattle.record.specs.Header.{afterPrefixBy, heldBy, textBy}
 use Rattle.write.specs.Writes.{headerWritten}
 use Rattle.list_text.specs.Listing.{listing}
 use Rattle.list_record.specs.Answer.{listed}
-use Rattle.npy_codes.specs.Numbers.{orderFor, typeFor}
+use Rattle.npy_codes.specs.Codes.{orderFor, typeFor}
 use Rattle.record.proofs.Numbers.{Number, Numbered, an-answer, a-number, cond-numbered, unless-numbered, then-numbered, each-numbered, limited-numbered, in-numbered, version-numbered, prefix-numbered, stored-numbered, part-numbered}
 
 held-numbered : (longer : Bool) (p : Prefix) (file : List ℕ) → Numbered (textHeld longer p file)

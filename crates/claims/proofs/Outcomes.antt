@@ -4,7 +4,7 @@ use mathlib.Core.Path.{sym, ap, _∙_}
 use mathlib.Core.Bool.{Bool, false}
 use mathlib.Core.List.{List}
 use lib.ListN.{length}
-use Rattle.counts.specs.Front.{atFront}
+use Rattle.counts.specs.Lists.{atFront}
 use Rattle.judge.specs.Judged.{reading}
 use Rattle.judge.proofs.Top.{reading-keeps}
 use Rattle.utf8_scalar.proofs.Outcomes.{encode-one}
@@ -79,19 +79,19 @@ one-outcome-in-c =
       npy-read-text = λ text l said x y p q.
           npy.npy-read-text-one text l said x y (record { answered = p .answered reading reading-keeps; rooms = p .after reading reading-keeps })
           (record { answered = q .answered reading reading-keeps; rooms = q .after reading reading-keeps });
-      npy-check = λ t ns s order said x y p q. npy.told-one _ _ said x y (p .answered) (q .answered);
+      npy-check = λ t ns s order said x y p q. npy.call-one _ _ said x y (p .answered) (q .answered);
       npy-write-header = λ t ns s order out count x y p q. npy.npy-write-header-one t ns s order out count x y (p .writes) (q .writes);
       npy-list = λ version start t ns s order out count. npy.npy-list-one version start t ns s order out count;
-      npy-count = λ s order count. npy.told-one _ _ count;
+      npy-count = λ s order count. npy.call-one _ _ count;
       npy-strides = λ s order out count. npy.npy-strides-one s order out count;
-      npy-item-number = λ s order x item. npy.told-one _ _ item;
-      npy-place = λ file start t ns s order x p run. npy.told-one _ _ run;
+      npy-item-number = λ s order x item. npy.call-one _ _ item;
+      npy-place = λ file start t ns s order x p run. npy.call-one _ _ run;
       npy-element-bytes = λ file start t ns s order x p out count. npy.puts-one _ out count;
       npy-element-points = λ file start t ns s order x p out count. npy.puts-one _ out count;
       npy-read-bytes = λ run order letter size units out count. npy.puts-one _ out count;
       npy-read-points = λ run order letter size units out count. npy.puts-one _ out count;
       npy-write-bytes = λ order letter size units value out count. npy.puts-one _ out count;
       npy-write-points = λ order letter size units value out count. npy.puts-one _ out count;
-      npy-type-read = λ text said. npy.told-one _ _ said;
+      npy-type-read = λ text said. npy.call-one _ _ said;
       npy-type-print = λ order letter size units out count. npy.npy-type-print-one order letter size units out count;
     }

@@ -18,8 +18,7 @@ use Rattle.dtype.specs.Entries.{hasObject}
 use Rattle.dtype.specs.PlainBytes.{plainBytes}
 use Rattle.dtype.specs.Shape.{inRange}
 use Rattle.dtype.specs.Record.{Record}
-use Rattle.dtype.specs.Paths.{plainAt}
-use Rattle.dtype.specs.Places.{dataBytes, place, Ask}
+use Rattle.dtype.specs.Places.{plainAt, dataBytes, place, Ask}
 use Rattle.dtype.proofs.Runs.{Belongs, Path-to, runOf, run}
 use Rattle.dtype.proofs.Items.{range-true}
 use Rattle.dtype.proofs.Paths.{path-plain}
@@ -34,16 +33,15 @@ use Rattle.place.proofs.Outcomes.{place-one}
 use Rattle.place.proofs.Walks.{path-or-none, plain-path}
 use Rattle.place_item.proofs.Sums.{range-of}
 use Rattle.header.specs.Reads.{infoOf, headerInfo, answer}
-use Rattle.npy_codes.specs.Codes.{code, Returns}
-use Rattle.npy_codes.specs.Numbers.{orderNumber, headerValues, runValues}
-use Rattle.npy_codes.proofs.Named.{retold}
+use Rattle.npy_codes.specs.Codes.{code, Returns, orderNumber, headerValues, runValues}
+use Rattle.npy_codes.proofs.Then.{returns-same}
 use Rattle.claims.specs.Functions.{Place}
 use Rattle.claims.specs.InC.{Npy-place}
 use Rattle.claims.specs.Places.{Owns, Owned, Record-owned, Record-owned-in-C, Header-stored, Data-owned, Data-owned-in-C}
 use Rattle.claims.proofs.WasRead.{values-one, valid-own}
 use Rattle.claims.specs.Doors.{in-rattle}
 use Rattle.claims.proofs.Doors.{rattle-fails, succeeded}
-use Rattle.claims.proofs.Found.{told-value, order-back, read-was, npy-read-was}
+use Rattle.claims.proofs.Found.{found-value, order-back, read-was, npy-read-was}
 use Rattle.claims.proofs.Numbers.{place-numbered}
 
 -- ---- a path to a plain type, or 26
@@ -128,18 +126,18 @@ place-answers file start t ns s o =
 
 -- ---- `npy_place`, with the number of an order
 module _ (file start : ℕ) (t ns s : List ℕ) (o : Order) (room : List ℕ) where
-  told-place : (x p : List ℕ) (r : ℕ) (room′ : List ℕ) → Npy-place file start t ns s (orderNumber o) x p room r room′
+  returned-place : (x p : List ℕ) (r : ℕ) (room′ : List ℕ) → Npy-place file start t ns s (orderNumber o) x p room r room′
       → Returns runValues (placeOf file start t ns s o x p) room r room′
-  told-place x p r room′ c = retold (ap (λ (g : Outcome Order). then g (λ o. placeOf file start t ns s o x p)) (order-back o)) c
+  returned-place x p r room′ c = returns-same (ap (λ (g : Outcome Order). then g (λ o. placeOf file start t ns s o x p)) (order-back o)) c
 
   npy-place-answers : Answers {Y = ℕ × List ℕ} (λ x p y. Npy-place file start t ns s (orderNumber o) x p room (y .0) (y .1)) (λ u. (0, runValues u)) (26, room) (placeOf file start t ns s o)
   npy-place-answers =
       record {
         run-is = λ x p y u c e.
-            let h = told-place x p (y .0) (y .1) c in
+            let h = returned-place x p (y .0) (y .1) c in
             pair-of (h .answered ∙ ap code e) (h .after ∙ ap (λ (q : Outcome Run). afterwards (λ a old. runValues a) q room) e);
         none-is = λ x p y c e.
-            let h = told-place x p (y .0) (y .1) c in
+            let h = returned-place x p (y .0) (y .1) c in
             pair-of (h .answered ∙ ap code e) (h .after ∙ ap (λ (q : Outcome Run). afterwards (λ a old. runValues a) q room) e);
       }
 

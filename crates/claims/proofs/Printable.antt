@@ -4,8 +4,7 @@ use mathlib.Core.Path.{_≡_, sym, ap, subst}
 use mathlib.Core.Bool.{false, not}
 use mathlib.Core.List.{[]}
 use borrow.Author.Tests.{not-false}
-use Rattle.literal_grammar.specs.Value.{Value}
-use Rattle.literal_grammar.specs.Nesting.{most-open, Within}
+use Rattle.literal_grammar.specs.Value.{Value, most-open, Within}
 use Rattle.literal_grammar.specs.Grammar.{Gives}
 use Rattle.literal_grammar.specs.Print.{valueOf}
 use Rattle.literal_grammar.proofs.Printed.{print-gives}

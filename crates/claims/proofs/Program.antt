@@ -3,7 +3,7 @@ use Prim.Native.Nat.{ℕ, suc, _≤_}
 use mathlib.Core.Path.{_≡_, sym, ap, subst, _∙_}
 use mathlib.Core.List.{List}
 use lib.ListN.{length, take}
-use Rattle.counts.specs.Front.{atFront}
+use Rattle.counts.specs.Lists.{atFront}
 use Rattle.record.specs.Header.{Reading, Keeps}
 use Rattle.list_file.specs.Report.{held-bytes}
 use Rattle.list_file.proofs.Enough.{front-reports, report-fits}

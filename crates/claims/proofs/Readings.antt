@@ -7,7 +7,7 @@ use mathlib.Core.List.{List}
 use lib.Dec.{ltb}
 use lib.ListN.{length, take}
 use Rattle.counts.specs.declared.Bytes.{Bytes}
-use Rattle.counts.specs.Front.{atFront}
+use Rattle.counts.specs.Lists.{atFront}
 use Rattle.counts.specs.Outcome.{Outcome, each, afterwards}
 use Rattle.refusal.specs.declared.BytesAnswer.{BytesAnswer}
 use Rattle.dtype.specs.Record.{Record}
@@ -21,7 +21,7 @@ use Rattle.header.specs.declared.HeaderRead.{HeaderRead}
 use Rattle.header.specs.Reads as reads
 use Rattle.list_file.specs.Report.{held-bytes, fresh, textFor, reportOf, Reports, WritesText}
 use Rattle.list_file.specs.Enough.{WritesReport}
-use Rattle.npy_codes.proofs.Named.{retold}
+use Rattle.npy_codes.proofs.Then.{returns-same}
 use Rattle.npy.specs.Calls as npy
 use Rattle.claims.specs.Functions.{Read, Read-held, Read-text, reportBy, Report, Report-whole}
 use Rattle.claims.specs.InC.{Npy-read, Npy-read-held, Npy-read-text}
@@ -72,20 +72,20 @@ report-whole-tied file out n out′ h =
 
 -- ---- the same in C
 pub npy-read-held-tied : (longer : Bool) (file : List ℕ) (l : Lent) (said : List ℕ) (r : ℕ) (l′ : Lent) (said′ : List ℕ)
-    → npy.ReadsHeld longer file l said r l′ said′ → Npy-read-held longer file l said r l′ said′
+    → npy.ReadsHeldInC longer file l said r l′ said′ → Npy-read-held longer file l said r l′ said′
 npy-read-held-tied longer file l said r l′ said′ h =
     record {
-      answered = λ other keeps. retold (ap (each reads.headerInfo) (held-same other keeps longer file l)) (h .answered);
+      answered = λ other keeps. returns-same (ap (each reads.headerInfo) (held-same other keeps longer file l)) (h .answered);
       after = λ other keeps. h .rooms ∙ ap (λ (o : Outcome header.Header). afterwards header.holdingHeader o l) (held-same other keeps longer file l);
     }
 
-pub npy-read-tied : (file : List ℕ) (l : Lent) (said : List ℕ) (r : ℕ) (l′ : Lent) (said′ : List ℕ) → npy.Reads file l said r l′ said′ → Npy-read file l said r l′ said′
+pub npy-read-tied : (file : List ℕ) (l : Lent) (said : List ℕ) (r : ℕ) (l′ : Lent) (said′ : List ℕ) → npy.ReadsInC file l said r l′ said′ → Npy-read file l said r l′ said′
 npy-read-tied file l said r l′ said′ h = npy-read-held-tied false file l said r l′ said′ h
 
 pub npy-read-text-tied : (text : List ℕ) (l : Lent) (said : List ℕ) (r : ℕ) (l′ : Lent) (said′ : List ℕ)
-    → npy.ReadsText text l said r l′ said′ → Npy-read-text text l said r l′ said′
+    → npy.ReadsTextInC text l said r l′ said′ → Npy-read-text text l said r l′ said′
 npy-read-text-tied text l said r l′ said′ h =
     record {
-      answered = λ other keeps. retold (ap (each reads.infoOf) (text-same other keeps text l)) (h .answered);
+      answered = λ other keeps. returns-same (ap (each reads.infoOf) (text-same other keeps text l)) (h .answered);
       after = λ other keeps. h .rooms ∙ ap (λ (o : Outcome Record). afterwards holding o l) (text-same other keeps text l);
     }

@@ -4,7 +4,7 @@ use mathlib.Core.Path.{_≡_, refl, sym, _∙_}
 use mathlib.Core.List.{List}
 use lib.ListN.{length}
 use Rattle.counts.specs.Outcome.{Outcome, gives, refused, afterwards}
-use Rattle.counts.specs.Front.{atFront}
+use Rattle.counts.specs.Lists.{atFront}
 use Rattle.counts.proofs.Owes.{afterwards-refused, owes-unchanged}
 use Rattle.counts.proofs.Apart.{refused-gives}
 use Rattle.dtype.specs.Shape as shape

@@ -6,10 +6,8 @@ use mathlib.Core.Bool.{false, _||_}
 use lib.Dec.{ltb}
 use lib.ListN.{length}
 use borrow.Author.Tests.{ltb-false, le-ltb}
-use Rattle.dtype.specs.Flat.{entry-width}
+use Rattle.dtype.specs.Record.{entry-width, nameBytes, Record, table, names}
 use Rattle.dtype.specs.Entries.{entriesOf}
-use Rattle.dtype.specs.Names.{nameBytes}
-use Rattle.dtype.specs.Record.{Record, table, names}
 use Rattle.dtype.proofs.Seen.{or-left, or-right}
 use Rattle.record.specs.Rooms.{needs, tooSmall, Lent, roomsOf}
 use Rattle.read_back.proofs.Rooms.{table-whole, names-whole}

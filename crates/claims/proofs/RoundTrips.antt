@@ -10,7 +10,7 @@ use lib.Dec.{ltb}
 use lib.ListN.{length, take}
 use borrow.Author.Tests.{lt-ltb, le-ltb}
 use Rattle.counts.specs.Outcome.{Outcome, gives, refused, then, each, unless, afterwards}
-use Rattle.counts.specs.Front.{atFront}
+use Rattle.counts.specs.Lists.{atFront}
 use Rattle.counts.specs.Owes.{roomed}
 use Rattle.counts.proofs.Owes.{roomed-whole, roomed-short}
 use Rattle.counts.proofs.Holds.{Holds, then-any, unless-holds, holds-of, then-back, each-back}
@@ -37,16 +37,15 @@ use Rattle.judge.specs.Judged.{reading}
 use Rattle.judge.proofs.Top.{reading-keeps}
 use Rattle.header.specs.Reads.{HeaderInfo, headerInfo, answer, heldInto, infoOf}
 use Rattle.write.specs.Writes.{headerWritten}
-use Rattle.read_back.specs.Rooms.{tableIn, namesIn, shapeIn}
+use Rattle.read_back.specs.Rooms.{tableStored, namesStored, shapeStored}
 use Rattle.read_back.proofs.Accepted.{valid-sound}
 use Rattle.read_back.proofs.Rooms.{front, table-whole, names-whole}
-use Rattle.npy_codes.specs.Codes.{alone}
-use Rattle.npy_codes.specs.Numbers.{orderFor, headerValues}
-use Rattle.npy_codes.proofs.Named.{retold}
+use Rattle.npy_codes.specs.Codes.{oneNumber, orderFor, headerValues}
+use Rattle.npy_codes.proofs.Then.{returns-same}
 use Rattle.claims.specs.Doors.{Door, in-rattle, in-c}
 use Rattle.claims.specs.RoundTrips.{Comes-back, Read-back, Npy-read-back, Written-read, Written-read-in-C, Goes-again, Read-written, Read-written-in-C}
 use Rattle.claims.proofs.Doors.{c-returned}
-use Rattle.claims.proofs.Found.{told-value, order-named, order-back, Was-read, read-was, npy-read-was, by-whole}
+use Rattle.claims.proofs.Found.{found-value, order-named, order-back, Was-read, read-was, npy-read-was, by-whole}
 use Rattle.record.proofs.Numbers.{each-numbered, then-numbered}
 use Rattle.claims.proofs.Numbers.{for-numbered, header-written-numbered}
 use Rattle.claims.proofs.WasRead.{values-one, says-is, valid-own}
@@ -150,7 +149,7 @@ pub written-read-in-c : Written-read-in-C
 written-read-in-c t ns s order out out′ count n h =
     let put = then (orderFor order) (λ o. headerWritten t ns s o out) in
     let numbered = then-numbered (orderFor order) (λ o. headerWritten t ns s o out) (for-numbered order) (λ o. header-written-numbered t ns s o out) in
-    let (m, e, v) = told-value (each length put) (each-numbered length put numbered) (h .writes .answered) in
+    let (m, e, v) = found-value (each length put) (each-numbered length put numbered) (h .writes .answered) in
     let (bytes, is, len) = each-back length put m e in
     let (o, named, written-is) = then-back (orderFor order) (λ o. headerWritten t ns s o out) bytes is in
     let same : m ≡ n = cc in
@@ -209,7 +208,7 @@ read-written-in-c file l l′ said said′ h c e held out out′ count count′ 
     let (sound, only) = writes-so file l l′ i w (h .says) (says-is file l l′ i w h info-is held) in
     let n = infoOf (h .says) in
     let is =
-    ap (λ (g : Outcome Order). then g (λ o. headerWritten (tableIn n l′) (namesIn n l′) (shapeIn n l′) o out)) (order-back (n .order))
+    ap (λ (g : Outcome Order). then g (λ o. headerWritten (tableStored n l′) (namesStored n l′) (shapeStored n l′) o out)) (order-back (n .order))
     ∙ ap (λ (c : Outcome Record). then c (λ r. writing r out)) (valid-checked _ _ _ _ _ own) in
-    goes-again (in-c alone count) (h .says) out (v, count′) out′ _ (only out) (c-returned (retold (ap (each length) is) (k .writes .answered)))
+    goes-again (in-c oneNumber count) (h .says) out (v, count′) out′ _ (only out) (c-returned (returns-same (ap (each length) is) (k .writes .answered)))
     (k .writes .room-after ∙ ap (λ (o : Outcome (List ℕ)). afterwards atFront o out) is) (λ e. npy-sound-back (h .says) sound out e)

@@ -14,9 +14,9 @@ use Rattle.check_record.specs.Valid.{Valid}
 use Rattle.check_record.proofs.Accepts.{checked-valid}
 use Rattle.header.specs.declared.RecordInfo.{RecordInfo}
 use Rattle.header.specs.Reads.{HeaderInfo, infoOf}
-use Rattle.read_back.specs.Rooms.{tableIn, namesIn, shapeIn}
+use Rattle.read_back.specs.Rooms.{tableStored, namesStored, shapeStored}
 use Rattle.read_back.proofs.Rooms.{fronts-by}
-use Rattle.npy_codes.specs.Numbers.{orderNumber, orderFor, headerValues}
+use Rattle.npy_codes.specs.Codes.{orderNumber, orderFor, headerValues}
 use Rattle.claims.proofs.Found.{order-back, Was-read, in-rooms-checked}
 
 -- ---- the values in C determine all but the version
@@ -53,7 +53,7 @@ module _ (file : List ℕ) (l l′ : Lent) (i : HeaderInfo) (w : Was-read file l
 
   -- the fronts of the rooms are the record of h, which is valid
   abbrev fronts-valid : Record → RecordInfo → Type 0
-  fronts-valid r i = Valid (tableIn i l′) (namesIn i l′) (shapeIn i l′) (i .order) r
+  fronts-valid r i = Valid (tableStored i l′) (namesStored i l′) (shapeStored i l′) (i .order) r
 
   pub valid-own : fronts-valid (h .says) (infoOf (h .says))
   valid-own =

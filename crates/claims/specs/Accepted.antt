@@ -5,7 +5,7 @@ use Prim.Native.Nat.{ℕ}
 use mathlib.Core.Path.{_≡_}
 use mathlib.Core.Bool.{true}
 use mathlib.Core.List.{List}
-use Rattle.counts.specs.AllBytes.{AllBytes}
+use Rattle.counts.specs.Lists.{AllBytes}
 use Rattle.counts.specs.Outcome.{gives}
 use Rattle.dtype.specs.declared.Order.{Order}
 use Rattle.dtype.specs.Record.{Record}
@@ -20,7 +20,7 @@ use Rattle.header.specs.declared.RecordInfo.{RecordInfo}
 use Rattle.header.specs.declared.TextRead.{TextRead}
 use Rattle.header.specs.Reads.{HeaderInfo, answer, textAnswer, lent}
 use Rattle.read_back.specs.Rooms.{Fronts, Holds}
-use Rattle.npy_codes.specs.Numbers.{orderNumber, textValues, summaryValues}
+use Rattle.npy_codes.specs.Codes.{orderNumber, textValues, summaryValues}
 use Rattle.claims.specs.Doors.{Door, in-rattle, in-c}
 use Rattle.claims.specs.Exact.{In-text, Printable}
 use Rattle.claims.specs.Functions.{Read, Read-text, Check}

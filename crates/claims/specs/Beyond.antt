@@ -11,8 +11,8 @@ use Rattle.refusal.specs.Answers.{itemsAnswer, bytesAnswer, pointsAnswer}
 use Rattle.counts.specs.Outcome.{Outcome, gives}
 use Rattle.type_str.specs.declared.TypeStr.{TypeStr}
 use Rattle.dtype.specs.declared.Order.{Order}
-use Rattle.dtype.specs.Flat.{entry-width}
-use Rattle.record.specs.Version.{Version}
+use Rattle.dtype.specs.Record.{entry-width}
+use Rattle.record.specs.Prefix.{Version}
 use Rattle.record.specs.Rooms.{Lent}
 use Rattle.header.specs.declared.RecordInfo.{RecordInfo}
 use Rattle.header.specs.declared.TextRead.{TextRead}

@@ -12,7 +12,7 @@ use Rattle.counts.specs.Outcome.{Outcome, gives, refused, then, each}
 use Rattle.type_str.specs.TypeString.{typeString}
 use Rattle.type_str.specs.Text.{typePrinted}
 use Rattle.shape.specs.Count.{itemCount, stridesCount}
-use Rattle.record.specs.Version.{versionOf}
+use Rattle.record.specs.Prefix.{versionOf}
 use Rattle.record.specs.Rooms.{Lent}
 use Rattle.record.specs.Header.{textBy, heldBy}
 use Rattle.check_record.specs.Answer.{summary}
@@ -25,8 +25,7 @@ use Rattle.write.specs.Writes.{headerWritten}
 use Rattle.list_record.specs.Answer.{listed}
 use Rattle.string_value.specs.Rooms.{readBytes, readPoints, writeBytes, writePoints}
 use Rattle.element.specs.Element.{elementBytes, elementPoints}
-use Rattle.npy_codes.specs.Codes.{alone}
-use Rattle.npy_codes.specs.Numbers.{orderFor, typeFor, typeValues, textValues, headerValues, summaryValues, runValues}
+use Rattle.npy_codes.specs.Codes.{oneNumber, orderFor, typeFor, typeValues, textValues, headerValues, summaryValues, runValues}
 use Rattle.claims.specs.Beyond.{Same-rest}
 use Rattle.claims.specs.Functions.{By-grammar}
 use Rattle.claims.specs.InC.{Npy-read-held, Npy-read-text, Npy-check, Npy-write-header, Npy-list, Npy-count, Npy-strides, Npy-item-number, Npy-place, Npy-element-bytes, Npy-element-points, Npy-read-bytes, Npy-read-points, Npy-write-bytes, Npy-write-points, Npy-type-read, Npy-type-print}
@@ -54,7 +53,7 @@ CodedBeside {A} {M} values o Call room said =
 
 -- of a function that writes to one room, and whose value is how many bytes or code points it wrote
 abbrev pub CodedPuts : (put : Outcome (List ℕ)) → (Call : ℕ → List ℕ → List ℕ → Type 0) → (room count : List ℕ) → Type 0
-CodedPuts put = CodedBeside alone (each length put)
+CodedPuts put = CodedBeside oneNumber (each length put)
 
 -- the claim: 0 is a value and never a refusal, any other number is a refusal
 pub record Zero-answers : Type 0 where
@@ -69,10 +68,10 @@ pub record Zero-answers : Type 0 where
       → CodedPuts (then (orderFor order) (λ o. headerWritten t ns s o out)) (Npy-write-header t ns s order out count) out count
   pub npy-list : (version start : ℕ) (t ns s : List ℕ) (order : ℕ) (out count : List ℕ)
       → CodedPuts (then (versionOf version 0) (λ v. then (orderFor order) (λ o. listed v start t ns s o out))) (Npy-list version start t ns s order out count) out count
-  pub npy-count : (s : List ℕ) (order : ℕ) (count : List ℕ) → CodedAlone alone (then (orderFor order) (λ o. itemCount o s)) (Npy-count s order count) count
+  pub npy-count : (s : List ℕ) (order : ℕ) (count : List ℕ) → CodedAlone oneNumber (then (orderFor order) (λ o. itemCount o s)) (Npy-count s order count) count
   pub npy-strides : (s : List ℕ) (order : ℕ) (out count : List ℕ)
-      → CodedBeside alone (then (orderFor order) (λ o. stridesCount o s (length out))) (Npy-strides s order out count) out count
-  pub npy-item-number : (s : List ℕ) (order : ℕ) (x item : List ℕ) → CodedAlone alone (then (orderFor order) (λ o. itemOf o s x)) (Npy-item-number s order x item) item
+      → CodedBeside oneNumber (then (orderFor order) (λ o. stridesCount o s (length out))) (Npy-strides s order out count) out count
+  pub npy-item-number : (s : List ℕ) (order : ℕ) (x item : List ℕ) → CodedAlone oneNumber (then (orderFor order) (λ o. itemOf o s x)) (Npy-item-number s order x item) item
   pub npy-place : (file start : ℕ) (t ns s : List ℕ) (order : ℕ) (x p run : List ℕ)
       → CodedAlone runValues (then (orderFor order) (λ o. placeOf file start t ns s o x p)) (Npy-place file start t ns s order x p run) run
   pub npy-element-bytes : (file : List ℕ) (start : ℕ) (t ns s : List ℕ) (order : ℕ) (x p out count : List ℕ)

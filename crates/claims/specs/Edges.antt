@@ -1,12 +1,12 @@
 -- Document 01, "What counts as an answer": "The cases marked P form one proved table under a single claim". They are the lines marked P of "Both sides of each edge (P:
 -- proved)": those about type strings, and those about sizes, strides, shapes and places.
-use Prim.Native.Nat.{ℕ}
+use Prim.Native.Nat.{ℕ, _≤_}
 use mathlib.Core.Path.{_≡_}
 use mathlib.Core.Bool.{false}
 use mathlib.Core.List.{List, [], _∷_}
+use lib.ListN.{length}
 use Rattle.counts.specs.Outcome.{gives}
-use Rattle.literal_grammar.specs.Value.{Value, string, integer, list, tuple, end-of-values, value-then}
-use Rattle.literal_grammar.specs.Nesting.{most-open}
+use Rattle.literal_grammar.specs.Value.{Value, string, integer, list, tuple, end-of-values, value-then, most-open}
 use Rattle.literal_grammar.specs.Print.{spaces}
 use Rattle.literal_grammar.specs.Promise.{GivesIn}
 use Rattle.record.specs.Descr.{descrOf}
@@ -15,10 +15,10 @@ use Rattle.type_letters.specs.declared.TypeChar.the-variants.{Int}
 use Rattle.type_units.specs.declared.TimeUnits.the-variants.{Absent}
 use Rattle.dtype.specs.declared.Order.the-variants.{C}
 use Rattle.dtype.specs.Dtype.{plain}
-use Rattle.dtype.specs.Record.{Record}
-use Rattle.record.specs.Version.{one-zero}
+use Rattle.dtype.specs.Record.{Record, table}
+use Rattle.record.specs.Prefix.{one-zero}
 use Rattle.record.specs.File.{fileOf}
-use Rattle.claims.specs.Exact.{In-file}
+use Rattle.claims.specs.Exact.{In-file, Writable}
 use Rattle.type_read.specs.Edges as types
 use Rattle.dtype.specs.Edges as dtypes
 
@@ -54,12 +54,14 @@ three = record { dtype = plain (record { order = Little; letter = Int; size = 4;
 -- the claim
 pub record Edges : Type 0 where
   -- `|i1`, `<i08`, `>U0`; `|O4`: 15, `>i` and 30 nines: 16, `|i9`: 17, `>i9`: 18, `>m8`: 19
-  pub type-strings : types.Edges
+  pub type-strings : types.TypeEdges
   -- (2,3), rank 0, (0, 2^40, 2^40), 2^32 by 2^32, and the record of 26 bytes
-  pub records : dtypes.Edges
+  pub records : dtypes.TableEdges
   -- `[('a', '<i2'), ('b', '<U3', (2,))]` gives this value by the grammar, and the value as a `descr` gives that record of 26 bytes
   pub a-and-b-given : GivesIn most-open a-and-b-text a-and-b-value
   pub a-and-b-read : descrOf a-and-b-value ≡ gives dtypes.a-and-b
-  -- document 01's 80 bytes are a header, of that record, with the data at 80, and they are the header that is written for it; so some file is read and some record written
+  -- document 01's 80 bytes are a header, of that record, with the data at 80, and they are the header that is written for it, to any room of 80 bytes
+  -- or more; so some file is read and some record written
   pub eighty-read : In-file eighty (record { version = one-zero; says = three; data-start = 80 })
   pub eighty-written : fileOf three ≡ eighty
+  pub eighty-writable : (room : List ℕ) → 80 ≤ length room → Writable (table (three .dtype)) [] (3 ∷ []) C room three

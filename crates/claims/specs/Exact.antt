@@ -12,9 +12,8 @@ use Rattle.refusal.specs.declared.BytesAnswer.{BytesAnswer}
 use Rattle.refusal.specs.declared.PointsAnswer.{PointsAnswer}
 use Rattle.refusal.specs.Answers.{bytesAnswer, pointsAnswer}
 use Rattle.counts.specs.Outcome.{Outcome, gives}
-use Rattle.counts.specs.Front.{atFront}
-use Rattle.literal_grammar.specs.Value.{Value}
-use Rattle.literal_grammar.specs.Nesting.{most-open}
+use Rattle.counts.specs.Lists.{atFront}
+use Rattle.literal_grammar.specs.Value.{Value, most-open}
 use Rattle.literal_grammar.specs.Promise.{GivesIn}
 use Rattle.utf8.specs.Utf8.{WellFormed}
 use Rattle.type_str.specs.declared.TypeStr.{TypeStr}
@@ -23,9 +22,8 @@ use Rattle.dtype.specs.declared.Order.{Order}
 use Rattle.dtype.specs.Entries.{hasObject}
 use Rattle.dtype.specs.Shape.{inRange}
 use Rattle.dtype.specs.Record.{Record, table, names}
-use Rattle.dtype.specs.Paths.{plainAt}
-use Rattle.dtype.specs.Places.{dataBytes, place}
-use Rattle.record.specs.Prefix.{most-text, Prefix, dataStart, prefix, textOf}
+use Rattle.dtype.specs.Places.{plainAt, dataBytes, place}
+use Rattle.record.specs.Prefix.{most-text, Prefix, dataStart, prefix, textOr}
 use Rattle.record.specs.FromValue.{recordOf}
 use Rattle.record.specs.Rooms.{Lent, holding}
 use Rattle.record.specs.Header.{Header}
@@ -40,8 +38,7 @@ use Rattle.place.specs.Place.{runFrom}
 use Rattle.string_value.specs.Elements.{bytesIn, pointsIn}
 use Rattle.string_value.specs.Runs.{bytesOut, pointsOut}
 use Rattle.element.specs.Bytes.{runBytes}
-use Rattle.npy_codes.specs.Codes.{alone}
-use Rattle.npy_codes.specs.Numbers.{orderNumber, typeValues, headerValues, runValues}
+use Rattle.npy_codes.specs.Codes.{oneNumber, orderNumber, typeValues, headerValues, runValues}
 use Rattle.claims.specs.Doors.{Door, in-rattle, in-c}
 use Rattle.claims.specs.Roomy.{Roomy}
 use Rattle.claims.specs.Functions.{Read-held, Write-header, Place, Element-bytes, Element-points, Write-bytes, Write-points}
@@ -65,7 +62,7 @@ pub record In-file (file : List ℕ) (h : Header) : Type 0 where
   pub front : Prefix
   pub begins : prefix file ≡ gives front
   pub text : List ℕ
-  pub whole : textOf front file ≡ gives text
+  pub whole : textOr 3 front file ≡ gives text
   pub says : In-text text (h .says)
   pub version-is : h .version ≡ front .version
   pub data-starts : h .data-start ≡ dataStart front
@@ -97,7 +94,7 @@ Writes-exactly door Due = Exactly door Due (λ r. length (fileOf r)) (λ r. atFr
 
 -- ---- places
 -- the caller's record is r, without an `O`; the file is long enough for its data; the index x is in range, and the path p leads to the plain type k
-pub record Named (file start : ℕ) (t ns s : List ℕ) (o : Order) (x p : List ℕ) (r : Record) (k : TypeStr) : Type 0 where
+pub record Place-is (file start : ℕ) (t ns s : List ℕ) (o : Order) (x p : List ℕ) (r : Record) (k : TypeStr) : Type 0 where
   pub valid : Valid t ns s o r
   pub no-object : hasObject (r .dtype) ≡ false
   pub long : start + dataBytes r ≤ file
@@ -113,7 +110,7 @@ Places-exactly door Due start x p y = Exactly {M = Unit {0}} door Due (λ a. run
 pub record Element (within : TypeStr → List ℕ → Outcome (List ℕ)) (file : List ℕ) (start : ℕ) (t ns s : List ℕ) (o : Order) (x p room content : List ℕ) : Type 0 where
   pub says : Record
   pub kind : TypeStr
-  pub named : Named (length file) start t ns s o x p says kind
+  pub named : Place-is (length file) start t ns s o x p says kind
   pub is : within kind (runBytes file (runFrom (place start says x p) kind)) ≡ gives content
   pub fits : length content ≤ length room
 
@@ -146,7 +143,7 @@ pub record Exact : Type 0 where
   pub write-header : (t ns s : List ℕ) (o : Order) (out : List ℕ) (w : BytesAnswer) (out′ : List ℕ) → Write-header t ns s o out w out′
       → Writes-exactly in-rattle (Writable t ns s o out) out (bytesAnswer w) out′
   pub place : (file start : ℕ) (t ns s : List ℕ) (o : Order) (x p : List ℕ) (y : Placed) → Place file start t ns s o x p y
-      → Places-exactly in-rattle (λ a. Named file start t ns s o x p (a .0) (a .1)) start x p (place-answer.answer y)
+      → Places-exactly in-rattle (λ a. Place-is file start t ns s o x p (a .0) (a .1)) start x p (place-answer.answer y)
   pub element-bytes : (file : List ℕ) (start : ℕ) (t ns s : List ℕ) (o : Order) (x p out : List ℕ) (y : BytesAnswer) (out′ : List ℕ)
       → Element-bytes file start t ns s o x p out y out′
       → Takes-exactly in-rattle (Element bytesIn file start t ns s o x p out) out (bytesAnswer y) out′
@@ -165,18 +162,18 @@ pub record Exact-in-C : Type 0 where
   pub npy-read-held : (longer : Bool) (file : List ℕ) (l : Lent) (said : List ℕ) (r : ℕ) (l′ : Lent) (said′ : List ℕ) → Npy-read-held longer file l said r l′ said′
       → Reads-exactly (in-c headerValues said) file l (r, said′) l′
   pub npy-write-header : (t ns s : List ℕ) (order : ℕ) (out count : List ℕ) (r : ℕ) (out′ count′ : List ℕ) → Npy-write-header t ns s order out count r out′ count′
-      → Writes-exactly (in-c alone count) (By-order order (λ o. Writable t ns s o out)) out (r, count′) out′
+      → Writes-exactly (in-c oneNumber count) (By-order order (λ o. Writable t ns s o out)) out (r, count′) out′
   pub npy-place : (file start : ℕ) (t ns s : List ℕ) (order : ℕ) (x p run : List ℕ) (r : ℕ) (run′ : List ℕ) → Npy-place file start t ns s order x p run r run′
-      → Places-exactly (in-c runValues run) (By-order order (λ o a. Named file start t ns s o x p (a .0) (a .1))) start x p (r, run′)
+      → Places-exactly (in-c runValues run) (By-order order (λ o a. Place-is file start t ns s o x p (a .0) (a .1))) start x p (r, run′)
   pub npy-element-bytes : (file : List ℕ) (start : ℕ) (t ns s : List ℕ) (order : ℕ) (x p out count : List ℕ) (r : ℕ) (out′ count′ : List ℕ)
       → Npy-element-bytes file start t ns s order x p out count r out′ count′
-      → Takes-exactly (in-c alone count) (By-order order (λ o. Element bytesIn file start t ns s o x p out)) out (r, count′) out′
+      → Takes-exactly (in-c oneNumber count) (By-order order (λ o. Element bytesIn file start t ns s o x p out)) out (r, count′) out′
   pub npy-element-points : (file : List ℕ) (start : ℕ) (t ns s : List ℕ) (order : ℕ) (x p out count : List ℕ) (r : ℕ) (out′ count′ : List ℕ)
       → Npy-element-points file start t ns s order x p out count r out′ count′
-      → Takes-exactly (in-c alone count) (By-order order (λ o. Element pointsIn file start t ns s o x p out)) out (r, count′) out′
+      → Takes-exactly (in-c oneNumber count) (By-order order (λ o. Element pointsIn file start t ns s o x p out)) out (r, count′) out′
   pub npy-write-bytes : (order letter size units : ℕ) (value out count : List ℕ) (r : ℕ) (out′ count′ : List ℕ)
       → Npy-write-bytes order letter size units value out count r out′ count′
-      → Takes-exactly (in-c alone count) (By-type order letter size units (λ k. By-itself k (bytesOut k value) out)) out (r, count′) out′
+      → Takes-exactly (in-c oneNumber count) (By-type order letter size units (λ k. By-itself k (bytesOut k value) out)) out (r, count′) out′
   pub npy-write-points : (order letter size units : ℕ) (value out count : List ℕ) (r : ℕ) (out′ count′ : List ℕ)
       → Npy-write-points order letter size units value out count r out′ count′
-      → Takes-exactly (in-c alone count) (By-type order letter size units (λ k. By-itself k (pointsOut k value) out)) out (r, count′) out′
+      → Takes-exactly (in-c oneNumber count) (By-type order letter size units (λ k. By-itself k (pointsOut k value) out)) out (r, count′) out′

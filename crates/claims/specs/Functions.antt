@@ -10,7 +10,7 @@ use mathlib.Core.List.{List}
 use lib.Dec.{ltb}
 use lib.ListN.{length, take}
 use Rattle.counts.specs.declared.Bytes.{Bytes}
-use Rattle.counts.specs.Front.{atFront}
+use Rattle.counts.specs.Lists.{atFront}
 use Rattle.counts.specs.Outcome.{each, afterwards}
 use Rattle.counts.specs.Owes.{Owes}
 use Rattle.refusal.specs.declared.ItemsAnswer.{ItemsAnswer}
@@ -25,7 +25,7 @@ use Rattle.type_str.specs.Answer as type-str
 use Rattle.type_print.specs.Printed.{Prints}
 use Rattle.dtype.specs.declared.Order.{Order}
 use Rattle.shape.specs.Count.{itemCount, WritesStrides}
-use Rattle.record.specs.Version.{Version}
+use Rattle.record.specs.Prefix.{Version}
 use Rattle.record.specs.Rooms.{Lent, holding}
 use Rattle.record.specs.Header.{Reading, Keeps, textBy, heldBy, holdingHeader}
 use Rattle.record.specs.Sound.{Small}

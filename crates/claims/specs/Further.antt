@@ -10,7 +10,7 @@ use Rattle.refusal.specs.declared.BytesAnswer.{BytesAnswer}
 use Rattle.refusal.specs.declared.PointsAnswer.{PointsAnswer}
 use Rattle.refusal.specs.Answers.{itemsAnswer, bytesAnswer, pointsAnswer}
 use Rattle.counts.specs.Outcome.{gives}
-use Rattle.counts.specs.Front.{atFront}
+use Rattle.counts.specs.Lists.{atFront}
 use Rattle.utf8_scalar.specs.Scalar.{isScalar}
 use Rattle.utf8_scalar.specs.Encode.{encode}
 use Rattle.type_str.specs.declared.TypeStr.{TypeStr}
@@ -20,15 +20,14 @@ use Rattle.dtype.specs.Limits.{overShape}
 use Rattle.dtype.specs.Record.{Record}
 use Rattle.dtype.specs.Shape.{product, strides}
 use Rattle.record.specs.Rooms.{Lent, holding}
-use Rattle.record.specs.Version.{Version, major}
+use Rattle.record.specs.Prefix.{Version, major}
 use Rattle.check_record.specs.Valid.{Valid}
 use Rattle.header.specs.declared.RecordInfo.{RecordInfo}
 use Rattle.header.specs.declared.TextRead.{TextRead}
 use Rattle.header.specs.Reads.{infoOf, textAnswer}
 use Rattle.string_value.specs.Elements.{bytesIn, pointsIn}
 use Rattle.list_text.specs.Listing.{listing}
-use Rattle.npy_codes.specs.Codes.{alone}
-use Rattle.npy_codes.specs.Numbers.{orderNumber, textValues}
+use Rattle.npy_codes.specs.Codes.{oneNumber, orderNumber, textValues}
 use Rattle.claims.specs.Doors.{Door, in-rattle, in-c}
 use Rattle.claims.specs.Exact.{Exactly, In-text, Fits, By-itself, Takes-exactly, By-number, By-type}
 use Rattle.claims.specs.Functions.{By-grammar, Read-text, reportBy, Report, List-record, Strides, Read-bytes, Read-points, Type-print, Encode}
@@ -48,7 +47,7 @@ abbrev pub Strides-exactly : {R : Type 0} → Door ℕ R → (Due : Order → Ty
 Strides-exactly door Due s = Exactly door Due (λ o. product s) (λ o. atFront (strides o s))
 
 -- the content is the listing of the caller's record, as a header of this version with this data start, and it fits the room
-pub record Listed (v : Version) (start : ℕ) (t ns s : List ℕ) (o : Order) (room content : List ℕ) : Type 0 where
+pub record Listing-is (v : Version) (start : ℕ) (t ns s : List ℕ) (o : Order) (room content : List ℕ) : Type 0 where
   pub says : Record
   pub valid : Valid t ns s o says
   pub is : content ≡ listing v start says []
@@ -69,7 +68,7 @@ pub record Further-exact : Type 0 where
       → Strides-exactly in-rattle (λ a. (a ≡ o) × Strides-due a s out) s out (itemsAnswer y) out′
   -- `list_record::list`
   pub list : (v : Version) (start : ℕ) (t ns s : List ℕ) (o : Order) (out : List ℕ) (y : BytesAnswer) (out′ : List ℕ) → List-record v start t ns s o out y out′
-      → Takes-exactly in-rattle (Listed v start t ns s o out) out (bytesAnswer y) out′
+      → Takes-exactly in-rattle (Listing-is v start t ns s o out) out (bytesAnswer y) out′
   -- `list_file::report`; of `report_whole` see Program.antt
   pub report : (file out : List ℕ) (y : BytesAnswer) (out′ : List ℕ) → Report file out y out′
       → By-grammar (λ reading. Takes-exactly in-rattle (λ c. (c ≡ reportBy reading file) × (length c ≤ length out)) out (bytesAnswer y) out′)
@@ -89,16 +88,16 @@ pub record Further-exact-in-C : Type 0 where
   pub npy-read-text : (text : List ℕ) (l : Lent) (said : List ℕ) (r : ℕ) (l′ : Lent) (said′ : List ℕ) → Npy-read-text text l said r l′ said′
       → Reads-text-exactly (in-c textValues said) text l (r, said′) l′
   pub npy-strides : (s : List ℕ) (order : ℕ) (out count : List ℕ) (r : ℕ) (out′ count′ : List ℕ) → Npy-strides s order out count r out′ count′
-      → Strides-exactly (in-c alone count) (λ o. (order ≡ orderNumber o) × Strides-due o s out) s out (r, count′) out′
+      → Strides-exactly (in-c oneNumber count) (λ o. (order ≡ orderNumber o) × Strides-due o s out) s out (r, count′) out′
   pub npy-list : (version start : ℕ) (t ns s : List ℕ) (order : ℕ) (out count : List ℕ) (r : ℕ) (out′ count′ : List ℕ)
       → Npy-list version start t ns s order out count r out′ count′
-      → Takes-exactly (in-c alone count) (By-number {N = Version × Order} (version ∷ order ∷ []) (λ a. major (a .0) ∷ orderNumber (a .1) ∷ []) (λ a. Listed (a .0) start t ns s (a .1) out)) out (r, count′) out′
+      → Takes-exactly (in-c oneNumber count) (By-number {N = Version × Order} (version ∷ order ∷ []) (λ a. major (a .0) ∷ orderNumber (a .1) ∷ []) (λ a. Listing-is (a .0) start t ns s (a .1) out)) out (r, count′) out′
   pub npy-read-bytes : (run : List ℕ) (order letter size units : ℕ) (out count : List ℕ) (r : ℕ) (out′ count′ : List ℕ)
       → Npy-read-bytes run order letter size units out count r out′ count′
-      → Takes-exactly (in-c alone count) (By-type order letter size units (λ k. By-itself k (bytesIn k run) out)) out (r, count′) out′
+      → Takes-exactly (in-c oneNumber count) (By-type order letter size units (λ k. By-itself k (bytesIn k run) out)) out (r, count′) out′
   pub npy-read-points : (run : List ℕ) (order letter size units : ℕ) (out count : List ℕ) (r : ℕ) (out′ count′ : List ℕ)
       → Npy-read-points run order letter size units out count r out′ count′
-      → Takes-exactly (in-c alone count) (By-type order letter size units (λ k. By-itself k (pointsIn k run) out)) out (r, count′) out′
+      → Takes-exactly (in-c oneNumber count) (By-type order letter size units (λ k. By-itself k (pointsIn k run) out)) out (r, count′) out′
   pub npy-type-print : (order letter size units : ℕ) (out count : List ℕ) (r : ℕ) (out′ count′ : List ℕ)
       → Npy-type-print order letter size units out count r out′ count′
-      → Takes-exactly (in-c alone count) (By-type order letter size units (λ k. By-itself k (gives (typeText k [])) out)) out (r, count′) out′
+      → Takes-exactly (in-c oneNumber count) (By-type order letter size units (λ k. By-itself k (gives (typeText k [])) out)) out (r, count′) out′

@@ -18,8 +18,7 @@ use Rattle.place_item.specs.Item.{itemOf}
 use Rattle.place.specs.Place.{placeOf}
 use Rattle.string_value.specs.Rooms.{readBytes, readPoints, writeBytes, writePoints}
 use Rattle.element.specs.Element.{elementBytes, elementPoints}
-use Rattle.npy_codes.specs.Codes.{Returns, alone}
-use Rattle.npy_codes.specs.Numbers.{orderFor, typeFor, typeValues, textValues, headerValues, summaryValues, runValues}
+use Rattle.npy_codes.specs.Codes.{Returns, oneNumber, orderFor, typeFor, typeValues, textValues, headerValues, summaryValues, runValues}
 use Rattle.npy.specs.Calls as npy
 use Rattle.claims.specs.Functions.{By-grammar}
 
@@ -49,24 +48,24 @@ pub record Npy-check (t ns s : List ℕ) (order : ℕ) (said : List ℕ) (r : �
 pub record Npy-write-header (t ns s : List ℕ) (order : ℕ) (out count : List ℕ) (r : ℕ) (out′ count′ : List ℕ) : Type 0 where
   pub small-table : Small t
   pub small-shape : Small s
-  pub writes : npy.Writes t ns s order out count r out′ count′
+  pub writes : npy.WritesInC t ns s order out count r out′ count′
 
 -- `npy_list`
 abbrev pub Npy-list : (version start : ℕ) (t ns s : List ℕ) (order : ℕ) (out count : List ℕ) (r : ℕ) (out′ count′ : List ℕ) → Type 0
-Npy-list = npy.Lists
+Npy-list = npy.ListsInC
 
 -- ---- items and places
 -- `npy_count`
 abbrev pub Npy-count : (s : List ℕ) (order : ℕ) (count : List ℕ) (r : ℕ) (count′ : List ℕ) → Type 0
-Npy-count s order = Returns alone (then (orderFor order) (λ o. itemCount o s))
+Npy-count s order = Returns oneNumber (then (orderFor order) (λ o. itemCount o s))
 
 -- `npy_strides`
 abbrev pub Npy-strides : (s : List ℕ) (order : ℕ) (out count : List ℕ) (r : ℕ) (out′ count′ : List ℕ) → Type 0
-Npy-strides = npy.Strides
+Npy-strides = npy.StridesInC
 
 -- `npy_item_number`
 abbrev pub Npy-item-number : (s : List ℕ) (order : ℕ) (x item : List ℕ) (r : ℕ) (item′ : List ℕ) → Type 0
-Npy-item-number s order x = Returns alone (then (orderFor order) (λ o. itemOf o s x))
+Npy-item-number s order x = Returns oneNumber (then (orderFor order) (λ o. itemOf o s x))
 
 -- `npy_place`
 abbrev pub Npy-place : (file start : ℕ) (t ns s : List ℕ) (order : ℕ) (x p run : List ℕ) (r : ℕ) (run′ : List ℕ) → Type 0
@@ -102,4 +101,4 @@ Npy-type-read text = Returns typeValues (typeString text)
 
 -- `npy_type_print`
 abbrev pub Npy-type-print : (order letter size units : ℕ) (out count : List ℕ) (r : ℕ) (out′ count′ : List ℕ) → Type 0
-Npy-type-print = npy.Prints
+Npy-type-print = npy.PrintsInC

@@ -7,7 +7,7 @@ use mathlib.Core.List.{List}
 use Rattle.counts.specs.OneOutcome.{OneOutcome}
 use Rattle.type_str.specs.declared.TypeStr.{TypeStr}
 use Rattle.dtype.specs.declared.Order.{Order}
-use Rattle.record.specs.Version.{Version}
+use Rattle.record.specs.Prefix.{Version}
 use Rattle.record.specs.Rooms.{Lent}
 use Rattle.claims.specs.Functions as rattle
 use Rattle.claims.specs.InC as c

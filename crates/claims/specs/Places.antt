@@ -16,8 +16,7 @@ use Rattle.dtype.specs.Entries.{hasObject}
 use Rattle.dtype.specs.Shape.{inRange}
 use Rattle.dtype.specs.Record.{Record}
 use Rattle.dtype.specs.PlainBytes.{plainBytes}
-use Rattle.dtype.specs.Paths.{plainAt}
-use Rattle.dtype.specs.Places.{dataBytes, place, Ask}
+use Rattle.dtype.specs.Places.{plainAt, dataBytes, place, Ask}
 use Rattle.record.specs.Rooms.{Lent, holding}
 use Rattle.record.specs.Header.{Header}
 use Rattle.check_record.specs.Valid.{Valid}
@@ -26,8 +25,8 @@ use Rattle.place.specs.declared.Placed.{Placed}
 use Rattle.place.specs.Place.{runFrom}
 use Rattle.header.specs.declared.HeaderRead.{HeaderRead}
 use Rattle.header.specs.Reads.{infoOf, headerInfo, answer}
-use Rattle.read_back.specs.Rooms.{tableIn, namesIn, shapeIn}
-use Rattle.npy_codes.specs.Numbers.{orderNumber, headerValues, runValues}
+use Rattle.read_back.specs.Rooms.{tableStored, namesStored, shapeStored}
+use Rattle.npy_codes.specs.Codes.{orderNumber, headerValues, runValues}
 use Rattle.claims.specs.Functions.{Read, Place}
 use Rattle.claims.specs.InC.{Npy-read, Npy-place}
 
@@ -78,7 +77,7 @@ pub record Header-stored : Type 0 where
 pub record Data-owned-by (file : List ℕ) (h : Header) (l′ : Lent) (Area : (start : ℕ) → Record → Type 0) : Type 0 where
   pub valid :
       let i = infoOf (h .says) in
-      Valid (tableIn i l′) (namesIn i l′) (shapeIn i l′) (i .order) (h .says)
+      Valid (tableStored i l′) (namesStored i l′) (shapeStored i l′) (i .order) (h .says)
   pub owned : hasObject (h .says .dtype) ≡ false → h .data-start + dataBytes (h .says) ≤ length file → Area (h .data-start) (h .says)
 
 -- the second claim, for every file that is read: h is the header whose values were returned and whose record was stored. There is one (`Header-stored`), and by Exact.antt the file
@@ -88,7 +87,7 @@ Data-owned =
     (file : List ℕ) (l l′ : Lent) (x : HeaderRead) (h : Header) → Read file l x l′ → answer x ≡ gives (headerInfo h) → l′ ≡ holding (h .says) l
     → let i = infoOf (h .says) in
     Data-owned-by file h l′
-    (Owned (Place (length file) (h .data-start) (tableIn i l′) (namesIn i l′) (shapeIn i l′) (i .order)) Placed.At (Placed.Refused Refusal.Nowhere))
+    (Owned (Place (length file) (h .data-start) (tableStored i l′) (namesStored i l′) (shapeStored i l′) (i .order)) Placed.At (Placed.Refused Refusal.Nowhere))
 
 -- the same in C
 abbrev pub Data-owned-in-C : Type 0
@@ -98,5 +97,5 @@ Data-owned-in-C =
     → let i = infoOf (h .says) in
     Data-owned-by file h l′
     (Owned {Y = ℕ × List ℕ}
-    (λ x p y. Npy-place (length file) (h .data-start) (tableIn i l′) (namesIn i l′) (shapeIn i l′) (orderNumber (i .order)) x p run (y .0) (y .1))
+    (λ x p y. Npy-place (length file) (h .data-start) (tableStored i l′) (namesStored i l′) (shapeStored i l′) (orderNumber (i .order)) x p run (y .0) (y .1))
     (λ u. (0, runValues u)) (26, run))

@@ -9,7 +9,7 @@ use Rattle.refusal.specs.Answers.{itemsAnswer, bytesAnswer, pointsAnswer}
 use Rattle.counts.specs.Outcome.{Outcome, refused}
 use Rattle.type_str.specs.declared.TypeStr.{TypeStr}
 use Rattle.dtype.specs.declared.Order.{Order}
-use Rattle.record.specs.Version.{Version}
+use Rattle.record.specs.Prefix.{Version}
 use Rattle.record.specs.Rooms.{Lent}
 use Rattle.header.specs.Reads.{answer, textAnswer}
 use Rattle.claims.specs.Functions.{Read-held, Read-text, Report, Write-header, List-record, Strides, Element-bytes, Element-points, Read-bytes, Read-points, Write-bytes, Write-points, Type-print, Encode}

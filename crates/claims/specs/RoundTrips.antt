@@ -8,21 +8,19 @@ use mathlib.Core.Path.{_≡_}
 use mathlib.Core.List.{List, [], _∷_, _++_}
 use lib.ListN.{length, take}
 use Rattle.counts.specs.Outcome.{gives, refused}
-use Rattle.counts.specs.Front.{atFront}
+use Rattle.counts.specs.Lists.{atFront}
 use Rattle.refusal.specs.declared.BytesAnswer.{BytesAnswer}
 use Rattle.refusal.specs.Answers.{bytesAnswer}
 use Rattle.dtype.specs.declared.Order.{Order}
-use Rattle.dtype.specs.Flat.{entry-width}
-use Rattle.dtype.specs.Record.{Record, table, names}
+use Rattle.dtype.specs.Record.{entry-width, Record, table, names}
 use Rattle.record.specs.Prefix.{most-text}
 use Rattle.record.specs.Rooms.{Lent, holding}
 use Rattle.record.specs.Header.{Header}
 use Rattle.record.specs.File.{text as headerText, fileOf}
 use Rattle.header.specs.declared.HeaderRead.{HeaderRead}
 use Rattle.header.specs.Reads.{HeaderInfo, infoOf, headerInfo, answer}
-use Rattle.read_back.specs.Rooms.{tableIn, namesIn, shapeIn}
-use Rattle.npy_codes.specs.Codes.{alone}
-use Rattle.npy_codes.specs.Numbers.{orderNumber, headerValues}
+use Rattle.read_back.specs.Rooms.{tableStored, namesStored, shapeStored}
+use Rattle.npy_codes.specs.Codes.{oneNumber, orderNumber, headerValues}
 use Rattle.claims.specs.Doors.{Door, in-rattle, in-c}
 use Rattle.claims.specs.Roomy.{Roomy}
 use Rattle.claims.specs.Functions.{Read, Write-header}
@@ -87,7 +85,7 @@ Read-written =
     (file : List ℕ) (l l′ : Lent) (x : HeaderRead) (h : Header) → Read file l x l′ → answer x ≡ gives (headerInfo h) → l′ ≡ holding (h .says) l
     → (out out′ : List ℕ) (w : BytesAnswer)
     → let i = infoOf (h .says) in
-    Write-header (tableIn i l′) (namesIn i l′) (shapeIn i l′) (i .order) out w out′
+    Write-header (tableStored i l′) (namesStored i l′) (shapeStored i l′) (i .order) out w out′
     → Goes-again in-rattle (h .says) out (bytesAnswer w) out′ (Same-record Read-back (h .says))
 
 -- the same in C
@@ -96,5 +94,5 @@ Read-written-in-C =
     (file : List ℕ) (l l′ : Lent) (said said′ : List ℕ) (h : Header) → Npy-read file l said 0 l′ said′ → said′ ≡ headerValues (headerInfo h) → l′ ≡ holding (h .says) l
     → (out out′ count count′ : List ℕ) (w : ℕ)
     → let i = infoOf (h .says) in
-    Npy-write-header (tableIn i l′) (namesIn i l′) (shapeIn i l′) (orderNumber (i .order)) out count w out′ count′
-    → Goes-again (in-c alone count) (h .says) out (w, count′) out′ (Same-record Npy-read-back (h .says))
+    Npy-write-header (tableStored i l′) (namesStored i l′) (shapeStored i l′) (orderNumber (i .order)) out count w out′ count′
+    → Goes-again (in-c oneNumber count) (h .says) out (w, count′) out′ (Same-record Npy-read-back (h .says))

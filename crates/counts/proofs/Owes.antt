@@ -7,7 +7,7 @@ use lib.Seq.{drop-append-seam}
 use borrow.Author.Tests.{lt-ltb, le-ltb}
 use Rattle.counts.specs.Outcome.{Outcome, gives, refused, each, afterwards}
 use Rattle.counts.specs.OneOutcome.{OneOutcome}
-use Rattle.counts.specs.Front.{atFront}
+use Rattle.counts.specs.Lists.{atFront}
 use Rattle.counts.specs.Owes.{roomed, Owes}
 use Rattle.counts.proofs.OneOutcome.{by-equation, beside}
 use Rattle.counts.proofs.Apart.{refused-gives}

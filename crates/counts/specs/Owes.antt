@@ -6,7 +6,7 @@ use mathlib.Core.List.{List}
 use lib.Dec.{ltb}
 use lib.ListN.{length}
 use Rattle.counts.specs.Outcome.{Outcome, gives, each, unless, afterwards}
-use Rattle.counts.specs.Front.{atFront}
+use Rattle.counts.specs.Lists.{atFront}
 
 -- the content if it fits the room, else refusal n
 unfoldable pub roomed : ℕ → (room content : List ℕ) → Outcome (List ℕ)

@@ -12,7 +12,7 @@ use Rattle.literal_tokens.specs.Node.{Node, nodes}
 use Rattle.literal_bytes.specs.Got.{pos}
 use Rattle.literal.specs.Literal.{value}
 use Rattle.literal_bytes.specs.Gaps.{gapAt, thenAt, endedAt}
-use Rattle.literal.specs.Rows.{Row}
+use Rattle.literal.specs.Rows.{RowOf}
 use Rattle.literal.specs.Forget.{forget, forgetAll}
 use Rattle.literal_bytes.specs.declared.Gap.{Gap}
 use Rattle.literal_bytes.specs.declared.Gap.the-variants.{Item}
@@ -48,15 +48,15 @@ values-more n ns = refl
 module _ (k : ℕ) (s : List ℕ) (from : ℕ) where
   pub record Turn (g : Gap) (so-far : DescrVerdict) : Type 0 where
     pub reach : pos (itemsFrom k s 93 (gapAt s from 93)) ≡ pos (itemsFrom k s 93 g)
-    pub goes : (ns : List Node) (e : ℕ) → Row (value k s) s 93 ns (gapAt s from 93) e
-        → (us : List Node) × Row (value k s) s 93 us g e × (fieldsBy (valuesOf ns) ≡ both (verdict so-far) (fieldsBy (valuesOf us)))
+    pub goes : (ns : List Node) (e : ℕ) → RowOf (value k s) s 93 ns (gapAt s from 93) e
+        → (us : List Node) × RowOf (value k s) s 93 us g e × (fieldsBy (valuesOf ns) ≡ both (verdict so-far) (fieldsBy (valuesOf us)))
     pub tidy : both (verdict so-far) (gives nothing) ≡ verdict so-far
 
   pub turn-start : (g : Gap) (v : DescrVerdict) → g ≡ gapAt s from 93 → verdict v ≡ gives nothing → Turn g v
   turn-start g v hg hv =
       record {
         reach = ap (λ (x : Gap). pos (itemsFrom k s 93 x)) (sym hg);
-        goes = λ ns e h. (ns, subst (λ (x : Gap). Row (value k s) s 93 ns x e) (sym hg) h, sym (ap (λ (x : Outcome Totals). both x (fieldsBy (valuesOf ns))) hv ∙ fields-start (valuesOf ns)));
+        goes = λ ns e h. (ns, subst (λ (x : Gap). RowOf (value k s) s 93 ns x e) (sym hg) h, sym (ap (λ (x : Outcome Totals). both x (fieldsBy (valuesOf ns))) hv ∙ fields-start (valuesOf ns)));
         tidy = ap (λ (x : Outcome Totals). both x (gives nothing)) hv ∙ (fields-start end-of-values ∙ sym hv);
       }
 
@@ -79,7 +79,7 @@ module _ (k : ℕ) (s : List ℕ) (from : ℕ) where
               let one : fieldsBy (valuesOf (o .0)) ≡ both (verdict (j .verdict)) (fieldsBy (valuesOf (x .1))) =
               ap (λ (z : List Node). fieldsBy (valuesOf z)) (x .2) ∙ (ap fieldsBy (values-more (x .0) (x .1)) ∙ (fields-step (forget (x .0)) (valuesOf (x .1)) ∙ ap (λ (z : Outcome Totals). both z (fieldsBy (valuesOf (x .1)))) (sym y))) in (
                 x .1,
-                subst (λ (z : Gap). Row (value k s) s 93 (x .1) z e) (sym hg′) (x .4),
+                subst (λ (z : Gap). RowOf (value k s) s 93 (x .1) z e) (sym hg′) (x .4),
                 o .2 ∙ (ap (λ (z : Outcome Totals). both (verdict v) z) one ∙ (sym (both-assoc (verdict v) (verdict (j .verdict)) (fieldsBy (valuesOf (x .1)))) ∙ ap (λ (z : Outcome Totals). both z (fieldsBy (valuesOf (x .1)))) (sym hv))),
               );
           tidy = ap (λ (z : Outcome Totals). both z (gives nothing)) hv ∙ (both-nothing (verdict v) (verdict (j .verdict)) ∙ sym hv);
@@ -100,7 +100,7 @@ module _ (k : ℕ) (s : List ℕ) (from : ℕ) where
 -- the statement on those that begin at `from`, after the opening bracket
 pub record JudgesInside (k : ℕ) (s : List ℕ) (from close : ℕ) (r : DescrJudged) : Type 0 where
   pub ends : r .ended ≡ pos (inside k s from close)
-  pub of-row : (ns : List Node) (e : ℕ) → Row (value k s) s close ns (gapAt s from close) e → verdict (r .verdict) ≡ itemsBy (valuesOf ns)
+  pub of-row : (ns : List Node) (e : ℕ) → RowOf (value k s) s close ns (gapAt s from close) e → verdict (r .verdict) ≡ itemsBy (valuesOf ns)
 
 pub items-none : refused 14 ≡ itemsBy (valuesOf [])
 unfolding forgetAll

@@ -10,7 +10,7 @@ use Rattle.literal_tokens.specs.Node.{Node}
 use Rattle.literal_bytes.specs.Got.{got, pos}
 use Rattle.literal.specs.Literal.{value}
 use Rattle.literal_bytes.specs.Gaps.{gapAt, thenAt, endedAt}
-use Rattle.literal.specs.Rows.{Row}
+use Rattle.literal.specs.Rows.{RowOf}
 use Rattle.literal.specs.Forget.{forget, forgetAll}
 use Rattle.literal_bytes.specs.declared.Parsed.the-variants.{Value}
 use Rattle.literal_bytes.specs.declared.Gap.{Gap}
@@ -23,7 +23,7 @@ use Rattle.shape_verdict.specs.Outline.{outlineOf}
 use Rattle.descr_totals.specs.declared.Totals.{Totals}
 use Rattle.descr_totals.specs.Verdict.{verdict, both}
 use Rattle.descr_field.specs.After.{itemsFrom, secondAt}
-use Rattle.descr_field.specs.Parts.{nameAt, levelsOver, lastBy, shapeBy, afterInnerAt}
+use Rattle.descr_field.specs.Parts.{nameVerdict, levelsOver, lastBy, shapeBy, afterInnerAt}
 use Rattle.descr_field.specs.declared.DescrJudged.{DescrJudged}
 use Rattle.descr.specs.Judges.{JudgesDescr}
 use Rattle.descr.proofs.Adds.{descrBy, afterInnerBy, itemsBy}
@@ -33,7 +33,7 @@ use Rattle.descr.proofs.Nodes.{name-says}
 
 -- ---- after the inner descr: x is the verdict on the name, y that on the descr
 module _ (k : ℕ) (s : List ℕ) (close : ℕ) (x y : Outcome Totals) where
-  last-row : (n : Node) (us : List Node) (g : Gap) (e : ℕ) → Row (value k s) s close us g e
+  last-row : (n : Node) (us : List Node) (g : Gap) (e : ℕ) → RowOf (value k s) s close us g e
       → lastBy (both x (levelsOver y (each outlineOf (subShape (forget n))))) g ≡ afterInnerBy x y (valuesOf (n ∷ us))
   unfolding forgetAll
   last-row n us (Shut p) e h = sym (ap (λ (l : List Node). afterInnerBy x y (valuesOf (n ∷ l))) (row-shut (value k s) s close us p e h .0))
@@ -41,7 +41,7 @@ module _ (k : ℕ) (s : List ℕ) (close : ℕ) (x y : Outcome Totals) where
   last-row n us (Item p) e h = sym (ap (λ (l : List Node). afterInnerBy x y (valuesOf (n ∷ l))) (row-next k s close us (Item p) p e refl h .3))
 
   -- whichever row is there
-  after-row : (ns : List Node) (g : Gap) (e : ℕ) → Row (value k s) s close ns g e → afterInnerAt k s close x y g ≡ afterInnerBy x y (valuesOf ns)
+  after-row : (ns : List Node) (g : Gap) (e : ℕ) → RowOf (value k s) s close ns g e → afterInnerAt k s close x y g ≡ afterInnerBy x y (valuesOf ns)
   unfolding forgetAll
   after-row ns (Shut p) e h = sym (ap (λ (l : List Node). afterInnerBy x y (valuesOf l)) (row-shut (value k s) s close ns p e h .0))
   after-row ns (Stray p) e h = absurd (row-stray (value k s) s close ns p e h)
@@ -51,8 +51,8 @@ module _ (k : ℕ) (s : List ℕ) (close : ℕ) (x y : Outcome Totals) where
 
 -- ---- all the items
 module _ (k : ℕ) (s : List ℕ) (from close : ℕ) (g1 : Gap) (h1 : g1 ≡ gapAt s from close) where
-  row-first : (ns : List Node) (e : ℕ) → Row (value k s) s close ns (gapAt s from close) e → Row (value k s) s close ns g1 e
-  row-first ns e h = subst (λ (x : Gap). Row (value k s) s close ns x e) (sym h1) h
+  row-first : (ns : List Node) (e : ℕ) → RowOf (value k s) s close ns (gapAt s from close) e → RowOf (value k s) s close ns g1 e
+  row-first ns e h = subst (λ (x : Gap). RowOf (value k s) s close ns x e) (sym h1) h
 
   pub items-empty : (r : DescrJudged) → OneOf (0 ∷ 2 ∷ []) (tagOf the-type g1) → r .ended ≡ endedAt g1 → verdict (r .verdict) ≡ refused 14 → JudgesInside k s from close r
   items-empty r o he hv =
@@ -61,7 +61,7 @@ module _ (k : ℕ) (s : List ℕ) (from close : ℕ) (g1 : Gap) (h1 : g1 ≡ gap
         of-row = λ ns e h. hv ∙ (items-none ∙ sym (ap (λ (l : List Node). itemsBy (valuesOf l)) (row-over k s close ns g1 e o (row-first ns e h))));
       }
 
-  module _ (p1 : ℕ) (i1 : g1 ≡ Item p1) (name : DescrJudged) (hn : (name .ended ≡ pos (value k s p1)) × (verdict (name .verdict) ≡ nameAt s p1)) where
+  module _ (p1 : ℕ) (i1 : g1 ≡ Item p1) (name : DescrJudged) (hn : (name .ended ≡ pos (value k s p1)) × (verdict (name .verdict) ≡ nameVerdict s p1)) where
     pub items-unread : (r : DescrJudged) → Stops (name .ended) → r .ended ≡ name .ended → JudgesInside k s from close r
     items-unread r st he =
         record {
@@ -75,8 +75,8 @@ module _ (k : ℕ) (s : List ℕ) (from close : ℕ) (g1 : Gap) (h1 : g1 ≡ gap
       second-ends = inside-more k s from close g1 h1 p1 i1 (name .ended) (hn .0) small q1 e1 g2 h2
 
       -- the name, and the row after it
-      first : (ns : List Node) (e : ℕ) → Row (value k s) s close ns (gapAt s from close) e
-          → (n : Node) × (us : List Node) × (ns ≡ n ∷ us) × (value k s p1 ≡ got n q1) × Row (value k s) s close us (thenAt s q1 close) e
+      first : (ns : List Node) (e : ℕ) → RowOf (value k s) s close ns (gapAt s from close) e
+          → (n : Node) × (us : List Node) × (ns ≡ n ∷ us) × (value k s p1 ≡ got n q1) × RowOf (value k s) s close us (thenAt s q1 close) e
       first ns e h = row-after k s close ns g1 p1 q1 e (name .ended) i1 e1 (hn .0) (row-first ns e h)
 
       pub items-alone : (r : DescrJudged) → OneOf (0 ∷ 2 ∷ []) (tagOf the-type g2) → r .ended ≡ endedAt g2 → verdict (r .verdict) ≡ refused 14 → JudgesInside k s from close r
@@ -91,8 +91,8 @@ module _ (k : ℕ) (s : List ℕ) (from close : ℕ) (g1 : Gap) (h1 : g1 ≡ gap
 
       module _ (p2 : ℕ) (i2 : g2 ≡ Item p2) (inner : DescrJudged) (hj : JudgesDescr k s p2 descrBy inner) where
         -- the row from the inner descr on
-        second : (us : List Node) (e : ℕ) → Row (value k s) s close us (thenAt s q1 close) e → Row (value k s) s close us g2 e
-        second us e h = subst (λ (x : Gap). Row (value k s) s close us x e) (second-item k s close q1 g2 h2 p2 i2 ∙ sym i2) h
+        second : (us : List Node) (e : ℕ) → RowOf (value k s) s close us (thenAt s q1 close) e → RowOf (value k s) s close us g2 e
+        second us e h = subst (λ (x : Gap). RowOf (value k s) s close us x e) (second-item k s close q1 g2 h2 p2 i2 ∙ sym i2) h
 
         pub items-broken : (r : DescrJudged) → Stops (inner .ended) → r .ended ≡ inner .ended → JudgesInside k s from close r
         items-broken r st he =
@@ -110,6 +110,6 @@ module _ (k : ℕ) (s : List ℕ) (from close : ℕ) (g1 : Gap) (h1 : g1 ≡ gap
               of-row = λ ns e h.
                   let w = first ns e h in
                   let v = row-after k s close (w .1) g2 p2 q2 e (inner .ended) i2 e2 (hj .ends) (second (w .1) e (w .4)) in
-                  let o = b .1 ∙ after-row k s close (verdict (name .verdict)) (verdict (inner .verdict)) (v .1) g3 e (subst (λ (x : Gap). Row (value k s) s close (v .1) x e) (sym h3) (v .4)) in
+                  let o = b .1 ∙ after-row k s close (verdict (name .verdict)) (verdict (inner .verdict)) (v .1) g3 e (subst (λ (x : Gap). RowOf (value k s) s close (v .1) x e) (sym h3) (v .4)) in
                   o ∙ (items-after (w .0) (v .0) (v .1) (verdict (name .verdict)) (verdict (inner .verdict)) (hn .1 ∙ name-says s p1 k (w .0) q1 (w .3)) (hj .of-value (v .0) q2 (v .3)) ∙ sym (ap (λ (l : List Node). itemsBy (valuesOf l)) (w .2 ∙ ap (λ (l : List Node). w .0 ∷ l) (v .2))));
             }

@@ -24,7 +24,7 @@ use Rattle.literal_bytes.proofs.Positions.{open-in, open-square, open-round}
 use Rattle.literal_escapes.specs.Strings.{spelled}
 use Rattle.literal.specs.Literal.{value as valueOf}
 use Rattle.literal_bytes.specs.Gaps.{gapAt}
-use Rattle.literal.specs.Rows.{Row}
+use Rattle.literal.specs.Rows.{RowOf}
 use Rattle.literal.specs.Forget.{forget}
 use Rattle.literal_bytes.specs.declared.Parsed.the-variants.{Deep}
 use Rattle.literal_bytes.specs.declared.ValueKind.{ValueKind}
@@ -37,7 +37,7 @@ use Rattle.descr_totals.proofs.Sums.{oneEntry}
 use Rattle.descr_totals.specs.Verdict.{verdict, both}
 use Rattle.descr_field.specs.Begins.{isString}
 use Rattle.descr_field.proofs.Begins.{string-kind}
-use Rattle.descr_field.specs.Parts.{nameAt}
+use Rattle.descr_field.specs.Parts.{nameVerdict}
 use Rattle.descr_field.proofs.Names.{string-ends}
 use Rattle.descr_field.specs.declared.DescrJudged.{DescrJudged}
 use Rattle.descr.specs.Judges.{JudgesDescr, JudgesFrom, typedAt}
@@ -117,7 +117,7 @@ module _ (s : List ℕ) (at : ℕ) where
     name-other : isString (kindOf (byteAt s at)) ≡ false → nameBy (forget n) ≡ refused 14
     name-other a = name-by n (ap isString (sym (value-kind k s at h)) ∙ a)
 
-    pub name-says : nameAt s at ≡ nameBy (forget n)
+    pub name-says : nameVerdict s at ≡ nameBy (forget n)
     name-says = go (isString (kindOf (byteAt s at))) refl
       where
         go : (t : Bool) → isString (kindOf (byteAt s at)) ≡ t → cond t (gives (nameTotals (length (spelled (byteAt s at) s (at + 1) .bytes)))) (refused 14) ≡ nameBy (forget n)
@@ -126,7 +126,7 @@ module _ (s : List ℕ) (at : ℕ) where
 
     -- a list, and what is in it
     record-is : closingOf (kindOf (byteAt s at)) ≡ 93
-        → (0 < k) × (ns : List Node) × (descrBy (forget n) ≡ both (gives oneEntry) (fieldsBy (valuesOf ns))) × Row (valueOf (k - 1) s) s 93 ns (gapAt s (at + 1) 93) e
+        → (0 < k) × (ns : List Node) × (descrBy (forget n) ≡ both (gives oneEntry) (fieldsBy (valuesOf ns))) × RowOf (valueOf (k - 1) s) s 93 ns (gapAt s (at + 1) 93) e
     unfolding forget
     record-is c =
         let v = view k s at h (square-kind (kindOf (byteAt s at)) c) in
@@ -134,18 +134,18 @@ module _ (s : List ℕ) (at : ℕ) where
 
     -- a list or a tuple, and what is in it
     field-is : (closingOf (kindOf (byteAt s at)) ≡ 0 → ⊥) → (close : ℕ) → close ≡ closingOf (kindOf (byteAt s at))
-        → (0 < k) × (ns : List Node) × (fieldBy (forget n) ≡ itemsBy (valuesOf ns)) × Row (valueOf (k - 1) s) s close ns (gapAt s (at + 1) close) e
+        → (0 < k) × (ns : List Node) × (fieldBy (forget n) ≡ itemsBy (valuesOf ns)) × RowOf (valueOf (k - 1) s) s close ns (gapAt s (at + 1) close) e
     unfolding forget
     field-is c close hc = go (kindOf (byteAt s at)) refl c hc
       where
         go : (d : ValueKind) → kindOf (byteAt s at) ≡ d → (closingOf d ≡ 0 → ⊥) → close ≡ closingOf d
-            → (0 < k) × (ns : List Node) × (fieldBy (forget n) ≡ itemsBy (valuesOf ns)) × Row (valueOf (k - 1) s) s close ns (gapAt s (at + 1) close) e
+            → (0 < k) × (ns : List Node) × (fieldBy (forget n) ≡ itemsBy (valuesOf ns)) × RowOf (valueOf (k - 1) s) s close ns (gapAt s (at + 1) close) e
         go Square hd c hc =
             let v = view k s at h hd in
-            (v .0, v .1, ap (λ (m : Node). fieldBy (forget m)) (v .2), subst (λ (x : ℕ). Row (valueOf (k - 1) s) s x (v .1) (gapAt s (at + 1) x) e) (sym hc) (v .3))
+            (v .0, v .1, ap (λ (m : Node). fieldBy (forget m)) (v .2), subst (λ (x : ℕ). RowOf (valueOf (k - 1) s) s x (v .1) (gapAt s (at + 1) x) e) (sym hc) (v .3))
         go Round hd c hc =
             let v = view k s at h hd in
-            (v .0, v .1, ap (λ (m : Node). fieldBy (forget m)) (v .2), subst (λ (x : ℕ). Row (valueOf (k - 1) s) s x (v .1) (gapAt s (at + 1) x) e) (sym hc) (v .3))
+            (v .0, v .1, ap (λ (m : Node). fieldBy (forget m)) (v .2), subst (λ (x : ℕ). RowOf (valueOf (k - 1) s) s x (v .1) (gapAt s (at + 1) x) e) (sym hc) (v .3))
         go Curly hd c hc = absurd (c refl)
         go Quote hd c hc = absurd (c refl)
         go Minus hd c hc = absurd (c refl)
@@ -192,11 +192,11 @@ module _ (k : ℕ) (s : List ℕ) (at : ℕ) where
 
   -- a value of another form
   module _ (r : DescrJudged) (he : r .ended ≡ pos (valueOf k s at)) (hv : verdict (r .verdict) ≡ refused 14) where
-    pub descr-misfit : isString (kindOf (byteAt s at)) ≡ false → (closingOf (kindOf (byteAt s at)) ≡ 93 → ⊥) → JudgesDescr k s at descrBy r
-    descr-misfit a b = record { ends = he; of-value = λ n e h. hv ∙ sym (descr-other s at k n e h a b) }
+    pub descr-no-form : isString (kindOf (byteAt s at)) ≡ false → (closingOf (kindOf (byteAt s at)) ≡ 93 → ⊥) → JudgesDescr k s at descrBy r
+    descr-no-form a b = record { ends = he; of-value = λ n e h. hv ∙ sym (descr-other s at k n e h a b) }
 
-    pub field-misfit : closingOf (kindOf (byteAt s at)) ≡ 0 → JudgesDescr k s at fieldBy r
-    field-misfit a = record { ends = he; of-value = λ n e h. hv ∙ sym (field-other s at k n e h a) }
+    pub field-no-form : closingOf (kindOf (byteAt s at)) ≡ 0 → JudgesDescr k s at fieldBy r
+    field-no-form a = record { ends = he; of-value = λ n e h. hv ∙ sym (field-other s at k n e h a) }
 
   -- a list or tuple
   module _ (close : ℕ) (hc : close ≡ closingOf (kindOf (byteAt s at))) (some : close ≡ 0 → ⊥) where

@@ -13,7 +13,7 @@ use Rattle.literal_bytes.specs.Got.{Got, got, pos}
 use Rattle.literal_bytes.specs.Text.{byteAt}
 use Rattle.literal_escapes.specs.Strings.{spelled}
 use Rattle.literal.specs.Literal.{value}
-use Rattle.literal.specs.Rows.{Row}
+use Rattle.literal.specs.Rows.{RowOf}
 use Rattle.literal.specs.Forget.{forget, forgetAll}
 use Rattle.literal_bytes.specs.declared.Gap.{Gap}
 use Rattle.descr_totals.specs.declared.Totals.{Totals}
@@ -36,7 +36,7 @@ pub record JudgesDescr (k : ℕ) (s : List ℕ) (at : ℕ) (f : Value → Outcom
 -- of the items from the gap on
 pub record JudgesFrom (k : ℕ) (s : List ℕ) (close : ℕ) (g : Gap) (f : Values → Outcome Totals) (r : DescrJudged) : Type 0 where
   pub ends : r .ended ≡ pos (itemsFrom k s close g)
-  pub of-row : (ns : List Node) (e : ℕ) → Row (value k s) s close ns g e → verdict (r .verdict) ≡ f (forgetAll (nodes ns))
+  pub of-row : (ns : List Node) (e : ℕ) → RowOf (value k s) s close ns g e → verdict (r .verdict) ≡ f (forgetAll (nodes ns))
 
 -- the string at `at`, as a type string
 abbrev pub typedAt : List ℕ → ℕ → Outcome Totals

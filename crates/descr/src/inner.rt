@@ -4,12 +4,12 @@
 use counts::Bytes;
 use descr_field::DescrJudged;
 use descr_field::closing_at;
-use descr_field::misfit;
 use descr_field::name_at;
 use descr_field::second_at;
 use descr_field::string_at;
 use descr_field::sub_shape;
 use descr_field::typed_at;
+use descr_field::wrong_form;
 use descr_totals::DescrVerdict;
 use descr_totals::Totals;
 use descr_totals::join;
@@ -40,10 +40,10 @@ pub(crate) fn judge(text: &[u8], at: usize, room: usize) -> DescrJudged
         return plain_at(text, at);
     }
     if closing_at(text, at) != b']' {
-        return misfit(value(text, at, room));
+        return wrong_form(value(text, at, room));
     }
     if room == 0 {
-        return misfit(Parsed::Deep(at));
+        return wrong_form(Parsed::Deep(at));
     }
     let one = DescrVerdict::Fits(Totals {
         entries: 1,
@@ -86,7 +86,7 @@ fn fields(text: &[u8], from: usize, room: usize) -> DescrJudged
         let end = r.ended;
         let v = r.verdict;
         let Parsed::Value(q) = end else {
-            return misfit(end);
+            return wrong_form(end);
         };
         verdict = join(verdict, v);
         g = then_at(text, q, b']');
@@ -99,29 +99,29 @@ fn field(text: &[u8], at: usize, room: usize) -> DescrJudged
 {
     let close = closing_at(text, at);
     if close == 0 {
-        return misfit(value(text, at, room));
+        return wrong_form(value(text, at, room));
     }
     if room == 0 {
-        return misfit(Parsed::Deep(at));
+        return wrong_form(Parsed::Deep(at));
     }
     let left = room - 1;
     let g1 = gap_at(text, at + 1, close);
     let Gap::Item(p1) = g1 else {
-        return misfit(ended(g1));
+        return wrong_form(ended(g1));
     };
     let name = name_at(text, p1, left);
     let e1 = name.ended;
     let Parsed::Value(q1) = e1 else {
-        return misfit(e1);
+        return wrong_form(e1);
     };
     let g2 = second_at(text, q1, close);
     let Gap::Item(p2) = g2 else {
-        return misfit(ended(g2));
+        return wrong_form(ended(g2));
     };
     let inner = inner_at(text, p2, left);
     let e2 = inner.ended;
     let Parsed::Value(q2) = e2 else {
-        return misfit(e2);
+        return wrong_form(e2);
     };
     let g3 = then_at(text, q2, close);
     let called = name.verdict;

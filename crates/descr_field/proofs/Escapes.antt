@@ -11,7 +11,7 @@ use lib.Seq.{drop-cons}
 use lib.Dec.{eqb, ltb}
 use borrow.Author.Tests.{eqb-true, ltb-true, ltb-false, le-ltb}
 use Rattle.counts.specs.Outcome.{Outcome, gives, refused, then, unless}
-use Rattle.counts.specs.Same.{same}
+use Rattle.counts.specs.Lists.{same}
 use Rattle.counts.proofs.Alike.{or-none, false-true, or-elim}
 use Rattle.literal_grammar.specs.Bytes.{isBreak, isEscape, unescape}
 use Rattle.decimal.specs.Decimal.{isDigit, digitsOf, afterDigits}
@@ -26,9 +26,7 @@ use Rattle.type_letters.specs.declared.TypeChar.{TypeChar}
 use Rattle.type_str.specs.declared.TypeStr.{TypeStr}
 use Rattle.type_units.specs.declared.TimeUnits.{TimeUnits}
 use Rattle.type_units.specs.declared.TimeUnits.the-variants.{Absent, Year, Month, Week, Day, Hour, Minute, Second, Millisecond, Microsecond, Nanosecond, Picosecond, Femtosecond, Attosecond}
-use Rattle.type_letters.specs.Orders.{orders, orderOf, orderByte}
-use Rattle.type_letters.specs.Letters.{letters, letterOf, letterByte}
-use Rattle.type_letters.specs.Spelling.{firstOf}
+use Rattle.type_letters.specs.Letters.{orders, orderOf, orderByte, letters, letterOf, letterByte, firstOf}
 use Rattle.type_units.specs.Units.{units, unitText, unitsOf}
 use Rattle.type_str.specs.TypeString.{sizeAllowed, sized, syntax, typeString}
 

@@ -15,14 +15,14 @@ use Rattle.shape_text.proofs.Numbers.{token-value}
 use Rattle.descr_field.specs.Begins.{isString}
 use Rattle.descr_field.proofs.Begins.{string-kind}
 use Rattle.descr_totals.specs.Totals.{nameTotals}
-use Rattle.descr_field.specs.Parts.{nameAt}
+use Rattle.descr_field.specs.Parts.{nameVerdict}
 
 module _ (s : List ℕ) (at : ℕ) where
   pub string-ends : (k : ℕ) (r : Parsed) → isString (kindOf (byteAt s at)) ≡ true → r ≡ spelled (byteAt s at) s (at + 1) .ended → r ≡ pos (value k s at)
   string-ends k r t he = he ∙ token-value k s at Quote (string-kind (kindOf (byteAt s at)) t) refl
 
-  pub name-string : isString (kindOf (byteAt s at)) ≡ true → gives (nameTotals (length (spelled (byteAt s at) s (at + 1) .bytes))) ≡ nameAt s at
+  pub name-string : isString (kindOf (byteAt s at)) ≡ true → gives (nameTotals (length (spelled (byteAt s at) s (at + 1) .bytes))) ≡ nameVerdict s at
   name-string t = sym (ap (λ (b : Bool). cond b (gives (nameTotals (length (spelled (byteAt s at) s (at + 1) .bytes)))) (refused 14)) t)
 
-  pub name-other : isString (kindOf (byteAt s at)) ≡ false → refused 14 ≡ nameAt s at
+  pub name-other : isString (kindOf (byteAt s at)) ≡ false → refused 14 ≡ nameVerdict s at
   name-other t = sym (ap (λ (b : Bool). cond b (gives (nameTotals (length (spelled (byteAt s at) s (at + 1) .bytes)))) (refused 14)) t)

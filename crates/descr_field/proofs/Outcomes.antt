@@ -51,8 +51,8 @@ rest-one k s close from = by-equation (pos (itemsFrom k s close (Item from)))
 judged-eq : {d e : Parsed} {u v : DescrVerdict} → d ≡ e → u ≡ v → _≡_ {A = DescrJudged} (record { ended = d; verdict = u }) (record { ended = e; verdict = v })
 judged-eq he hv = cc
 
-pub misfit-one : (e : Parsed) (v : DescrVerdict) → OneOutcome {A = DescrJudged} (λ r. (r .ended ≡ e) × (r .verdict ≡ v))
-misfit-one e v x y p q = judged-eq {d = x .ended} {e = y .ended} {u = x .verdict} {v = y .verdict} (p .0 ∙ sym (q .0)) (p .1 ∙ sym (q .1))
+pub wrong-form-one : (e : Parsed) (v : DescrVerdict) → OneOutcome {A = DescrJudged} (λ r. (r .ended ≡ e) × (r .verdict ≡ v))
+wrong-form-one e v x y p q = judged-eq {d = x .ended} {e = y .ended} {u = x .verdict} {v = y .verdict} (p .0 ∙ sym (q .0)) (p .1 ∙ sym (q .1))
 
 -- of `name_at` and `sub_shape`
 pub judged-one : (e : Parsed) (o : Outcome Totals) → OneOutcome {A = DescrJudged} (λ r. (r .ended ≡ e) × (verdict (r .verdict) ≡ o))

@@ -19,7 +19,7 @@ use Rattle.literal_bytes.specs.Text.{byteAt, skip}
 use Rattle.literal.specs.Literal.{value}
 use Rattle.literal_bytes.specs.Gaps.{gapAt, thenAt, needAt, endedAt}
 use Rattle.literal.specs.Brackets.{items, listBy, tupleBy}
-use Rattle.literal.specs.Rows.{Row}
+use Rattle.literal.specs.Rows.{RowOf}
 use Rattle.literal_bytes.specs.declared.Parsed.{Parsed}
 use Rattle.literal_bytes.specs.declared.Parsed.the-variants.{Value, Fault, Deep}
 use Rattle.literal_bytes.specs.declared.Gap.{Gap}
@@ -148,24 +148,24 @@ module _ (k : ℕ) (s : List ℕ) (from : ℕ) where
 -- ---- a row goes on where the code looks for it: a tuple's first item without its comma is its last
 module _ (k : ℕ) (s : List ℕ) (close : ℕ) where
   -- where there is no item a row ends
-  pub row-over : (ns : List Node) (g : Gap) (e : ℕ) → OneOf (0 ∷ 2 ∷ []) (tagOf the-type g) → Row (value k s) s close ns g e → ns ≡ []
+  pub row-over : (ns : List Node) (g : Gap) (e : ℕ) → OneOf (0 ∷ 2 ∷ []) (tagOf the-type g) → RowOf (value k s) s close ns g e → ns ≡ []
   row-over ns (Shut p) e o h = row-shut (value k s) s close ns p e h .0
   row-over ns (Item p) e o h = absurd (miss (0 ∷ 2 ∷ []) 1 tt o)
   row-over ns (Stray p) e o h = absurd (row-stray (value k s) s close ns p e h)
 
   -- one item more
-  pub row-next : (ns : List Node) (g : Gap) (p e : ℕ) → g ≡ Item p → Row (value k s) s close ns g e
-      → (n : Node) × (us : List Node) × (q : ℕ) × (ns ≡ n ∷ us) × (value k s p ≡ got n q) × Row (value k s) s close us (thenAt s q close) e
-  row-next ns g p e hg h = row-step (value k s) s close ns p e (subst (λ (x : Gap). Row (value k s) s close ns x e) hg h)
+  pub row-next : (ns : List Node) (g : Gap) (p e : ℕ) → g ≡ Item p → RowOf (value k s) s close ns g e
+      → (n : Node) × (us : List Node) × (q : ℕ) × (ns ≡ n ∷ us) × (value k s p ≡ got n q) × RowOf (value k s) s close us (thenAt s q close) e
+  row-next ns g p e hg h = row-step (value k s) s close ns p e (subst (λ (x : Gap). RowOf (value k s) s close ns x e) hg h)
 
   -- the same, where the code's answer for the item is known
-  pub row-after : (ns : List Node) (g : Gap) (p q e : ℕ) (r : Parsed) → g ≡ Item p → r ≡ Value q → r ≡ pos (value k s p) → Row (value k s) s close ns g e
-      → (n : Node) × (us : List Node) × (ns ≡ n ∷ us) × (value k s p ≡ got n q) × Row (value k s) s close us (thenAt s q close) e
-  row-after ns g p q e r hg hq hr h = literal.row-next (value k s) s close ns p q e r (subst (λ (x : Gap). Row (value k s) s close ns x e) hg h) hr hq
+  pub row-after : (ns : List Node) (g : Gap) (p q e : ℕ) (r : Parsed) → g ≡ Item p → r ≡ Value q → r ≡ pos (value k s p) → RowOf (value k s) s close ns g e
+      → (n : Node) × (us : List Node) × (ns ≡ n ∷ us) × (value k s p ≡ got n q) × RowOf (value k s) s close us (thenAt s q close) e
+  row-after ns g p q e r hg hq hr h = literal.row-next (value k s) s close ns p q e r (subst (λ (x : Gap). RowOf (value k s) s close ns x e) hg h) hr hq
 
   -- no item of a row has a fault
-  pub row-stops : {X : Type 0} (ns : List Node) (g : Gap) (p e : ℕ) (r : Parsed) → g ≡ Item p → r ≡ pos (value k s p) → Stops r → Row (value k s) s close ns g e → X
-  row-stops ns g p e r hg hr st h = absurd (row-reads (value k s) s close ns p e r (subst (λ (x : Gap). Row (value k s) s close ns x e) hg h) hr st)
+  pub row-stops : {X : Type 0} (ns : List Node) (g : Gap) (p e : ℕ) (r : Parsed) → g ≡ Item p → r ≡ pos (value k s p) → Stops r → RowOf (value k s) s close ns g e → X
+  row-stops ns g p e r hg hr st h = absurd (row-reads (value k s) s close ns p e r (subst (λ (x : Gap). RowOf (value k s) s close ns x e) hg h) hr st)
 
 abbrev Second : List ℕ → ℕ → ℕ → Gap → Type 0
 Second s q close g = (g ≡ thenAt s q close) ⊎ ((p : ℕ) × (g ≡ Stray p) × OneOf (0 ∷ 2 ∷ []) (tagOf the-type (thenAt s q close)))
@@ -202,9 +202,9 @@ pub second-tuple : (s : List ℕ) (q close : ℕ) (c : Parsed) → close ≡ 41 
 second-tuple s q close c h hc = sym (ap (λ (t : Bool). cond t (commaThen s (needAt s q 44)) (thenAt s q close)) (eq-eqb close 41 h) ∙ ap (commaThen s) hc)
 
 module _ (k : ℕ) (s : List ℕ) (close q : ℕ) (g : Gap) (hg : g ≡ secondAt s q close) where
-  pub second-over : (us : List Node) (e : ℕ) → OneOf (0 ∷ 2 ∷ []) (tagOf the-type g) → Row (value k s) s close us (thenAt s q close) e → us ≡ []
+  pub second-over : (us : List Node) (e : ℕ) → OneOf (0 ∷ 2 ∷ []) (tagOf the-type g) → RowOf (value k s) s close us (thenAt s q close) e → us ≡ []
   second-over us e o h =
-      ⊎-elim (λ z. row-over k s close us g e o (subst (λ (x : Gap). Row (value k s) s close us x e) (sym (hg ∙ z)) h)) (λ z. row-over k s close us (thenAt s q close) e (z .2) h) (second-by s q close)
+      ⊎-elim (λ z. row-over k s close us g e o (subst (λ (x : Gap). RowOf (value k s) s close us x e) (sym (hg ∙ z)) h)) (λ z. row-over k s close us (thenAt s q close) e (z .2) h) (second-by s q close)
 
   pub second-item : (p : ℕ) → g ≡ Item p → thenAt s q close ≡ Item p
   second-item p hp =

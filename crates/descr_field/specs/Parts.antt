@@ -23,8 +23,8 @@ use Rattle.descr_totals.specs.Totals.{nameTotals, arrayed}
 use Rattle.descr_totals.specs.Verdict.{both}
 
 -- the value at `at`, as a name: a string
-abbrev pub nameAt : List ℕ → ℕ → Outcome Totals
-nameAt s at = cond (isString (kindOf (byteAt s at))) (gives (nameTotals (length (spelled (byteAt s at) s (at + 1) .bytes)))) (refused 14)
+abbrev pub nameVerdict : List ℕ → ℕ → Outcome Totals
+nameVerdict s at = cond (isString (kindOf (byteAt s at))) (gives (nameTotals (length (spelled (byteAt s at) s (at + 1) .bytes)))) (refused 14)
 
 -- the verdict on a type and then on its sub-shape
 abbrev pub levelsOver : Outcome Totals → Outcome Outline → Outcome Totals

@@ -30,7 +30,7 @@ ghost use Rattle.literal_bytes.specs.Got.{pos};
 ghost use Rattle.descr_field.specs.After.{itemsFrom, secondAt};
 ghost use Rattle.literal.specs.Literal.{value as valueOf};
 ghost use Rattle.descr_totals.specs.Verdict.{verdict};
-ghost use Rattle.descr_field.specs.Parts.{nameAt, afterInnerAt};
+ghost use Rattle.descr_field.specs.Parts.{nameVerdict, afterInnerAt};
 
 // Whether a string begins at `at`.
 pub fn string_at(text: &[u8], at: usize) -> bool
@@ -140,7 +140,7 @@ pub struct DescrJudged {
 }
 
 // The verdict 14, on a value of another form or where there is no value.
-pub fn misfit(end: Parsed) -> DescrJudged
+pub fn wrong_form(end: Parsed) -> DescrJudged
     ensures { λ r. ⌜ r .ended ≡ end ⌝ }
     ensures { λ r. ⌜ r .verdict ≡ DescrVerdict.Refused Refusal.Form ⌝ }
 {
@@ -153,7 +153,7 @@ pub fn misfit(end: Parsed) -> DescrJudged
 // The verdict on the name of a field at `at`: a string, read once, its bytes counted decoded.
 pub fn name_at(text: &[u8], at: usize, room: usize) -> DescrJudged
     ensures { λ r. ⌜ r .ended ≡ pos (valueOf room (now (text .entry)) at) ⌝ }
-    ensures { λ r. ⌜ verdict (r .verdict) ≡ nameAt (now (text .entry)) at ⌝ }
+    ensures { λ r. ⌜ verdict (r .verdict) ≡ nameVerdict (now (text .entry)) at ⌝ }
 {
     if string_at(text, at) {
         let s = scan_at(text, at + 1, text[at]);
@@ -163,7 +163,7 @@ pub fn name_at(text: &[u8], at: usize, room: usize) -> DescrJudged
             verdict: DescrVerdict::Fits(named(s.len)),
         };
     }
-    misfit(value(text, at, room))
+    wrong_form(value(text, at, room))
 }
 
 // The verdict on a field by what is after its inner descr, from the gap on: nothing more, or its sub-shape.
@@ -188,7 +188,7 @@ pub fn sub_shape(
     let end = shape.ended;
     let levels = shape.verdict;
     let Parsed::Value(q) = end else {
-        return misfit(end);
+        return wrong_form(end);
     };
     let next = then_at(text, q, close);
     let Gap::Item(more) = next else {
@@ -197,5 +197,5 @@ pub fn sub_shape(
             verdict: join(name, shaped(of, levels)),
         };
     };
-    misfit(rest(text, more, close, room))
+    wrong_form(rest(text, more, close, room))
 }

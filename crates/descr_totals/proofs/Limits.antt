@@ -8,7 +8,7 @@ use lib.Dec.{ltb}
 use borrow.Author.Tests.{ltb-true, ltb-false, lt-ltb, le-ltb}
 use Rattle.dtype.specs.Dtype.{Dtype, plain, array, record-of, sizeOf}
 use Rattle.dtype.specs.Entries.{entriesOf}
-use Rattle.dtype.specs.Names.{nameBytes}
+use Rattle.dtype.specs.Record.{nameBytes}
 use Rattle.dtype.specs.Limits.{over, someOver, overEntries, overLevels, overSize}
 use Rattle.descr_totals.specs.Totals.{atMost, totalsOf}
 

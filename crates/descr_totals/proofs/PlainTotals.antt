@@ -2,7 +2,7 @@
 use Prim.Native.Nat.{ℕ, _^_}
 use native.Mathlib.Omega.{arith}
 use mathlib.Core.Path.{_≡_, refl, sym, ap, _∙_}
-use mathlib.Core.Bool.{Bool, true, false}
+use mathlib.Core.Bool.{Bool, true, false, cond}
 use borrow.Author.Tests.{leb-true}
 use Rattle.counts.specs.Number.{number}
 use Rattle.counts.specs.declared.Number.{Number}
@@ -12,10 +12,9 @@ use Rattle.counts.specs.Counts.{bytes, asBytes}
 use Rattle.type_str.specs.declared.TypeStr.{TypeStr}
 use Rattle.type_str.specs.declared.TypeBytes.{TypeBytes}
 use Rattle.type_str.specs.declared.TypeBytes.the-variants.{Sized, Unsized, TooLarge}
-use Rattle.type_str.specs.Bytes.{typeBytes, countedBytes, numBytes}
+use Rattle.type_str.specs.Bytes.{countedBytes, numBytes}
 use Rattle.dtype.specs.PlainBytes.{plainBytes}
-use Rattle.dtype.proofs.Types.{plain-bytes-type}
-use Rattle.type_letters.specs.Classes.{isObject}
+use Rattle.type_letters.specs.Letters.{isObject}
 use Rattle.dtype.specs.Dtype.{plain}
 use Rattle.dtype.specs.Limits.{over}
 use Rattle.descr_totals.specs.declared.Totals.{Totals}
@@ -39,13 +38,13 @@ plain-sized n = go (over n) refl
         ap (λ (x : Number). plainTotals (countedBytes (bytes x))) (number-is n lt) ∙ totals-eq refl refl refl refl (sym h) (bytes-eq (omega arith))
 
 module _ (t : TypeStr) where
-  object-bytes : isObject (t .letter) ≡ true → (numBytes t ≡ Unsized) × (typeBytes t ≡ 0)
-  unfolding numBytes typeBytes
-  object-bytes h = (rw (numBytes, h), rw (typeBytes, h))
-
-  counted-bytes : isObject (t .letter) ≡ false → numBytes t ≡ countedBytes (bytes (number (typeBytes t)))
+  object-bytes : isObject (t .letter) ≡ true → (numBytes t ≡ Unsized) × (plainBytes t ≡ 0)
   unfolding numBytes
-  counted-bytes h = rw (numBytes, h)
+  object-bytes h = (rw (numBytes, h), rw h)
+
+  counted-bytes : isObject (t .letter) ≡ false → numBytes t ≡ countedBytes (bytes (number (plainBytes t)))
+  unfolding numBytes
+  counted-bytes h = ap (λ (x : Bool). cond x Unsized (countedBytes (bytes (number (plainBytes t))))) h
 
 pub plain-totals : (t : TypeStr) → plainTotals (numBytes t) ≡ totalsOf (plain t)
 plain-totals t = go (isObject (t .letter)) refl
@@ -55,5 +54,5 @@ plain-totals t = go (isObject (t .letter)) refl
     of-bytes o ho n hn = totals-eq refl refl (sym ho) refl (ap over (sym hn)) (bytes-eq (ap (λ (x : ℕ). atMost largest x) (sym hn)))
 
     go : (o : Bool) → isObject (t .letter) ≡ o → plainTotals (numBytes t) ≡ totalsOf (plain t)
-    go true h = ap plainTotals (object-bytes t h .0) ∙ of-bytes true h 0 (plain-bytes-type t ∙ object-bytes t h .1)
-    go false h = ap plainTotals (counted-bytes t h) ∙ (plain-sized (typeBytes t) ∙ of-bytes false h (typeBytes t) (plain-bytes-type t))
+    go true h = ap plainTotals (object-bytes t h .0) ∙ of-bytes true h 0 (object-bytes t h .1)
+    go false h = ap plainTotals (counted-bytes t h) ∙ (plain-sized (plainBytes t) ∙ of-bytes false h (plainBytes t) refl)

@@ -6,10 +6,10 @@ use mathlib.Core.Bool.{false, _||_, cond}
 use lib.Dec.{ltb}
 use lib.ListN.{length}
 use Rattle.counts.specs.Counts.{bytesOver, asBytes, heldBytes}
-use Rattle.type_letters.specs.Classes.{isObject}
+use Rattle.type_letters.specs.Letters.{isObject}
 use Rattle.dtype.specs.Dtype.{Dtype, Fields, sizeOf, sizesOf}
 use Rattle.dtype.specs.Entries.{entriesOf, entriesIn, someEntryIn, levels, plainOnly, hasObject}
-use Rattle.dtype.specs.Names.{nameBytes, nameBytesIn}
+use Rattle.dtype.specs.Record.{nameBytes, nameBytesIn}
 use Rattle.dtype.specs.Limits.{over, overLevels, someOver}
 use Rattle.record.specs.Descr.{Field}
 use Rattle.shape_verdict.specs.declared.Outline.{Outline}

@@ -3,8 +3,7 @@ use Prim.Native.Nat.{ℕ, _+_, _<_, zero, suc}
 use mathlib.Core.Path.{_≡_}
 use mathlib.Core.List.{List, [], _∷_}
 use Rattle.dtype.specs.Record.{Record}
-use Rattle.dtype.specs.Paths.{plainAt}
-use Rattle.dtype.specs.Places.{place, Ask}
+use Rattle.dtype.specs.Places.{plainAt, place, Ask}
 use Rattle.dtype.specs.Dtype.{Dtype, Fields, plain, array, record-of, end-of-fields, field-then}
 use Rattle.dtype.specs.PlainBytes.{plainBytes}
 use Rattle.type_str.specs.declared.TypeStr.{TypeStr}

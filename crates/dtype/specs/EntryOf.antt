@@ -53,6 +53,6 @@ entryOf d up m =
     }
 
 -- the numbers of an entry, followed by x
-abbrev pub numbers : Entry → List ℕ → List ℕ
-numbers e x =
+abbrev pub entryNumbers : Entry → List ℕ → List ℕ
+entryNumbers e x =
     e .parent ∷ e .kind ∷ e .order ∷ e .letter ∷ e .number ∷ e .units ∷ e .extent ∷ e .bytes ∷ e .name ∷ x

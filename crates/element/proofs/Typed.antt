@@ -14,8 +14,7 @@ use Rattle.dtype.specs.declared.Order.{Order}
 use Rattle.dtype.specs.Entries.{hasObject}
 use Rattle.dtype.specs.Shape.{inRange}
 use Rattle.dtype.specs.Record.{Record}
-use Rattle.dtype.specs.Paths.{plainAt}
-use Rattle.dtype.specs.Places.{dataBytes, place}
+use Rattle.dtype.specs.Places.{plainAt, dataBytes, place}
 use Rattle.check_table.specs.Reading.{untyped}
 use Rattle.check_table.proofs.Readable.{readable-typed}
 use Rattle.check_record.specs.Checked.{checkedRecord}

@@ -31,7 +31,7 @@ use Rattle.literal_bytes.specs.Text.{byteAt, kindOf}
 use Rattle.literal_escapes.specs.Strings.{spelled}
 use Rattle.literal.specs.Literal as read
 use Rattle.literal_bytes.specs.Gaps.{gapAt, thenAt}
-use Rattle.literal.specs.Rows.{Row}
+use Rattle.literal.specs.Rows.{RowOf}
 use Rattle.literal_bytes.specs.declared.Gap.{Gap}
 use Rattle.literal_bytes.specs.declared.Gap.the-variants.{Shut, Item, Stray}
 use Rattle.literal_bytes.proofs.Gap.{the-type}
@@ -50,9 +50,8 @@ use Rattle.descr_field.specs.Begins.{gapPlace}
 use Rattle.header.specs.Filled.{namePlace, nameSpelled, innerPlace, DueShape, Shaped, Narrow}
 use Rattle.header.specs.declared.fill.DescrFilled.{DescrFilled}
 use Rattle.literal.specs.Literal.{value}
-use Rattle.dtype.specs.Flat.{entry-width, flat}
+use Rattle.dtype.specs.Record.{entry-width, flat, nameBytes, namesOf}
 use Rattle.counts.specs.Number.{capped}
-use Rattle.dtype.specs.Names.{nameBytes, namesOf}
 use Rattle.dtype.specs.Entries.{entriesOf}
 
 -- the value at `at` is a field
@@ -82,17 +81,17 @@ read-back (TypeRead.Refused why) t h = refused-gives h
 
 -- ---- rows
 module _ {A : Type 0} (rd : ℕ → Got A) (s : List ℕ) (close : ℕ) where
-  pub row-head : (v : A) (vs : List A) (g : Gap) (e : ℕ) → Row rd s close (v ∷ vs) g e → (q : ℕ) × (rd (gapPlace g) ≡ got v q) × Row rd s close vs (thenAt s q close) e
+  pub row-head : (v : A) (vs : List A) (g : Gap) (e : ℕ) → RowOf rd s close (v ∷ vs) g e → (q : ℕ) × (rd (gapPlace g) ≡ got v q) × RowOf rd s close vs (thenAt s q close) e
   row-head v vs (Shut p) e h = absurd h
   row-head v vs (Item p) e h = h
   row-head v vs (Stray p) e h = absurd h
 
-  pub row-last : (g : Gap) (e : ℕ) → Row rd s close [] g e → gapPlace g ≡ e
+  pub row-last : (g : Gap) (e : ℕ) → RowOf rd s close [] g e → gapPlace g ≡ e
   row-last (Shut p) e h = h
   row-last (Item p) e h = absurd h
   row-last (Stray p) e h = absurd h
 
-  pub row-none : (vs : List A) (g : Gap) (e : ℕ) → OneOf (0 ∷ 2 ∷ []) (tagOf the-type g) → Row rd s close vs g e → (vs ≡ []) × (gapPlace g ≡ e)
+  pub row-none : (vs : List A) (g : Gap) (e : ℕ) → OneOf (0 ∷ 2 ∷ []) (tagOf the-type g) → RowOf rd s close vs g e → (vs ≡ []) × (gapPlace g ≡ e)
   row-none [] (Shut p) e o h = (refl, h)
   row-none (v ∷ vs) (Shut p) e o h = absurd h
   row-none vs (Item p) e o h = absurd (miss (0 ∷ 2 ∷ []) 1 tt o)
@@ -199,7 +198,7 @@ pub record Opened (k : ℕ) (s : List ℕ) (at close e : ℕ) (f : Field) : Type
   pub is : descrOf (forget node) ≡ gives d
   pub ns : List ℕ
   pub us : List Node
-  pub row : Row (read.value (k - 1) s) s close us (thenAt s end-of-node close) e
+  pub row : RowOf (read.value (k - 1) s) s close us (thenAt s end-of-node close) e
   pub few : length us ≤ 1
   pub shaped : perhaps (forgetAll (nodes us)) ≡ gives ns
   pub typed : f .type ≡ arrays ns d
@@ -209,11 +208,11 @@ opened k s at close hc n e f o =
     let rd = read.value (k - 1) s in
     let br = field-bracket k s at e close n f hc o in
     let i = field-items k s at e close n f br o in
-    let x = row-head rd s close (i .first) (i .second ∷ i .others) (gapAt s (at + 1) close) e (subst (λ (l : List Node). Row rd s close l (gapAt s (at + 1) close) e) (i .are) (br .row)) in
+    let x = row-head rd s close (i .first) (i .second ∷ i .others) (gapAt s (at + 1) close) e (subst (λ (l : List Node). RowOf rd s close l (gapAt s (at + 1) close) e) (i .are) (br .row)) in
     let nm = name-is (k - 1) s (namePlace s at close) (x .0) (i .first) (f .name) (x .1) (i .named) in
     let e1 = endOf (nameSpelled s at close .ended) in
     let q1 : x .0 ≡ e1 = sym (ap endOf (nm .2)) in
-    let y = row-head rd s close (i .second) (i .others) (thenAt s e1 close) e (subst (λ (q : ℕ). Row rd s close (i .second ∷ i .others) (thenAt s q close) e) q1 (x .2)) in
+    let y = row-head rd s close (i .second) (i .others) (thenAt s e1 close) e (subst (λ (q : ℕ). RowOf rd s close (i .second ∷ i .others) (thenAt s q close) e) q1 (x .2)) in
     record {
       deep = br .room;
       inside = br .inside;
@@ -234,8 +233,8 @@ opened k s at close hc n e f o =
 
 -- ---- after the inner descr
 module _ (k : ℕ) (s : List ℕ) (close : ℕ) (table : List ℕ) (r : DescrFilled) (e : ℕ) (ns : List ℕ) (h : DueShape k s close table r e ns) (g : Gap) (hg : g ≡ thenAt s (r .end) close) where
-  row-here : Row (read.value k s) s close (h .after .us) g e
-  row-here = subst (λ (x : Gap). Row (read.value k s) s close (h .after .us) x e) (sym hg) (h .after .row)
+  row-here : RowOf (read.value k s) s close (h .after .us) g e
+  row-here = subst (λ (x : Gap). RowOf (read.value k s) s close (h .after .us) x e) (sym hg) (h .after .row)
 
   -- no sub-shape
   pub shaped-none : (entry up m end : ℕ) → OneOf (0 ∷ 2 ∷ []) (tagOf the-type g) → end ≡ gapPlace g → Shaped e entry up m ns table table r (record { end = end; entry = r .entry; byte = r .byte; size = r .size })
@@ -250,17 +249,17 @@ module _ (k : ℕ) (s : List ℕ) (close : ℕ) (table : List ℕ) (r : DescrFil
 
   -- a sub-shape
   module _ (p : ℕ) (hp : g ≡ Item p) where
-    third : (us : List Node) → length us ≤ 1 → Row (read.value k s) s close us (Item p) e → (c : Node) × (q : ℕ) × (us ≡ c ∷ []) × (read.value k s p ≡ got c q) × Row (read.value k s) s close [] (thenAt s q close) e
+    third : (us : List Node) → length us ≤ 1 → RowOf (read.value k s) s close us (Item p) e → (c : Node) × (q : ℕ) × (us ≡ c ∷ []) × (read.value k s p ≡ got c q) × RowOf (read.value k s) s close [] (thenAt s q close) e
     third [] few w = absurd w
     third (c ∷ []) few w = (c, w .0, refl, w .1, w .2)
     third (c ∷ u ∷ us) few w = absurd (omega arith)
 
-    third-here : (c : Node) × (q : ℕ) × (h .after .us ≡ c ∷ []) × (read.value k s p ≡ got c q) × Row (read.value k s) s close [] (thenAt s q close) e
-    third-here = third (h .after .us) (h .after .few) (subst (λ (x : Gap). Row (read.value k s) s close (h .after .us) x e) hp row-here)
+    third-here : (c : Node) × (q : ℕ) × (h .after .us ≡ c ∷ []) × (read.value k s p ≡ got c q) × RowOf (read.value k s) s close [] (thenAt s q close) e
+    third-here = third (h .after .us) (h .after .few) (subst (λ (x : Gap). RowOf (read.value k s) s close (h .after .us) x e) hp row-here)
 
-    pub shape-stands : dimensionsAt (read.value k s p) ≡ gives ns
+    pub shape-there : dimensionsAt (read.value k s p) ≡ gives ns
     unfolding forgetAll
-    shape-stands =
+    shape-there =
         let t = third-here in
         let sh : subShape (forget (t .0)) ≡ gives ns = sym (ap (λ (l : List Node). perhaps (forgetAll (nodes l))) (t .2)) ∙ h .after .shaped in
         ap dimensionsAt (t .3) ∙ sh

@@ -10,8 +10,7 @@ use Rattle.counts.specs.Outcome.{Outcome, gives, refused, then, each, unless, a
 use Rattle.refusal.specs.declared.Refusal.{Refusal}
 use Rattle.refusal.specs.Numbers.{numberOf}
 use Rattle.dtype.specs.Record.{Record}
-use Rattle.record.specs.Version.{Version, textStart, one-zero, two-zero, three-zero}
-use Rattle.record.specs.Prefix.{Prefix, dataStart, prefix, missing, textHeld}
+use Rattle.record.specs.Prefix.{Version, textStart, one-zero, two-zero, three-zero, Prefix, dataStart, prefix, missing, textHeld}
 use Rattle.record.specs.Rooms.{Rooms, needs, tooSmall, Lent, roomsOf, holding}
 use Rattle.record.specs.Header as header
 use Rattle.header_prefix.specs.declared.Prefix as before
@@ -35,7 +34,7 @@ headed p r = record { version = p .version; says = r; data-start = dataStart p }
 abbrev info-of : Prefix → RecordInfo → HeaderInfo
 info-of p s = record { version = p .version; info = s; data-start = dataStart p }
 
-stored-is : (rooms : Rooms) (p : Prefix) (r : Record) → header.stored rooms p r ≡ each (headed p) (header.fitted rooms r)
+stored-is : (rooms : Rooms) (p : Prefix) (r : Record) → header.stored rooms p r ≡ each (headed p) (header.fitted rooms r r)
 unfolding header.stored
 stored-is rooms p r = go (tooSmall rooms (needs r))
   where
@@ -47,7 +46,7 @@ module _ (longer : Bool) (file : List ℕ) (p : Prefix) (l : Lent) where
   abbrev words : List ℕ
   words = take (p .text-length) (drop (textStart (p .version)) file)
 
-  record-then : (o : Outcome Record) → then o (header.stored (roomsOf l) p) ≡ each (headed p) (then o (header.fitted (roomsOf l)))
+  record-then : (o : Outcome Record) → then o (header.stored (roomsOf l) p) ≡ each (headed p) (then o (λ r. header.fitted (roomsOf l) r r))
   record-then (gives r) = stored-is (roomsOf l) p r
   record-then (refused n) = refl
 

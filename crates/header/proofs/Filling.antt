@@ -15,12 +15,11 @@ use Rattle.counts.specs.Counts.{asBytes}
 use Rattle.counts.specs.declared.Bytes.{Bytes}
 use Rattle.dtype.specs.Dtype.{Dtype, Fields, plain, record-of, end-of-fields, field-then, sizeOf, sizesOf}
 use Rattle.dtype.specs.Entries.{entriesOf, entriesIn, fieldCount, levels}
-use Rattle.dtype.specs.Names.{nameBytes, nameBytesIn, namesOf, namesIn}
+use Rattle.dtype.specs.Record.{nameBytes, nameBytesIn, namesOf, namesIn, entry-width, flat, flats}
 use Rattle.counts.specs.Number.{capped}
 use Rattle.counts.proofs.Alike.{false-true}
 use Rattle.counts.proofs.Apart.{refused-gives}
-use Rattle.dtype.specs.Flat.{entry-width, flat, flats}
-use Rattle.dtype.specs.EntryOf.{entryOf, numbers}
+use Rattle.dtype.specs.EntryOf.{entryOf, entryNumbers}
 use Rattle.dtype.proofs.Flat.{some-entry, flat-length, names-length}
 use Rattle.type_str.specs.declared.TypeStr.{TypeStr}
 use Rattle.type_str.specs.Answer.{answer}
@@ -36,7 +35,7 @@ use Rattle.literal_bytes.specs.Text.{byteAt, kindOf}
 use Rattle.literal_escapes.specs.Strings.{spelled}
 use Rattle.literal.specs.Literal.{value}
 use Rattle.literal_bytes.specs.Gaps.{gapAt, thenAt}
-use Rattle.literal.specs.Rows.{Row}
+use Rattle.literal.specs.Rows.{RowOf}
 use Rattle.literal_bytes.specs.declared.Gap.{Gap}
 use Rattle.literal_bytes.specs.declared.Gap.the-variants.{Item}
 use Rattle.literal_bytes.proofs.Gap.{the-type}
@@ -80,7 +79,7 @@ pub record Listed (k : ℕ) (s : List ℕ) (at e : ℕ) (d : Dtype) : Type 0 whe
   pub inside : at < length s
   pub deep : 0 < k
   pub ns : List Node
-  pub row : Row (value (k - 1) s) s 93 ns (gapAt s (at + 1) 93) e
+  pub row : RowOf (value (k - 1) s) s 93 ns (gapAt s (at + 1) 93) e
   pub fs : Fields
   pub is : fieldsOf (forgetAll (nodes ns)) ≡ gives fs
   pub recorded : d ≡ record-of fs
@@ -124,7 +123,7 @@ module _ (k : ℕ) (s : List ℕ) (at e : ℕ) (d : Dtype) where
 pub record-filled : (e entry up m byte : ℕ) (fs : Fields) (d : Dtype) (table names mid names′ table′ : List ℕ) (r : FieldsFilled) (x : Entry) → d ≡ record-of fs
     → FilledFields e (entry + 1) entry byte fs table names mid names′ r
     → x ≡ record { parent = up; kind = 2; order = 0; letter = 0; number = r .count; units = 0; extent = r .entry - entry; bytes = r .size .0; name = m }
-    → table′ ≡ sets mid (entry-width * entry) (numbers x []) → Filled e entry up m byte d table names table′ names′ (record { end = r .end; entry = r .entry; byte = r .byte; size = r .size })
+    → table′ ≡ sets mid (entry-width * entry) (entryNumbers x []) → Filled e entry up m byte d table names table′ names′ (record { end = r .end; entry = r .entry; byte = r .byte; size = r .size })
 record-filled e entry up m byte fs d table names mid names′ table′ r x hd w hx ht =
     let one : entry + 1 ≡ suc entry = omega arith in
     let ext : r .entry - entry ≡ suc (entriesIn fs) = omega (arith, w .next) in
@@ -138,9 +137,9 @@ record-filled e entry up m byte fs d table names mid names′ table′ r x hd w 
       next = omega (arith, w .next, n);
       next-name = w .next-name ∙ ap (λ (y : Dtype). byte + nameBytes y) (sym hd);
       sized = w .sized ∙ ap (λ (y : Dtype). capped (sizeOf y)) (sym hd);
-      table-after = ht ∙ ap (λ (y : List ℕ). sets y (entry-width * entry) (numbers x [])) (w .table-after ∙ ap (λ (y : ℕ). sets table (entry-width * (entry + 1)) (flats fs y entry [])) one)
+      table-after = ht ∙ ap (λ (y : List ℕ). sets y (entry-width * entry) (entryNumbers x [])) (w .table-after ∙ ap (λ (y : ℕ). sets table (entry-width * (entry + 1)) (flats fs y entry [])) one)
           ∙ entry-before x entry (entry + 1) (flats fs (suc entry) entry []) table one
-          ∙ ap (λ (y : Entry). sets table (entry-width * entry) (numbers y (flats fs (suc entry) entry []))) is
+          ∙ ap (λ (y : Entry). sets table (entry-width * entry) (entryNumbers y (flats fs (suc entry) entry []))) is
           ∙ ap (λ (y : Dtype). sets table (entry-width * entry) (flat y entry up m [])) (sym hd);
       names-after = w .names-after ∙ ap (λ (y : Dtype). sets names byte (namesOf y [])) (sym hd);
     }
@@ -198,7 +197,7 @@ module _ (k : ℕ) (s : List ℕ) (from entry up byte : ℕ) (table0 names0 : Li
   pub record Left (g : Gap) (at b count : ℕ) (size : Bytes) (table names : List ℕ) (fs : Fields) (e : ℕ) : Type 0 where
     pub us : List Node
     pub gs : Fields
-    pub row : Row (value k s) s 93 us g e
+    pub row : RowOf (value k s) s 93 us g e
     pub is : fieldsOf (forgetAll (nodes us)) ≡ gives gs
     pub narrow : NarrowIn gs
     pub adds : at + entriesIn gs ≡ entry + entriesIn fs
@@ -226,7 +225,7 @@ module _ (k : ℕ) (s : List ℕ) (from entry up byte : ℕ) (table0 names0 : Li
             record {
               us = ns;
               gs = fs;
-              row = subst (λ (x : Gap). Row (value k s) s 93 ns x e) (sym hg) (h .row);
+              row = subst (λ (x : Gap). RowOf (value k s) s 93 ns x e) (sym hg) (h .row);
               is = h .is;
               narrow = h .narrow;
               adds = refl;
@@ -244,7 +243,7 @@ module _ (k : ℕ) (s : List ℕ) (from entry up byte : ℕ) (table0 names0 : Li
         → (v : Node) × (q : ℕ) × (f : Field) × DueField k s p at table b names v q f
     filling-field p hg ns e fs h =
         let l = w .goes ns e fs h in
-        let x = row-step (value k s) s 93 (l .us) p e (subst (λ (y : Gap). Row (value k s) s 93 (l .us) y e) hg (l .row)) in
+        let x = row-step (value k s) s 93 (l .us) p e (subst (λ (y : Gap). RowOf (value k s) s 93 (l .us) y e) hg (l .row)) in
         let y = fields-back (x .0) (x .1) (l .gs) (sym (ap (λ (z : List Node). fieldsOf (forgetAll (nodes z))) (x .3)) ∙ l .is) in
         let f = y .0 in
         let nar : NarrowIn (field-then (f .name) (f .type) (y .1)) = subst (λ (z : Fields). NarrowIn z) (y .4) (l .narrow) in
@@ -282,7 +281,7 @@ module _ (k : ℕ) (s : List ℕ) (from entry up byte : ℕ) (table0 names0 : Li
             fits = omega arith;
             goes = λ ns e fs h.
                 let l = w .goes ns e fs h in
-                let x = row-step (value k s) s 93 (l .us) p e (subst (λ (y : Gap). Row (value k s) s 93 (l .us) y e) hg (l .row)) in
+                let x = row-step (value k s) s 93 (l .us) p e (subst (λ (y : Gap). RowOf (value k s) s 93 (l .us) y e) hg (l .row)) in
                 let y = fields-back (x .0) (x .1) (l .gs) (sym (ap (λ (z : List Node). fieldsOf (forgetAll (nodes z))) (x .3)) ∙ l .is) in
                 let f = y .0 in
                 let gs = y .1 in
@@ -302,7 +301,7 @@ module _ (k : ℕ) (s : List ℕ) (from entry up byte : ℕ) (table0 names0 : Li
                 record {
                   us = x .1;
                   gs = gs;
-                  row = subst (λ (q : Gap). Row (value k s) s 93 (x .1) q e) (ap (λ (q : ℕ). thenAt s q 93) (sym (z .ends)) ∙ sym hg′) (x .5);
+                  row = subst (λ (q : Gap). RowOf (value k s) s 93 (x .1) q e) (ap (λ (q : ℕ). thenAt s q 93) (sym (z .ends)) ∙ sym hg′) (x .5);
                   is = y .3;
                   narrow = nar .1;
                   adds = omega (arith, z .next, m1, l .adds);
@@ -340,7 +339,7 @@ module _ (k : ℕ) (s : List ℕ) (from entry up byte : ℕ) (table0 names0 : Li
 
 -- ---- a type string's entry
 pub text-filled : (e entry up m byte : ℕ) (d : Dtype) (t u : TypeStr) (table names table′ : List ℕ) (size : Bytes) (end : ℕ) → d ≡ plain t → u ≡ t → end ≡ e → size ≡ asBytes (capped (sizeOf (plain u)))
-    → table′ ≡ sets table (entry-width * entry) (numbers (entryOf (plain u) up m) []) → Filled e entry up m byte d table names table′ names (record { end = end; entry = entry + 1; byte = byte; size = size })
+    → table′ ≡ sets table (entry-width * entry) (entryNumbers (entryOf (plain u) up m) []) → Filled e entry up m byte d table names table′ names (record { end = end; entry = entry + 1; byte = byte; size = size })
 text-filled e entry up m byte d t u table names table′ size end hd hu he hs ht =
     let is : plain u ≡ d = ap plain hu ∙ sym hd in
     record {
@@ -410,7 +409,7 @@ module _ (k : ℕ) (s : List ℕ) (at entry up byte : ℕ) (table names : List �
           record {
             after = record {
               us = w .us;
-              row = subst (λ (q : ℕ). Row (value (k - 1) s) s close (w .us) (thenAt s q close) e) (sym (fl .ends)) (w .row);
+              row = subst (λ (q : ℕ). RowOf (value (k - 1) s) s close (w .us) (thenAt s q close) e) (sym (fl .ends)) (w .row);
               few = w .few;
               shaped = w .shaped;
               low = few-levels .0;

@@ -12,13 +12,11 @@ use lib.Seq.{sets}
 use Rattle.counts.specs.Outcome.{gives, unless}
 use Rattle.counts.proofs.Alike.{or-none}
 use Rattle.counts.proofs.Holds.{unless-back}
-use Rattle.counts.specs.Front.{atFront}
+use Rattle.counts.specs.Lists.{atFront}
 use Rattle.refusal.specs.declared.Refusal.{Refusal}
 use Rattle.dtype.specs.declared.Order.{Order}
 use Rattle.dtype.specs.Entries.{entriesOf, levels, someEntryIn}
-use Rattle.dtype.specs.Names.{nameBytes}
-use Rattle.dtype.specs.Flat.{entry-width}
-use Rattle.dtype.specs.Record.{Record, names, table}
+use Rattle.dtype.specs.Record.{nameBytes, entry-width, Record, names, table}
 use Rattle.dtype.specs.Limits.{overDimensions, overLevels, overEntries, overSize, overShape, limited}
 use Rattle.dtype.specs.Dtype.{Dtype, Fields, plain, array, record-of, end-of-fields, field-then}
 use Rattle.dtype.proofs.Seen.{table-length, all-names-length}
@@ -153,8 +151,8 @@ module _ (text : List ℕ) (plan : FoundRecord) (r : Record) (h : PlanOf text (s
         },
       )
 
-      shape-stands : dimensionsAt (value inside text (plan .shape .at)) ≡ gives (r .shape)
-      shape-stands = ap dimensionsAt (h .shaped .counts .there) ∙ h .shaped .is
+      shape-there : dimensionsAt (value inside text (plan .shape .at)) ≡ gives (r .shape)
+      shape-there = ap dimensionsAt (h .shaped .counts .there) ∙ h .shaped .is
 
       -- ---- what the rooms then hold
       lent-eq : {t t′ n n′ s s′ : List ℕ} → t ≡ t′ → n ≡ n′ → s ≡ s′ → lent t n s ≡ lent t′ n′ s′
@@ -166,6 +164,6 @@ module _ (text : List ℕ) (plan : FoundRecord) (r : Record) (h : PlanOf text (s
       unfolding fill-due
       store-fits spot count t′ n′ s′ f g =
           let a = f (fill-due .0) (fill-due .1) (fill-due .2) (fill-due .3) in
-          let b = g (r .shape) shape-stands in
+          let b = g (r .shape) shape-there in
           let held : lent t′ n′ s′ ≡ holding r l = lent-eq (a .table-after ∙ table-held (r .dtype) t table-fits) (a .names-after ∙ names-held (r .dtype) ns names-fit) (b .out-after ∙ stored-over (r .shape) s shape-fits) in
           record { answered = rw roomy (ap gives info-is); after = rw roomy held }

@@ -30,7 +30,7 @@ module _ (text : List ℕ) (j : Judged) (h : JudgedIs text (skip text 0) j (head
   text-stored plan l x l′ e k =
       let y = fits plan e in
       let a = k (y .0) (y .1) in
-      let same : header.textBy reading text l ≡ header.fitted (roomsOf l) (y .0) = ap (λ (o : Outcome Record). then o (header.fitted (roomsOf l))) (y .2) in
+      let same : header.textBy reading text l ≡ header.fitted (roomsOf l) (y .0) (y .0) = ap (λ (o : Outcome Record). then o (λ r. header.fitted (roomsOf l) r r)) (y .2) in
       record { answered = a .answered ∙ ap (each infoOf) (sym same); after = a .after ∙ ap (λ (o : Outcome Record). afterwards holding o l) (sym same) }
 
   none-of : (f : Refusal) (o : Outcome Record) → JudgedIs text (skip text 0) (Judged.Refused f) o → o ≡ refused (numberOf f)
@@ -40,5 +40,5 @@ module _ (text : List ℕ) (j : Judged) (h : JudgedIs text (skip text 0) j (head
   pub text-refused : (f : Refusal) (l : Lent) → j ≡ Judged.Refused f → ReadsText text l (TextRead.Refused f) l
   text-refused f l e =
       let z = none-of f (header.recordIn reading text) (subst (λ (x : Judged). JudgedIs text (skip text 0) x (header.recordIn reading text)) e h) in
-      let same : header.textBy reading text l ≡ refused (numberOf f) = ap (λ (o : Outcome Record). then o (header.fitted (roomsOf l))) z in
+      let same : header.textBy reading text l ≡ refused (numberOf f) = ap (λ (o : Outcome Record). then o (λ r. header.fitted (roomsOf l) r r)) z in
       record { answered = sym (ap (each infoOf) same); after = sym (ap (λ (o : Outcome Record). afterwards holding o l) same) }

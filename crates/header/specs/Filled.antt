@@ -9,9 +9,8 @@ use lib.Seq.{sets}
 use Rattle.counts.specs.Outcome.{gives}
 use Rattle.dtype.specs.Dtype.{Dtype, Fields, plain, array, record-of, end-of-fields, field-then, sizeOf, sizesOf}
 use Rattle.dtype.specs.Entries.{entriesOf, entriesIn, fieldCount, levels}
-use Rattle.dtype.specs.Names.{nameBytes, nameBytesIn, namesOf, namesIn}
+use Rattle.dtype.specs.Record.{nameBytes, nameBytesIn, namesOf, namesIn, entry-width, flat, flats}
 use Rattle.counts.specs.Number.{capped}
-use Rattle.dtype.specs.Flat.{entry-width, flat, flats}
 use Rattle.record.specs.Descr.{perhaps, descrOf, fieldsOf}
 use Rattle.literal_tokens.specs.Node.{Node, nodes}
 use Rattle.literal_bytes.specs.Got.{got}
@@ -21,7 +20,7 @@ use Rattle.literal.specs.Answer.{endOf}
 use Rattle.descr_field.specs.Begins.{gapPlace}
 use Rattle.literal.specs.Literal.{value}
 use Rattle.literal_bytes.specs.Gaps.{gapAt, thenAt}
-use Rattle.literal.specs.Rows.{Row}
+use Rattle.literal.specs.Rows.{RowOf}
 use Rattle.literal.specs.Forget.{forget, forgetAll}
 use Rattle.table_fill.specs.Written.{sizeOver, above}
 use Rattle.header.specs.declared.fill.DescrFilled.{DescrFilled}
@@ -68,7 +67,7 @@ pub record Headed (s : List ℕ) (at close byte : ℕ) (names names′ : List �
 -- it ended at q, and then comes nothing or a sub-shape: its dimensions are ns, and the field ends at e
 pub record AfterInner (k : ℕ) (s : List ℕ) (close q e : ℕ) (ns : List ℕ) : Type 0 where
   pub us : List Node
-  pub row : Row (value k s) s close us (thenAt s q close) e
+  pub row : RowOf (value k s) s close us (thenAt s q close) e
   pub few : length us ≤ 1
   pub shaped : perhaps (forgetAll (nodes us)) ≡ gives ns
   pub low : length ns ≤ 32
@@ -111,7 +110,7 @@ pub record Filled (e entry up m byte : ℕ) (d : Dtype) (table names table′ na
 -- ---- the fields of a record
 -- the items from `from` on, up to `]` (93), are fields that give fs, and there is room for fs
 pub record DueFields (k : ℕ) (s : List ℕ) (from entry : ℕ) (table : List ℕ) (byte : ℕ) (names : List ℕ) (ns : List Node) (e : ℕ) (fs : Fields) : Type 0 where
-  pub row : Row (value k s) s 93 ns (gapAt s from 93) e
+  pub row : RowOf (value k s) s 93 ns (gapAt s from 93) e
   pub is : fieldsOf (forgetAll (nodes ns)) ≡ gives fs
   pub narrow : NarrowIn fs
   pub room : entry-width * (entry + entriesIn fs) ≤ length table

@@ -9,10 +9,8 @@ use lib.ListN.{length}
 use Rattle.counts.specs.Outcome.{Outcome, gives, refused, each, afterwards}
 use Rattle.refusal.specs.Numbers.{numberOf}
 use Rattle.dtype.specs.Entries.{entriesOf}
-use Rattle.dtype.specs.Names.{nameBytes}
-use Rattle.dtype.specs.Record.{Record}
-use Rattle.record.specs.Version.{Version}
-use Rattle.record.specs.Prefix.{Prefix}
+use Rattle.dtype.specs.Record.{nameBytes, Record}
+use Rattle.record.specs.Prefix.{Version, Prefix}
 use Rattle.record.specs.Rooms.{Lent, roomsOf, holding}
 use Rattle.record.specs.Header as header
 use Rattle.header_prefix.specs.Answer.{versionIs}
@@ -46,8 +44,8 @@ ReadsText text l x l′ = ReadsTextBy reading text l x l′
 
 -- an accepted record, stored in the rooms
 pub record Stores (r : Record) (l : Lent) (x : TextRead) (l′ : Lent) : Type 0 where
-  pub answered : textAnswer x ≡ each infoOf (header.fitted (roomsOf l) r)
-  pub after : l′ ≡ afterwards holding (header.fitted (roomsOf l) r) l
+  pub answered : textAnswer x ≡ each infoOf (header.fitted (roomsOf l) r r)
+  pub after : l′ ≡ afterwards holding (header.fitted (roomsOf l) r r) l
 
 -- ---- a file
 -- what is known of a header beside the rooms

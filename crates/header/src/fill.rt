@@ -17,13 +17,13 @@ use literal_bytes::gap_at;
 use literal_bytes::then_at;
 use literal_decode::decode;
 use literal_escapes::Scan;
-use literal_grammar::OPEN;
+use literal_grammar::MOST_OPEN;
 use refusal::Refusal;
 use saturating::held_sum;
-use table_fill::put_over;
 use table_fill::put_plain;
 use table_fill::put_record;
-use table_fill::type_of;
+use table_fill::put_sub_shape;
+use table_fill::type_in;
 ghost use mathlib.Core.Path.{_≡_};
 ghost use mathlib.Core.Bool.{true, false};
 ghost use Prim.Native.Nat.{_+_, _/_, _≤_, _<_};
@@ -32,8 +32,7 @@ ghost use lib.Seq.{sets};
 ghost use Rattle.descr_field.specs.Begins.{isString};
 ghost use Rattle.literal.specs.Answer.{endOf};
 ghost use Rattle.literal_escapes.specs.Strings.{spelled, scanned};
-ghost use Rattle.dtype.specs.Flat.{entry-width};
-ghost use Rattle.dtype.specs.Record.{Record};
+ghost use Rattle.dtype.specs.Record.{entry-width, Record};
 ghost use Rattle.record.specs.Rooms.{rooms, tooSmall};
 ghost use Rattle.literal_bytes.specs.Text.{byteAt, kindOf, skip};
 ghost use Rattle.judge.specs.Judged.{PlanOf};
@@ -87,8 +86,8 @@ pub(crate) fn store_record(
     if too_small(table.len(), names.len(), shape.len(), entries, bytes, rank) {
         return TextRead::Refused(Refusal::Room);
     }
-    fill(text, descr.at, OPEN - 1, table, 0, 0, 0, names, 0);
-    shape_text::fill(text, shaped.at, OPEN - 1, shape);
+    fill(text, descr.at, MOST_OPEN - 1, table, 0, 0, 0, names, 0);
+    shape_text::fill(text, shaped.at, MOST_OPEN - 1, shape);
     TextRead::Read(RecordInfo {
         order: order,
         rank: rank,
@@ -150,7 +149,7 @@ fn fill_plain(
     let t = typed_at(text, at + 1, text[at]);
     let ended = t.ended;
     let read = t.read;
-    let size = put_plain(table, entry, type_of(read), up, name);
+    let size = put_plain(table, entry, type_in(read), up, name);
     DescrFilled {
         end: end_place(ended),
         entry: entry + 1,
@@ -275,7 +274,7 @@ fn shaped(
     let s = shape_text::fill(text, p, room, &mut shape);
     let rank = s.rank;
     let stop = s.stop;
-    let size = put_over(table, entry, up, name, &shape[..rank], r.entry, of);
+    let size = put_sub_shape(table, entry, up, name, &shape[..rank], r.entry, of);
     DescrFilled {
         end: place_of(then_at(text, place_of(stop), close)),
         entry: r.entry + rank,

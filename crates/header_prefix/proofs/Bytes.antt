@@ -8,15 +8,14 @@ use lib.Dec.{eqb}
 use lib.ListN.{length, getD, take, drop}
 use borrow.Author.Tests.{lt-ltb, le-ltb, ne-eqb}
 use Rattle.counts.specs.Outcome.{gives, refused, then}
-use Rattle.counts.specs.Same.{same}
+use Rattle.counts.specs.Lists.{same}
 use Rattle.counts.specs.Number.{number}
 use Rattle.counts.specs.declared.Number.{Number}
 use Rattle.counts.specs.declared.Number.the-variants.{Is, Over}
 use Rattle.counts.proofs.Fits.{number-is-back, number-over-back}
 use Rattle.type_letters.specs.declared.Endianness.the-variants.{Little}
 use Rattle.number_bytes.specs.Numbers.{little, inOrder}
-use Rattle.record.specs.Version.{Version, versionOf, lengthWidth, textStart, one-zero, two-zero, three-zero}
-use Rattle.record.specs.Prefix.{magic, most-text, lengthRead, prefix}
+use Rattle.record.specs.Prefix.{Version, versionOf, lengthWidth, textStart, one-zero, two-zero, three-zero, magic, most-text, lengthRead, prefix}
 
 -- ---- 1
 pub magic-by :

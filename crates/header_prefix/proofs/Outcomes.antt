@@ -8,24 +8,23 @@ use lib.ListN.{length, getD, take, drop}
 use borrow.Author.Tests.{ltb-false}
 use Rattle.counts.specs.Outcome.{Outcome, gives, refused}
 use Rattle.counts.specs.OneOutcome.{OneOutcome}
-use Rattle.counts.specs.Same.{same}
+use Rattle.counts.specs.Lists.{same}
 use Rattle.counts.proofs.OneOutcome.{by-equation}
 use Rattle.counts.proofs.Holds.{Holds, then-holds, unless-holds, holds-of}
 use Rattle.refusal.proofs.Names.{refusal-back}
 use Rattle.refusal.proofs.Answers.{answerFor, answer-one}
-use Rattle.record.specs.Version as version
-use Rattle.number_bytes.specs.Numbers.{little}
 use Rattle.record.specs.Prefix as before
+use Rattle.number_bytes.specs.Numbers.{little}
 use Rattle.header_prefix.specs.declared.Version.{Version}
 use Rattle.header_prefix.specs.declared.Prefix.{Prefix}
 use Rattle.header_prefix.specs.declared.PrefixRead.{PrefixRead}
 use Rattle.header_prefix.specs.Answer.{versionIs, answer}
 
 -- a version can be found again from what it means
-pub versionBack : version.Version → Version
-versionBack version.one-zero = Version.OneZero
-versionBack version.two-zero = Version.TwoZero
-versionBack version.three-zero = Version.ThreeZero
+pub versionBack : before.Version → Version
+versionBack before.one-zero = Version.OneZero
+versionBack before.two-zero = Version.TwoZero
+versionBack before.three-zero = Version.ThreeZero
 
 pub version-back : (v : Version) → versionBack (versionIs v) ≡ v
 unfolding versionBack
@@ -46,26 +45,26 @@ read-same (PrefixRead.Refused why) = ap PrefixRead.Refused (refusal-back why)
 pub read-one : (file : List ℕ) → OneOutcome {A = PrefixRead} (λ r. answer r ≡ before.prefix file)
 read-one file = answer-one answer readFor PrefixRead.Refused read-same (before.prefix file)
 
-pub major-one : (v : Version) → OneOutcome {A = ℕ} (λ r. r ≡ version.major (versionIs v))
-major-one v = by-equation (version.major (versionIs v))
+pub major-one : (v : Version) → OneOutcome {A = ℕ} (λ r. r ≡ before.major (versionIs v))
+major-one v = by-equation (before.major (versionIs v))
 
-pub length-width-one : (v : Version) → OneOutcome {A = ℕ} (λ r. r ≡ version.lengthWidth (versionIs v))
-length-width-one v = by-equation (version.lengthWidth (versionIs v))
+pub length-width-one : (v : Version) → OneOutcome {A = ℕ} (λ r. r ≡ before.lengthWidth (versionIs v))
+length-width-one v = by-equation (before.lengthWidth (versionIs v))
 
-pub text-start-one : (v : Version) → OneOutcome {A = ℕ} (λ r. r ≡ version.textStart (versionIs v))
-text-start-one v = by-equation (version.textStart (versionIs v))
+pub text-start-one : (v : Version) → OneOutcome {A = ℕ} (λ r. r ≡ before.textStart (versionIs v))
+text-start-one v = by-equation (before.textStart (versionIs v))
 
 -- 4 was not given
 abbrev Short : before.Prefix → Type 0
 Short p = p .text-length ≤ before.most-text
 
-length-holds : (v : version.Version) (file : List ℕ) → Holds Short (before.lengthRead v file)
+length-holds : (v : before.Version) (file : List ℕ) → Holds Short (before.lengthRead v file)
 length-holds v file =
-    let n = little (take (version.lengthWidth v) (drop 8 file)) in
-    unless-holds Short (ltb (length file) (version.textStart v)) 3 _
+    let n = little (take (before.lengthWidth v) (drop 8 file)) in
+    unless-holds Short (ltb (length file) (before.textStart v)) 3 _
     (λ h. unless-holds Short (ltb before.most-text n) 4 _ (λ k. ltb-false before.most-text n k))
 
-any-version : (o : Outcome version.Version) → Holds (λ _. Unit {0}) o
+any-version : (o : Outcome before.Version) → Holds (λ _. Unit {0}) o
 any-version (gives v) = tt
 any-version (refused n) = tt
 
@@ -74,4 +73,4 @@ unfolding before.prefix
 prefix-short file p e =
     holds-of Short e
     (unless-holds Short (ltb (length file) 8 || not (same (take 6 file) before.magic)) 1 _
-    (λ h. then-holds (λ _. Unit {0}) Short (version.versionOf (getD file 6 0) (getD file 7 0)) (λ v. before.lengthRead v file) (any-version (version.versionOf (getD file 6 0) (getD file 7 0))) (λ v u. length-holds v file)))
+    (λ h. then-holds (λ _. Unit {0}) Short (before.versionOf (getD file 6 0) (getD file 7 0)) (λ v. before.lengthRead v file) (any-version (before.versionOf (getD file 6 0) (getD file 7 0))) (λ v u. length-holds v file)))

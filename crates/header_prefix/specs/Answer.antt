@@ -2,19 +2,18 @@
 -- two answers mean the same.
 use Rattle.counts.specs.Outcome.{Outcome, gives, refused}
 use Rattle.refusal.specs.Numbers.{numberOf}
-use Rattle.record.specs.Version as version
 use Rattle.record.specs.Prefix as before
 use Rattle.header_prefix.specs.declared.Version.{Version}
 use Rattle.header_prefix.specs.declared.Prefix.{Prefix}
 use Rattle.header_prefix.specs.declared.PrefixRead.{PrefixRead}
 use Rattle.header_prefix.specs.declared.VersionRead.{VersionRead}
 
-abbrev pub versionIs : Version → version.Version
-versionIs Version.OneZero = version.one-zero
-versionIs Version.TwoZero = version.two-zero
-versionIs Version.ThreeZero = version.three-zero
+abbrev pub versionIs : Version → before.Version
+versionIs Version.OneZero = before.one-zero
+versionIs Version.TwoZero = before.two-zero
+versionIs Version.ThreeZero = before.three-zero
 
-abbrev pub versionAnswer : VersionRead → Outcome version.Version
+abbrev pub versionAnswer : VersionRead → Outcome before.Version
 versionAnswer (VersionRead.Is v) = gives (versionIs v)
 versionAnswer VersionRead.Other = refused 2
 

@@ -6,9 +6,8 @@ use type_letters::Endianness;
 ghost use mathlib.Core.Path.{_≡_};
 ghost use Prim.Native.Nat.{_≤_};
 ghost use lib.ListN.{length, take};
-ghost use Rattle.counts.specs.Same.{same};
-ghost use Rattle.record.specs.Version.{major, lengthWidth, textStart, versionOf};
-ghost use Rattle.record.specs.Prefix.{magic, lengthRead, prefix};
+ghost use Rattle.counts.specs.Lists.{same};
+ghost use Rattle.record.specs.Prefix.{major, lengthWidth, textStart, versionOf, magic, lengthRead, prefix};
 ghost use Rattle.header_prefix.specs.Answer.{versionIs, versionAnswer, answer};
 
 // The most bytes that a text may have: a longer one is refused with 4.

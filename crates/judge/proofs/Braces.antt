@@ -26,7 +26,7 @@ use Rattle.literal_bytes.proofs.ValueKind.{the-type}
 use Rattle.literal.proofs.View.{view, View}
 use Rattle.judge_names.specs.declared.Name as name
 use Rattle.judge_names.specs.declared.Name.{Name}
-use Rattle.judge_names.specs.Answer.{Named}
+use Rattle.judge_names.specs.Answer.{NameIs}
 use Rattle.judge.specs.Pairs.{pairsIn}
 
 -- what the `else` of `let ValueKind::Curly = k else { .. }` knows of k, and that of `ValueKind::Quote`
@@ -105,8 +105,8 @@ module _ (k : ℕ) (s : List ℕ) (at e : ℕ) (n : Node) (h : value k s at ≡ 
   a-string hk = let v = view k s at h hk in text-of (v .0)
 
   -- which of the three it is
-  pub name-by : (r : Name) → kindOf (byteAt s at) ≡ Quote → Named r (gives (spelled (byteAt s at) s (at + 1) .bytes)) → Named r (stringOr 8 (forget n))
-  name-by r hk h = subst (Named r) (sym (a-string hk)) h
+  pub name-by : (r : Name) → kindOf (byteAt s at) ≡ Quote → NameIs r (gives (spelled (byteAt s at) s (at + 1) .bytes)) → NameIs r (stringOr 8 (forget n))
+  name-by r hk h = subst (NameIs r) (sym (a-string hk)) h
 
   no-string-by : (c : ValueKind) → NoQuote c → View c k s at n e → stringOr 8 (forget n) ≡ refused 8
   unfolding forget
@@ -121,7 +121,7 @@ module _ (k : ℕ) (s : List ℕ) (at e : ℕ) (n : Node) (h : value k s at ≡ 
   no-string-by NoneWord z v = text-of v
   no-string-by Other z v = absurd v
 
-  pub no-string : (c : ValueKind) → c ≡ kindOf (byteAt s at) → NoQuote c → Named name.Name.NoString (stringOr 8 (forget n))
+  pub no-string : (c : ValueKind) → c ≡ kindOf (byteAt s at) → NoQuote c → NameIs name.Name.NoString (stringOr 8 (forget n))
   no-string c hk z =
       let e = no-string-by c z (view k s at h (sym hk)) in
       record { of-string = ap given e; of-descr = ap (isThe key-descr) e; of-order = ap (isThe key-order) e; of-shape = ap (isThe key-shape) e }

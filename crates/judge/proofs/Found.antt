@@ -6,8 +6,8 @@ use mathlib.Core.Bool.{Bool, true, false}
 use Rattle.counts.specs.Outcome.{Outcome, gives, refused, then, each, unless}
 use Rattle.counts.proofs.Apart.{gives-apart, refused-gives, each-none}
 use Rattle.counts.proofs.Holds.{each-back, then-back, unless-back}
-use Rattle.counts.proofs.OneOutcome.{told}
-use Rattle.literal_grammar.specs.Value.{Value}
+use Rattle.counts.proofs.OneOutcome.{matched}
+use Rattle.literal_grammar.specs.Value.{Value, most-open}
 use Rattle.refusal.specs.declared.Refusal.{Refusal}
 use Rattle.refusal.specs.Numbers.{numberOf}
 use Rattle.dtype.specs.Dtype.{Dtype}
@@ -18,7 +18,6 @@ use Rattle.record.specs.Descr.{descrOf}
 use Rattle.literal_tokens.specs.Node.{Node}
 use Rattle.literal_bytes.specs.Got.{Got, got}
 use Rattle.literal.specs.Forget.{forget}
-use Rattle.literal_grammar.specs.Nesting.{most-open}
 use Rattle.literal.specs.Literal.{value}
 use Rattle.shape_verdict.specs.Answer.{outlined}
 use Rattle.shape_verdict.specs.Outline.{outlineOf}
@@ -67,7 +66,7 @@ ranked-each at (refused n) = refl
 -- 13 where the limit is broken
 pub shape-by : (at : ℕ) (v : ShapeVerdict) (o : Outline) (x y : Limit) → v ≡ ShapeVerdict.Good o → limitAnswer x ≡ rankLimit o → x ≡ y
     → each {A = Unit} (λ u. placedShape at o) (limitAnswer y) ≡ then (outlined v) (rankedAt at)
-shape-by at v o x y hv hx e = ap (each {A = Unit} (λ u. placedShape at o)) (told limitAnswer hx e) ∙ ap (λ (z : ShapeVerdict). then (outlined z) (rankedAt at)) (sym hv)
+shape-by at v o x y hv hx e = ap (each {A = Unit} (λ u. placedShape at o)) (matched limitAnswer hx e) ∙ ap (λ (z : ShapeVerdict). then (outlined z) (rankedAt at)) (sym hv)
 
 -- by the verdict on the value at the position
 module _ (k : ℕ) (s : List ℕ) (at : ℕ) where

@@ -24,7 +24,7 @@ use Rattle.literal.proofs.Steps.{key-stop, key-colon}
 use Rattle.shape_text.proofs.Numbers.{token-value}
 use Rattle.descr_field.proofs.Escapes.{raw-inside, raw-says}
 use Rattle.judge_names.specs.declared.Name.{Name}
-use Rattle.judge_names.specs.Answer.{Named}
+use Rattle.judge_names.specs.Answer.{NameIs}
 use Rattle.judge.specs.Keys.{KeyIs}
 use Rattle.judge.proofs.Braces.{name-by}
 
@@ -42,10 +42,10 @@ module _ (s : List ℕ) (at : ℕ) (c : ValueKind) (hk : c ≡ kindOf (byteAt s 
   pub key-fault : (k : ℕ) (name : Name) → Stops (r .ended) → KeyIs k s at (record { name = name; begins = r .ended })
   key-fault k name st = record { begins = key-stop (value k s) s at (r .ended) (ends k) st; named = λ j n e h. absurd (subst Stops (ends j ∙ ap pos h) st) }
 
-  pub key-string : (k q : ℕ) (name : Name) (begins : Parsed) → r .ended ≡ Ends q → begins ≡ colonAt s q → Named name (gives (spelled (getD s at 0) s (at + 1) .bytes))
+  pub key-string : (k q : ℕ) (name : Name) (begins : Parsed) → r .ended ≡ Ends q → begins ≡ colonAt s q → NameIs name (gives (spelled (getD s at 0) s (at + 1) .bytes))
       → KeyIs k s at (record { name = name; begins = begins })
   key-string k q name begins he hb hn =
-      let here = subst (λ (b : ℕ). Named name (gives (spelled b s (at + 1) .bytes))) the-quote hn in
+      let here = subst (λ (b : ℕ). NameIs name (gives (spelled b s (at + 1) .bytes))) the-quote hn in
       record { begins = hb ∙ key-colon (value k s) s at q (sym he ∙ ends k); named = λ j n e h. name-by j s at e n h name (sym hk ∙ z) here }
 
   module _ (plain : r .escape ≡ false) where
@@ -55,5 +55,5 @@ module _ (s : List ℕ) (at : ℕ) (c : ValueKind) (hk : c ≡ kindOf (byteAt s 
     pub raw-within : at + 1 + r .len ≤ length s
     raw-within = raw-inside (getD s at 0) s (at + 1) r hr raw
 
-    pub raw-named : (name : Name) → Named name (gives (take (at + 1 + r .len - (at + 1)) (drop (at + 1) s))) → Named name (gives (spelled (getD s at 0) s (at + 1) .bytes))
-    raw-named name h = subst (λ (u : List ℕ). Named name (gives u)) (raw-says (getD s at 0) s (at + 1) r hr raw) h
+    pub raw-named : (name : Name) → NameIs name (gives (take (at + 1 + r .len - (at + 1)) (drop (at + 1) s))) → NameIs name (gives (spelled (getD s at 0) s (at + 1) .bytes))
+    raw-named name h = subst (λ (u : List ℕ). NameIs name (gives u)) (raw-says (getD s at 0) s (at + 1) r hr raw) h

@@ -7,7 +7,7 @@ use Rattle.counts.specs.Outcome.{Outcome, gives, refused, then, each}
 use Rattle.literal_grammar.specs.Value.{Value, Items}
 use Rattle.record.specs.Parts.{itemsOr}
 use Rattle.record.specs.Dict.{lastOf, needed}
-use Rattle.literal_tokens.specs.Node.{Node, Pairs, string, integer, True, False, None, list, tuple, dict, end-of-pairs, pair-then}
+use Rattle.literal_tokens.specs.Node.{Node, NodePairs, string, integer, True, False, None, list, tuple, dict, end-of-pairs, pair-then}
 use Rattle.literal_bytes.specs.Got.{Got, got, fault, deep}
 use Rattle.literal.specs.Forget.{forget, forgetPairs}
 use Rattle.shape_text.specs.Answer.{valueOr}
@@ -28,7 +28,7 @@ chosen : (b : Bool) (v : Node) (was : Outcome Node) → each forget (cond b (giv
 chosen true v was = refl
 chosen false v was = refl
 
-last-value : (w : List ℕ) (was : Outcome Node) (ps : Pairs) → each forget (lastIn w was ps) ≡ lastOf w (each forget was) (forgetPairs ps)
+last-value : (w : List ℕ) (was : Outcome Node) (ps : NodePairs) → each forget (lastIn w was ps) ≡ lastOf w (each forget was) (forgetPairs ps)
 unfolding forgetPairs
 last-value w was end-of-pairs = refl
 last-value w was (pair-then key v ps) = last-value w (cond (isKey w key) (gives v) was) ps ∙ ap (λ (o : Outcome Value). lastOf w o (forgetPairs ps)) (chosen (isKey w key) v was)
@@ -37,7 +37,7 @@ last-value w was (pair-then key v ps) = last-value w (cond (isKey w key) (gives 
 pub node-value : (w : List ℕ) (g : Got Node) → each forget (nodeFor w g) ≡ then (then (valueOr 9 g) (itemsOr 9)) (needed w)
 node-value w (got n e) = go (pairsIn 9 n) ∙ ap (λ (o : Outcome Items). then o (needed w)) (sym (items-in 9 n))
   where
-    go : (o : Outcome Pairs) → each forget (then o (lastIn w (refused 9))) ≡ then (each forgetPairs o) (needed w)
+    go : (o : Outcome NodePairs) → each forget (then o (lastIn w (refused 9))) ≡ then (each forgetPairs o) (needed w)
     go (gives ps) = last-value w (refused 9) ps
     go (refused m) = refl
 node-value w (fault p) = refl

@@ -13,7 +13,7 @@ use Rattle.record.specs.Parts.{stringOr}
 use Rattle.record.specs.Descr.{descrOf}
 use Rattle.record.specs.Dimensions.{shapeOf}
 use Rattle.record.specs.Dict.{key-order, key-shape, key-descr, isThe, allStrings}
-use Rattle.literal_tokens.specs.Node.{Node, Pair, Pairs, span, dict, pairs}
+use Rattle.literal_tokens.specs.Node.{Node, Pair, NodePairs, span, dict, pairs}
 use Rattle.literal_bytes.specs.Got.{Got, got, fault, deep, pos, with}
 use Rattle.literal.specs.Forget.{forget, forgetPairs}
 use Rattle.literal_bytes.specs.Text.{byteAt, kindOf}
@@ -29,7 +29,7 @@ use Rattle.literal_bytes.specs.declared.ValueKind.the-variants.{Curly}
 use Rattle.literal_bytes.proofs.Parsed.{the-type}
 use Rattle.literal_bytes.proofs.Gap as gap
 use Rattle.literal.proofs.Ends.{pos-with}
-use Rattle.literal.proofs.Rows.{RowGot, row-list, pair-parts, key-stands}
+use Rattle.literal.proofs.Rows.{RowGot, row-list, pair-parts, key-there}
 use Rattle.literal_bytes.proofs.Ends.{Stops, stops}
 use Rattle.literal.proofs.Steps.{Turn, turn-end, turn-stop}
 use Rattle.shape_text.proofs.Goes.{Goes, goes-end}
@@ -59,7 +59,7 @@ use Rattle.judge.proofs.Found.{found-none, shape-here, descr-here}
 -- ---- a pair that was read, and its parts
 module _ (rd : ℕ → Got Node) (s : List ℕ) (p : ℕ) where
   key-of : (u : Pair) (q : ℕ) → pairBy rd s p ≡ got u q → (y : ℕ) × (rd p ≡ got (u .key) y)
-  key-of u q h = let x = pair-parts rd s p q u h in key-stands rd s p (x .0) (u .key) (x .1)
+  key-of u q h = let x = pair-parts rd s p q u h in key-there rd s p (x .0) (u .key) (x .1)
 
   value-of : (u : Pair) (q at : ℕ) → pairBy rd s p ≡ got u q → Ends at ≡ pos (keyBy rd s p) → rd at ≡ got (u .value) q
   value-of u q at h ha =
@@ -274,10 +274,10 @@ module _ (k : ℕ) (s : List ℕ) (at : ℕ) (c : ValueKind) (hk : c ≡ kindOf 
   pub no-dict : NoCurly c → (r : Walked) → r .strings ≡ false → r .descr ≡ DescrFound.Refused Refusal.NoKey → r .order ≡ Declared.Refused Refusal.NoKey → r .shape ≡ ShapeFound.Refused Refusal.NoKey
       → (n : Node) (e : ℕ) → value (suc k) s at ≡ got n e → KeysOfGot r (value (suc k) s at)
   no-dict z r hb hd ho hs n e h =
-      let none : (w : List ℕ) → refused 9 ≡ nodeFor w (got n e) = λ w. sym (ap (λ (x : Outcome Pairs). then x (lastIn w (refused 9))) (no-braces (suc k) s at e n h 9 c hk z)) in
+      let none : (w : List ℕ) → refused 9 ≡ nodeFor w (got n e) = λ w. sym (ap (λ (x : Outcome NodePairs). then x (lastIn w (refused 9))) (no-braces (suc k) s at e n h 9 c hk z)) in
       subst (KeysOfGot r) (sym h)
       (record {
-        of-strings = hb ∙ sym (ap keyed (items-in 8 n) ∙ ap (λ (x : Outcome Pairs). keyed (each forgetPairs x)) (no-braces (suc k) s at e n h 8 c hk z));
+        of-strings = hb ∙ sym (ap keyed (items-in 8 n) ∙ ap (λ (x : Outcome NodePairs). keyed (each forgetPairs x)) (no-braces (suc k) s at e n h 8 c hk z));
         of-descr = subst (DescrFoundIs k s (r .descr)) (none key-descr) (subst (λ (x : DescrFound). DescrFoundIs k s x (refused 9)) (sym hd) (no-descr k s));
         of-order = subst (OrderIs (r .order)) (none key-order) (subst (λ (x : Declared). OrderIs x (refused 9)) (sym ho) refl);
         of-shape = subst (ShapeFoundIs k s (r .shape)) (none key-shape) (subst (λ (x : ShapeFound). ShapeFoundIs k s x (refused 9)) (sym hs) (no-shape k s));

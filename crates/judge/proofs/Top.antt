@@ -10,7 +10,7 @@ use lib.ListN.{length}
 use Rattle.counts.specs.Outcome.{Outcome, gives, refused, then, each}
 use Rattle.counts.proofs.Alike.{true-false}
 use Rattle.literal_grammar.specs.Value as tree
-use Rattle.literal_grammar.specs.Value.{Value}
+use Rattle.literal_grammar.specs.Value.{Value, most-open}
 use Rattle.refusal.specs.declared.Refusal.{Refusal}
 use Rattle.refusal.specs.Numbers.{numberOf}
 use Rattle.utf8.specs.Decode.{utf8}
@@ -28,7 +28,6 @@ use Rattle.literal_tokens.specs.Node.{Node}
 use Rattle.literal_bytes.specs.Got.{Got, got, fault, deep, pos}
 use Rattle.literal.specs.Forget.{forget, forgot}
 use Rattle.literal_bytes.specs.Text.{skip}
-use Rattle.literal_grammar.specs.Nesting.{most-open}
 use Rattle.literal.specs.Literal.{value, alone, aloneAt, literalOf}
 use Rattle.literal_bytes.specs.declared.Parsed as parsed
 use Rattle.literal.proofs.Meaning.{literal-means}

@@ -16,7 +16,7 @@ use Rattle.record.specs.Header.{Reading}
 use Rattle.literal_tokens.specs.Node.{Node}
 use Rattle.literal_bytes.specs.Got.{got}
 use Rattle.literal.specs.Forget.{forget, forgot}
-use Rattle.literal_grammar.specs.Nesting.{most-open}
+use Rattle.literal_grammar.specs.Value.{most-open}
 use Rattle.literal.specs.Literal.{value, literalOf}
 use Rattle.shape_verdict.specs.Outline.{outlineOf}
 use Rattle.judge.specs.Pairs.{nodeFor}

@@ -13,12 +13,12 @@ use Rattle.literal_tokens.specs.Node.{Node, Pair, pairs}
 use Rattle.literal_bytes.specs.Got.{Got, got, pos}
 use Rattle.literal.specs.Forget.{forget, forgetPairs}
 use Rattle.literal.specs.Brackets.{keyBy}
-use Rattle.literal_grammar.specs.Nesting.{most-open}
+use Rattle.literal_grammar.specs.Value.{most-open}
 use Rattle.literal.specs.Literal.{value}
 use Rattle.shape_text.specs.Answer.{valueOr}
 use Rattle.judge_names.specs.declared.Name.{Name}
 use Rattle.judge_names.specs.declared.Declared.{Declared}
-use Rattle.judge_names.specs.Answer.{keyOf, Named, OrderIs}
+use Rattle.judge_names.specs.Answer.{keyOf, NameIs, OrderIs}
 use Rattle.judge.specs.declared.keys.Key.{Key}
 use Rattle.judge.specs.declared.keys.Walked.{Walked}
 use Rattle.judge.specs.declared.Judged.{Judged}
@@ -38,7 +38,7 @@ abbrev pub KeysIn : (text : List ℕ) (at : ℕ) → Walked → Type 0
 KeysIn text at r = KeysAt inside text r (keyedAt (value most-open text at)) (λ w. nodeFor w (value most-open text at))
 
 -- the walk over that value: how it ended, and its keys where it is one
-pub record Walks (s : List ℕ) (at : ℕ) (r : Walked) : Type 0 where
+pub record WalksKeys (s : List ℕ) (at : ℕ) (r : Walked) : Type 0 where
   pub ended : r .ended ≡ pos (value most-open s at)
   pub keys : (n : Node) (e : ℕ) → value most-open s at ≡ got n e → KeysIn s at r
 
@@ -49,7 +49,7 @@ pub record WalkedOf (k : ℕ) (s : List ℕ) (r : Walked) (g : Got (List Pair)) 
 
 -- the name of the key at a position, whichever value is there
 abbrev pub NameAt : List ℕ → ℕ → Name → Type 0
-NameAt s at r = (k : ℕ) (n : Node) (e : ℕ) → value k s at ≡ got n e → Named r (stringOr 8 (forget n))
+NameAt s at r = (k : ℕ) (n : Node) (e : ℕ) → value k s at ≡ got n e → NameIs r (stringOr 8 (forget n))
 
 -- what a key is, and where its value begins
 pub record KeyIs (k : ℕ) (s : List ℕ) (at : ℕ) (r : Key) : Type 0 where

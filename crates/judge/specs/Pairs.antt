@@ -8,13 +8,13 @@ use Rattle.counts.specs.Outcome.{Outcome, gives, refused, then}
 use Rattle.literal_grammar.specs.Value.{Items}
 use Rattle.record.specs.Parts.{stringOr, itemsOr}
 use Rattle.record.specs.Dict.{isThe, allStrings}
-use Rattle.literal_tokens.specs.Node.{Node, Pairs, string, integer, True, False, None, list, tuple, dict, end-of-pairs, pair-then}
+use Rattle.literal_tokens.specs.Node.{Node, NodePairs, string, integer, True, False, None, list, tuple, dict, end-of-pairs, pair-then}
 use Rattle.literal_bytes.specs.Got.{Got, got, fault, deep}
 use Rattle.literal.specs.Forget.{forget}
 use Rattle.shape_text.specs.Answer.{valueOr}
 
 -- the items of a dict, or refused with n
-abbrev pub pairsIn : ℕ → Node → Outcome Pairs
+abbrev pub pairsIn : ℕ → Node → Outcome NodePairs
 pairsIn n (string p w) = refused n
 pairsIn n (integer p minus i) = refused n
 pairsIn n (True p) = refused n
@@ -25,7 +25,7 @@ pairsIn n (tuple p ns) = refused n
 pairsIn n (dict p ps) = gives ps
 
 -- the dict that was read, or refused with n
-abbrev pub pairsOr : ℕ → Got Node → Outcome Pairs
+abbrev pub pairsOr : ℕ → Got Node → Outcome NodePairs
 pairsOr n (got v e) = pairsIn n v
 pairsOr n (fault p) = refused n
 pairsOr n (deep p) = refused n
@@ -35,7 +35,7 @@ abbrev pub isKey : List ℕ → Node → Bool
 isKey w n = isThe w (stringOr 8 (forget n))
 
 -- "of equal keys the last counts"
-abbrev pub lastIn : (w : List ℕ) (was : Outcome Node) → Pairs → Outcome Node
+abbrev pub lastIn : (w : List ℕ) (was : Outcome Node) → NodePairs → Outcome Node
 lastIn w was end-of-pairs = was
 lastIn w was (pair-then key v ps) = lastIn w (cond (isKey w key) (gives v) was) ps
 

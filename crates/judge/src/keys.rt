@@ -21,7 +21,7 @@ use literal_bytes::ended;
 use literal_bytes::gap_at;
 use literal_bytes::kind_at;
 use literal_bytes::then_at;
-use literal_grammar::OPEN;
+use literal_grammar::MOST_OPEN;
 use literal_tokens::scan_at;
 use refusal::Refusal;
 use shape_text::ShapeJudged;
@@ -33,7 +33,7 @@ ghost use Rattle.literal.specs.Literal.{value as valueOf};
 ghost use Rattle.shape_verdict.specs.Answer.{outlined};
 ghost use Rattle.descr_totals.specs.Verdict.{verdict};
 ghost use Rattle.judge.specs.Found.{shapeAnswer, descrAnswer, rankedAt, placedDescr};
-ghost use Rattle.judge.specs.Keys.{KeyIs, OrderTaken, WalkedOf, Walks};
+ghost use Rattle.judge.specs.Keys.{KeyIs, OrderTaken, WalkedOf, WalksKeys};
 
 // The shape of the value of `shape`; or 9, 11, 12, 13.
 pub enum ShapeFound {
@@ -64,19 +64,19 @@ struct Key {
 
 // How the value at `at` ends, and what it has for the three keys.
 pub(crate) fn keys(text: &[u8], at: usize) -> Walked
-    ensures { λ r. ⌜ Walks (now (text .entry)) at r ⌝ }
+    ensures { λ r. ⌜ WalksKeys (now (text .entry)) at r ⌝ }
 {
     let k = kind_at(text, at);
     let ValueKind::Curly = k else {
         return Walked {
-            ended: value(text, at, OPEN),
+            ended: value(text, at, MOST_OPEN),
             strings: false,
             descr: DescrFound::Refused(Refusal::NoKey),
             order: Declared::Refused(Refusal::NoKey),
             shape: ShapeFound::Refused(Refusal::NoKey),
         };
     };
-    keys_from(text, at + 1, OPEN - 1)
+    keys_from(text, at + 1, MOST_OPEN - 1)
 }
 
 // The pairs from `from` up to the closing brace (125 is `}`). A key that is no string is 8, which comes after any fault of the text: the walk goes on. What was found is in three locals, of which a

@@ -7,22 +7,22 @@ use mathlib.Core.Bool.{Bool, true, false}
 use lib.ListN.{length, take, drop, replicate}
 use lib.Seq.{sets, sets-eq, take-append-seam}
 use Rattle.counts.specs.Outcome.{gives, given}
-use Rattle.counts.specs.Same.{same}
+use Rattle.counts.specs.Lists.{same}
 use Rattle.counts.proofs.Alike.{same-equal}
 use Rattle.record.specs.Dict.{key-order, key-shape, key-descr, isThe}
 use Rattle.literal_escapes.specs.Strings.{Spelled, scanned}
 use Rattle.literal_escapes.specs.declared.Scan.{Scan}
 use Rattle.judge_names.specs.declared.Name as name
 use Rattle.judge_names.specs.declared.Name.{Name}
-use Rattle.judge_names.specs.Answer.{keyOf, Named}
+use Rattle.judge_names.specs.Answer.{keyOf, NameIs}
 use Rattle.judge_names.proofs.Same.{same-lengths}
 
-pub name-is : (r : Name) (w u : List ℕ) (b : Bool) → keyOf r ≡ gives w → b ≡ same u w → b ≡ true → Named r (gives u)
+pub name-is : (r : Name) (w u : List ℕ) (b : Bool) → keyOf r ≡ gives w → b ≡ same u w → b ≡ true → NameIs r (gives u)
 name-is r w u b hw hb ht =
     let e : gives u ≡ keyOf r = ap gives (same-equal u w (sym hb ∙ ht)) ∙ sym hw in
     record { of-string = ap given e; of-descr = ap (isThe key-descr) e; of-order = ap (isThe key-order) e; of-shape = ap (isThe key-shape) e }
 
-pub name-none : (u : List ℕ) (a b d : Bool) → a ≡ same u key-descr → a ≡ false → b ≡ same u key-order → b ≡ false → d ≡ same u key-shape → d ≡ false → Named name.Name.Extra (gives u)
+pub name-none : (u : List ℕ) (a b d : Bool) → a ≡ same u key-descr → a ≡ false → b ≡ same u key-order → b ≡ false → d ≡ same u key-shape → d ≡ false → NameIs name.Name.Extra (gives u)
 name-none u a b d ha fa hb fb hd fd = record { of-string = refl; of-descr = sym ha ∙ fa; of-order = sym hb ∙ fb; of-shape = sym hd ∙ fd }
 
 -- a key was decoded to room for the longest of the three
@@ -31,7 +31,7 @@ module _ (u : Spelled) (s : Scan) (hs : s ≡ scanned u) where
   count = ap (λ (r : Scan). r .len) hs
 
   -- one that is longer has the length of none
-  pub name-long : 13 < s .len → Named name.Name.Extra (gives (u .bytes))
+  pub name-long : 13 < s .len → NameIs name.Name.Extra (gives (u .bytes))
   name-long lt =
       let other : (w : List ℕ) → length w ≤ 13 → same (u .bytes) w ≡ false = λ w le. same-lengths (u .bytes) w (λ e. omega (arith, count, e)) in
       name-none (u .bytes) _ _ _ refl (other key-descr (omega arith)) refl (other key-order (omega arith)) refl (other key-shape (omega arith))
@@ -44,5 +44,5 @@ module _ (u : Spelled) (s : Scan) (hs : s ≡ scanned u) where
     pub name-fits : s .len ≡ length (take (s .len) out)
     name-fits = count ∙ sym (ap length stored)
 
-    pub name-stored : (r : Name) → Named r (gives (take (s .len) out)) → Named r (gives (u .bytes))
-    name-stored r = subst (λ (l : List ℕ). Named r (gives l)) stored
+    pub name-stored : (r : Name) → NameIs r (gives (take (s .len) out)) → NameIs r (gives (u .bytes))
+    name-stored r = subst (λ (l : List ℕ). NameIs r (gives l)) stored

@@ -10,7 +10,7 @@ use Rattle.record.specs.Dict.{key-order, key-shape, key-descr, isThe}
 use Rattle.literal_escapes.specs.Strings.{spelled}
 use Rattle.literal_bytes.specs.Text.{byteAt, kindOf}
 use Rattle.judge_names.specs.declared.Name.{Name}
-use Rattle.judge_names.specs.Answer.{keyOf, Named, WordAt, wordOf}
+use Rattle.judge_names.specs.Answer.{keyOf, NameIs, WordAt, wordOf}
 
 -- the name by the four tests
 nameBy : (string descr order shape : Bool) → Name
@@ -27,16 +27,16 @@ name-back Name.Shape = refl
 name-back Name.Extra = refl
 name-back Name.NoString = refl
 
-name-told : (key : Outcome (List ℕ)) (r : Name) → Named r key → nameFrom key ≡ r
-name-told key r h = rw (h .of-string, h .of-descr, h .of-order, h .of-shape) (name-back r)
+name-recovered : (key : Outcome (List ℕ)) (r : Name) → NameIs r key → nameFrom key ≡ r
+name-recovered key r h = rw (h .of-string, h .of-descr, h .of-order, h .of-shape) (name-back r)
 
-named-one : (key : Outcome (List ℕ)) → OneOutcome (λ r. Named r key)
-named-one key x y a b = sym (name-told key x a) ∙ name-told key y b
+named-one : (key : Outcome (List ℕ)) → OneOutcome (λ r. NameIs r key)
+named-one key x y a b = sym (name-recovered key x a) ∙ name-recovered key y b
 
-pub key-of-one : (name : List ℕ) → OneOutcome (λ r. Named r (gives name))
+pub key-of-one : (name : List ℕ) → OneOutcome (λ r. NameIs r (gives name))
 key-of-one name = named-one (gives name)
 
-pub name-at-one : (text : List ℕ) (from quote : ℕ) → OneOutcome (λ r. Named r (gives (spelled quote text from .bytes)))
+pub name-at-one : (text : List ℕ) (from quote : ℕ) → OneOutcome (λ r. NameIs r (gives (spelled quote text from .bytes)))
 name-at-one text from quote = named-one (gives (spelled quote text from .bytes))
 
 pub all-strings-one : (strings : Bool) (name : Name) → OneOutcome (λ r. r ≡ strings && given (keyOf name))

@@ -8,7 +8,7 @@ use mathlib.Core.Bool.{Bool, true, false, _&&_}
 use lib.ListN.{length, getD, take}
 use lib.Seq.{take-length}
 use lib.Dec.{eqb}
-use Rattle.counts.specs.Same.{same}
+use Rattle.counts.specs.Lists.{same}
 
 last-first : (a b c : Bool) → ((a && b) && c) ≡ ((a && c) && b)
 last-first true true true = refl

@@ -28,7 +28,7 @@ keyOf name.Name.Extra = gives []
 keyOf name.Name.NoString = refused 8
 
 -- the name is that of the key: whether it is a string, and which of the three it is
-pub record Named (r : Name) (key : Outcome (List ℕ)) : Type 0 where
+pub record NameIs (r : Name) (key : Outcome (List ℕ)) : Type 0 where
   pub of-string : given key ≡ given (keyOf r)
   pub of-descr : isThe key-descr key ≡ isThe key-descr (keyOf r)
   pub of-order : isThe key-order key ≡ isThe key-order (keyOf r)

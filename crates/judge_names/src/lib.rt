@@ -8,10 +8,10 @@ use refusal::Refusal;
 ghost use mathlib.Core.Path.{_≡_};
 ghost use mathlib.Core.Bool.{_&&_};
 ghost use Rattle.counts.specs.Outcome.{gives, given};
-ghost use Rattle.counts.specs.Same.{same};
+ghost use Rattle.counts.specs.Lists.{same};
 ghost use Rattle.literal_escapes.specs.Strings.{spelled};
 ghost use Rattle.literal_bytes.specs.Text.{byteAt, kindOf};
-ghost use Rattle.judge_names.specs.Answer.{keyOf, Named, WordAt, wordOf};
+ghost use Rattle.judge_names.specs.Answer.{keyOf, NameIs, WordAt, wordOf};
 
 // What a key is: one of the three, another string, or no string.
 pub enum Name {
@@ -30,7 +30,7 @@ pub enum Declared {
 
 // The name of a key that is a string of these bytes.
 pub fn key_of(name: &[u8]) -> Name
-    ensures { λ r. ⌜ Named r (gives (now (name .entry))) ⌝ }
+    ensures { λ r. ⌜ NameIs r (gives (now (name .entry))) ⌝ }
 {
     if same_bytes(name, b"descr") {
         return Name::Descr;
@@ -65,7 +65,7 @@ const LONGEST: usize = 13;
 
 // The name of a key with an escape, compared decoded. A string that is longer than the three is none of them.
 pub fn name_at(text: &[u8], from: usize, quote: u8) -> Name
-    ensures { λ r. ⌜ Named r (gives (spelled quote (now (text .entry)) from .bytes)) ⌝ }
+    ensures { λ r. ⌜ NameIs r (gives (spelled quote (now (text .entry)) from .bytes)) ⌝ }
 {
     let mut name = [0u8; LONGEST];
     let s = decode(text, from, quote, &mut name);

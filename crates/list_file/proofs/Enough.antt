@@ -12,7 +12,7 @@ use lib.Seq.{take-take}
 use borrow.Author.Tests.{lt-ltb, le-ltb, leb-true, ltb-false}
 use Rattle.refusal.specs.Numbers.{last-number}
 use Rattle.counts.specs.Outcome.{Outcome, gives, refused, each, afterwards}
-use Rattle.counts.specs.Front.{atFront}
+use Rattle.counts.specs.Lists.{atFront}
 use Rattle.counts.specs.Owes.{roomed}
 use Rattle.counts.specs.declared.Bytes.{Bytes}
 use Rattle.counts.proofs.Apart.{gives-apart, refused-gives}
@@ -23,7 +23,7 @@ use Rattle.refusal.specs.declared.Refusal.{Refusal}
 use Rattle.refusal.specs.declared.BytesAnswer.{BytesAnswer}
 use Rattle.refusal.specs.Answers.{bytesAnswer}
 use Rattle.decimal.proofs.Lengths.{printed-u64}
-use Rattle.dtype.specs.Flat.{entry-width}
+use Rattle.dtype.specs.Record.{entry-width}
 use Rattle.dtype.proofs.Seen.{or-left, or-right}
 use Rattle.record.specs.Prefix.{Prefix, dataStart, prefix, missing, textHeld}
 use Rattle.record.specs.Rooms.{Rooms, Lent, needs, tooSmall, roomsOf}

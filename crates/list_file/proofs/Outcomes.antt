@@ -4,7 +4,7 @@ use mathlib.Core.Path.{refl}
 use mathlib.Core.List.{List}
 use lib.ListN.{length}
 use Rattle.counts.specs.OneOutcome.{OneOutcome}
-use Rattle.counts.specs.Front.{atFront}
+use Rattle.counts.specs.Lists.{atFront}
 use Rattle.counts.specs.Owes.{roomed}
 use Rattle.counts.specs.declared.Bytes.{Bytes}
 use Rattle.counts.proofs.OneOutcome.{by-equation, by-inverse, beside}

@@ -14,10 +14,8 @@ use Rattle.refusal.specs.declared.BytesAnswer.{BytesAnswer}
 use Rattle.refusal.specs.Numbers.{numberOf}
 use Rattle.emit.specs.Emits.{Emits}
 use Rattle.emit.proofs.Texts.{written-short, written-whole}
-use Rattle.dtype.specs.Flat.{entry-width}
-use Rattle.dtype.specs.Record.{Record}
-use Rattle.record.specs.Version.{Version, textStart}
-use Rattle.record.specs.Prefix.{Prefix, dataStart, prefix, missing, textHeld}
+use Rattle.dtype.specs.Record.{entry-width, Record}
+use Rattle.record.specs.Prefix.{Version, textStart, Prefix, dataStart, prefix, missing, textHeld}
 use Rattle.record.specs.Rooms.{Rooms, Lent, roomsOf}
 use Rattle.record.specs.Header as header
 use Rattle.header_prefix.specs.Answer.{versionIs}
@@ -30,7 +28,7 @@ use Rattle.header.specs.declared.HeaderRead.{HeaderRead}
 use Rattle.header.specs.Reads.{HeaderInfo, headerInfo, headerIs, afterPrefix, heldInto, ReadsHeld}
 use Rattle.list_record.specs.Answer as lists
 use Rattle.check_record.proofs.Accepts.{checked-valid, valid-checked}
-use Rattle.read_back.specs.Rooms.{tableIn, namesIn, shapeIn, Holds}
+use Rattle.read_back.specs.Rooms.{tableStored, namesStored, shapeStored, Holds}
 use Rattle.list_file.specs.Report.{held-bytes, fresh, refusedLine, textFor, reportOf, WritesText, Reports}
 use Rattle.read_back.proofs.Accepted.{read-checked}
 use Rattle.read_back.proofs.Rooms.{fronts-by, checked-fronts}
@@ -60,16 +58,16 @@ held-whole longer file l h e = go (prefix file) e
 
 -- ---- the listing of a header that was read
 module _ (v : Version) (start : ℕ) (r : Record) (info : RecordInfo) (l : Lent) (room room′ : List ℕ) (h : Holds r info l) where
-  text-of : (x : BytesAnswer) → lists.Lists v start (tableIn info l) (namesIn info l) (shapeIn info l) (info .order) room x room′
+  text-of : (x : BytesAnswer) → lists.Lists v start (tableStored info l) (namesStored info l) (shapeStored info l) (info .order) room x room′
       → WritesText (listing v start r []) room x room′
   text-of x w = owes-same _ _ room _ _ (ap (λ (o : Outcome Record). then o (λ z. roomed 28 room (listing v start z []))) (valid-checked _ _ _ _ _ (h .valid))) w
 
   -- the fronts, as the functions gave them
-  module _ (t ns s : List ℕ) (x : BytesAnswer) (et : t ≡ tableIn info l) (en : ns ≡ namesIn info l) (es : s ≡ shapeIn info l) (w : lists.Lists v start t ns s (info .order) room x room′) where
-    fronts : lists.Lists v start (tableIn info l) (namesIn info l) (shapeIn info l) (info .order) room x room′
+  module _ (t ns s : List ℕ) (x : BytesAnswer) (et : t ≡ tableStored info l) (en : ns ≡ namesStored info l) (es : s ≡ shapeStored info l) (w : lists.Lists v start t ns s (info .order) room x room′) where
+    fronts : lists.Lists v start (tableStored info l) (namesStored info l) (shapeStored info l) (info .order) room x room′
     fronts =
-        subst (λ (u : List ℕ). lists.Lists v start u (namesIn info l) (shapeIn info l) (info .order) room x room′) et
-        (subst (λ (u : List ℕ). lists.Lists v start t u (shapeIn info l) (info .order) room x room′) en
+        subst (λ (u : List ℕ). lists.Lists v start u (namesStored info l) (shapeStored info l) (info .order) room x room′) et
+        (subst (λ (u : List ℕ). lists.Lists v start t u (shapeStored info l) (info .order) room x room′) en
         (subst (λ (u : List ℕ). lists.Lists v start t ns u (info .order) room x room′) es w))
 
     pub lists-all : WritesText (listing v start r []) room x room′

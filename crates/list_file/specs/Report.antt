@@ -10,7 +10,7 @@ use Rattle.counts.specs.Owes.{roomed, Owes}
 use Rattle.decimal.specs.Decimal.{printed}
 use Rattle.refusal.specs.declared.BytesAnswer.{BytesAnswer}
 use Rattle.refusal.specs.Answers.{bytesAnswer}
-use Rattle.dtype.specs.Flat.{entry-width}
+use Rattle.dtype.specs.Record.{entry-width}
 use Rattle.record.specs.Rooms.{Lent}
 use Rattle.record.specs.Header.{Header}
 use Rattle.list_text.specs.Listing.{listing}

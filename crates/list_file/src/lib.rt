@@ -13,8 +13,7 @@ ghost use mathlib.Core.List.{[]};
 ghost use lib.ListN.{take};
 ghost use Rattle.refusal.specs.Numbers.{numberOf};
 ghost use Rattle.emit.specs.Emits.{Emits};
-ghost use Rattle.dtype.specs.Flat.{entry-width};
-ghost use Rattle.dtype.specs.Record.{Record};
+ghost use Rattle.dtype.specs.Record.{entry-width, Record};
 ghost use Rattle.header_prefix.specs.Answer.{versionIs};
 ghost use Rattle.list_text.specs.Listing.{listing};
 ghost use Rattle.header.specs.Reads.{lent};
@@ -50,7 +49,7 @@ pub fn report(file: &[u8], out: &mut [u8]) -> BytesAnswer
     let mut names = [0u8; NAMES];
     let mut shape = [0u64; MOST_DIMENSIONS];
     let longer = HELD < file.len();
-    let r = header::read_held(held(file), longer, &mut table, &mut names, &mut shape);
+    let r = header::read_held(held_part(file), longer, &mut table, &mut names, &mut shape);
     match r {
         HeaderRead::Read(h) => list_header(h, &table, &names, &shape, out),
         HeaderRead::Refused(why) => put_refused(why, out),
@@ -58,7 +57,7 @@ pub fn report(file: &[u8], out: &mut [u8]) -> BytesAnswer
 }
 
 // The first bytes of a file, or the whole file.
-fn held(file: &[u8]) -> &[u8]
+fn held_part(file: &[u8]) -> &[u8]
     ensures { λ r. ⌜ now r ≡ take held-bytes (now (file .entry)) ⌝ }
 {
     if HELD < file.len() {

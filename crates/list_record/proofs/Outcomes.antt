@@ -7,7 +7,7 @@ use Rattle.refusal.specs.declared.BytesAnswer.{BytesAnswer}
 use Rattle.refusal.specs.Answers.{bytesAnswer}
 use Rattle.refusal.proofs.Answers.{bytes-one}
 use Rattle.dtype.specs.declared.Order.{Order}
-use Rattle.record.specs.Version.{Version}
+use Rattle.record.specs.Prefix.{Version}
 use Rattle.list_record.specs.Answer.{listed, Lists}
 
 pub list-one : (v : Version) (start : ℕ) (t ns s : List ℕ) (o : Order) (room : List ℕ) → OneOutcome {A = BytesAnswer × List ℕ} (λ r. Lists v start t ns s o room (r .0) (r .1))

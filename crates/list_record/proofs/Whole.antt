@@ -16,11 +16,11 @@ use Rattle.emit.proofs.Pieces.{emits-same}
 use Rattle.emit.proofs.Texts.{written-short, written-whole}
 use Rattle.dtype.specs.declared.Order.{Order}
 use Rattle.dtype.specs.Record.{Record}
-use Rattle.record.specs.Version.{Version}
+use Rattle.record.specs.Prefix.{Version}
 use Rattle.check_record.specs.Answer.{summary}
 use Rattle.check_record.specs.Checked.{checkedRecord}
 use Rattle.write_pieces.specs.Pieces.{numbersBetween}
-use Rattle.list_text.specs.Listing.{numbers, listing}
+use Rattle.list_text.specs.Listing.{spacedNumbers, listing}
 use Rattle.list_text.proofs.Pieces.{three}
 use Rattle.list_record.specs.Answer.{ListsOne, Lists}
 
@@ -33,16 +33,16 @@ module _ (v : Version) (start : ℕ) (r : Record) (scratch mid : List ℕ) (n : 
   one-written out q le h = written-whole (listing v start r) scratch mid n room fits short measured out q le h
 
 -- ---- a line of a word and numbers
-numbers-text : (s x : List ℕ) → numbersBetween (32 ∷ []) [] s x ≡ numbers s x
+numbers-text : (s x : List ℕ) → numbersBetween (32 ∷ []) [] s x ≡ spacedNumbers s x
 numbers-text [] x = refl
 numbers-text (n ∷ s) x = ap (λ (y : List ℕ). 32 ∷ printed n y) (numbers-text s x)
 
 pub row-there : (word s old : List ℕ) (at : ℕ) (m₁ : List ℕ) (p₁ : ℕ) (m₂ : List ℕ) (p₂ : ℕ) (out : List ℕ) (q : ℕ)
     → Emits (λ x. word ++ x) old at m₁ p₁ → Emits (numbersBetween (32 ∷ []) [] s) m₁ p₁ m₂ p₂ → Emits (λ x. 10 ∷ x) m₂ p₂ out q
-    → Emits (λ x. word ++ numbers s (10 ∷ x)) old at out q
+    → Emits (λ x. word ++ spacedNumbers s (10 ∷ x)) old at out q
 row-there word s old at m₁ p₁ m₂ p₂ out q a b c =
-    three (λ x. word ++ x) (numbers s) (λ x. 10 ∷ x) old at m₁ p₁ m₂ p₂ out q a
-    (emits-same (numbersBetween (32 ∷ []) [] s) (numbers s) m₁ p₁ m₂ p₂ (numbers-text s) b) c
+    three (λ x. word ++ x) (spacedNumbers s) (λ x. 10 ∷ x) old at m₁ p₁ m₂ p₂ out q a
+    (emits-same (numbersBetween (32 ∷ []) [] s) (spacedNumbers s) m₁ p₁ m₂ p₂ (numbers-text s) b) c
 
 -- ---- a caller's record
 pub refused-by-check : (t ns s : List ℕ) (o : Order) (n : ℕ) → refused n ≡ each summary (checkedRecord t ns s o) → checkedRecord t ns s o ≡ refused n

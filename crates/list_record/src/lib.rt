@@ -25,12 +25,12 @@ ghost use Rattle.emit.specs.Emits.{Emits};
 ghost use Rattle.dtype.specs.Dtype.{Dtype};
 ghost use Rattle.dtype.specs.Agrees.{entryAt};
 ghost use Rattle.dtype.specs.Shape as shapes;
-ghost use Rattle.dtype.specs.Flat.{entry-width};
+ghost use Rattle.dtype.specs.Record.{entry-width};
 ghost use Rattle.header_prefix.specs.Answer.{versionIs};
 ghost use Rattle.table_entry.specs.EntryType.{typeOf};
 ghost use Rattle.check_record.specs.Valid.{made};
 ghost use Rattle.place.specs.Walk.{Accepted};
-ghost use Rattle.list_text.specs.Listing.{numbers, orderLine, stridesLine, itemLine, typeIn, kindText, isField, nameText, entryLine, entryLines, listing};
+ghost use Rattle.list_text.specs.Listing.{spacedNumbers, orderLine, stridesLine, itemLine, typeTextIn, kindText, isField, nameText, entryLine, entryLines, listing};
 ghost use Rattle.list_text.specs.Strided.{Strided};
 ghost use Rattle.list_record.specs.Answer.{ListsOne, Lists};
 
@@ -127,7 +127,7 @@ fn put_order(out: &mut [u8], at: usize, order: Order) -> usize
 
 // Puts a line of a word and numbers, each after a space (10 is LF).
 fn put_row(out: &mut [u8], at: usize, word: &[u8], row: &[u64]) -> usize
-    ensures { λ r. ⌜ Emits (λ x. now (word .entry) ++ numbers (now (row .entry)) (10 ∷ x)) (now (out .entry)) at (now (out .exit)) r ⌝ }
+    ensures { λ r. ⌜ Emits (λ x. now (word .entry) ++ spacedNumbers (now (row .entry)) (10 ∷ x)) (now (out .entry)) at (now (out .exit)) r ⌝ }
 {
     let after_word = put_bytes(out, at, word);
     let after_numbers = put_numbers(out, after_word, b" ", row, b"");
@@ -216,7 +216,7 @@ fn put_kind(out: &mut [u8], at: usize, entry: Entry) -> usize
 
 // Puts an entry's type string; nothing for an entry that has no type. (A type is a type_str::TypeStr of a type_letters::TypeChar and type_units::TimeUnits.)
 fn put_type(out: &mut [u8], at: usize, entry: Entry) -> usize
-    ensures { λ r. ⌜ Emits (typeIn (typeOf entry)) (now (out .entry)) at (now (out .exit)) r ⌝ }
+    ensures { λ r. ⌜ Emits (typeTextIn (typeOf entry)) (now (out .entry)) at (now (out .exit)) r ⌝ }
 {
     let EntryType::Type(t) = table_entry::type_of(entry) else {
         // not reached by `list`: in a checked table every plain entry has a type

@@ -19,26 +19,24 @@ use Rattle.dtype.specs.declared.Order.the-variants.{C, Fortran}
 use Rattle.dtype.specs.declared.Entry.{Entry}
 use Rattle.dtype.specs.Dtype.{Dtype, Fields, plain, array, record-of, end-of-fields, field-then, sizeOf}
 use Rattle.dtype.specs.Entries.{fieldCount, entriesOf, entriesIn, hasObject}
-use Rattle.dtype.specs.Names.{nameBytes, nameBytesIn}
-use Rattle.dtype.specs.Flat.{entry-width, flat, flats}
+use Rattle.dtype.specs.Record.{nameBytes, nameBytesIn, entry-width, flat, flats, Record, table, names}
 use Rattle.dtype.specs.EntryOf.{numberColumn}
 use Rattle.dtype.specs.Shape.{product, strides}
-use Rattle.dtype.specs.Record.{Record, table, names}
 use Rattle.dtype.specs.Limits.{over, overDimensions, overLevels, overEntries, overSize, someOver, anyOver, overShape, limited}
 use Rattle.dtype.specs.Agrees.{entryAt, nameStart}
 use Rattle.dtype.specs.Seen.{nameAt}
 use Rattle.dtype.proofs.Strides.{strides-length}
 use Rattle.dtype.proofs.Flat.{some-entry}
-use Rattle.dtype.proofs.Stands.{stands-entry, stands-below, stands-after}
+use Rattle.dtype.proofs.InTable.{in-table-entry, in-table-below, in-table-after}
 use Rattle.dtype.proofs.Seen.{or-left, or-right, size-fits}
-use Rattle.record.specs.Version.{Version, one-zero, two-zero, three-zero, major}
+use Rattle.record.specs.Prefix.{Version, one-zero, two-zero, three-zero, major}
 use Rattle.record.specs.Sound.{Small}
 use Rattle.record.proofs.Sound.{Good, AllGood, Sound}
 use Rattle.check_record.specs.Answer.{itemSize}
 use Rattle.check_record.specs.declared.ItemSize.the-variants.{Sized, Unsized}
 use Rattle.table_entry.specs.EntryType.{typeOf}
 use Rattle.table_entry.proofs.Types.{type-of-back}
-use Rattle.list_text.specs.Listing.{numbers, versionLine, orderLine, shapeLine, stridesLine, countLine, itemLine, dataLine, parentText, typeIn, kindText, isField, nameText, entryLine, entryLines, listing}
+use Rattle.list_text.specs.Listing.{spacedNumbers, versionLine, orderLine, shapeLine, stridesLine, countLine, itemLine, dataLine, parentText, typeTextIn, kindText, isField, nameText, entryLine, entryLines, listing}
 
 -- ---- one entry
 parent-length : (e p : ℕ) (x : List ℕ) → p < 2 ^ 64 → length (parentText e p x) ≤ 20 + length x
@@ -48,7 +46,7 @@ parent-length (suc e) p x h = printed-u64 p x h
 kind-length : (k : ℕ) (e : Entry) (x : List ℕ) → e .number < 2 ^ 64 → length (kindText k e x) ≤ 32 + length x
 kind-length zero e x h = omega (arith, go (typeOf e) refl)
   where
-    go : (o : Outcome TypeStr) → typeOf e ≡ o → length (typeIn o x) ≤ 26 + length x
+    go : (o : Outcome TypeStr) → typeOf e ≡ o → length (typeTextIn o x) ≤ 26 + length x
     go (gives t) g = type-length t x (omega (arith, type-of-back e t g .number, h))
     go (refused n) g = omega arith
 kind-length (suc zero) e x h = omega (arith, printed-u64 (e .number) x h)
@@ -58,9 +56,9 @@ name-length : (field : Bool) (name x : List ℕ) → length (nameText field name
 name-length true name x = omega (arith, quote-length name x)
 name-length false name x = omega arith
 
-numbers-length : (s x : List ℕ) → Small s → length (numbers s x) ≤ 21 * length s + length x
+numbers-length : (s x : List ℕ) → Small s → length (spacedNumbers s x) ≤ 21 * length s + length x
 numbers-length [] x h = omega arith
-numbers-length (n ∷ s) x h = omega (arith, printed-u64 n (numbers s x) (h .0), numbers-length s x (h .1))
+numbers-length (n ∷ s) x h = omega (arith, printed-u64 n (spacedNumbers s x) (h .0), numbers-length s x (h .1))
 
 -- ---- the entries
 fields-few : (fs : Fields) → fieldCount fs ≤ entriesIn fs
@@ -77,7 +75,7 @@ module _ (t ns : List ℕ) where
   line-length : (d : Dtype) (e up m : ℕ) (x y : List ℕ) → e < 2 ^ 64 → up < 2 ^ 64 → numberColumn d < 2 ^ 64 → drop (entry-width * e) t ≡ flat d e up m x
       → length (entryLine t e (nameAt t ns e) y) ≤ 78 + 2 * m + length y
   line-length d e up m x y he hup hn h =
-      let i = stands-entry d t e up m x h in
+      let i = in-table-entry d t e up m x h in
       let entry = entryAt t e in
       let p : entry .parent ≡ up = ap (λ (a : Entry). a .parent) i in
       let n : entry .number ≡ numberColumn d = ap (λ (a : Entry). a .number) i in
@@ -114,13 +112,13 @@ module _ (t ns : List ℕ) where
         omega (
           arith,
           line-length (array n d) e up m x (entryLines (entriesOf d) (suc e) t ns y) (omega arith) u (number-small (array n d) g (omega arith)) h,
-          lines-length d (suc e) e 0 x y (g .1) (omega arith) (omega arith) (stands-below (array n d) t e up m x h),
+          lines-length d (suc e) e 0 x y (g .1) (omega arith) (omega arith) (in-table-below (array n d) t e up m x h),
         )
     lines-length (record-of fs) e up m x y g k u h =
         omega (
           arith,
           line-length (record-of fs) e up m x (entryLines (entriesIn fs) (suc e) t ns y) (omega arith) u (number-small (record-of fs) g (omega arith)) h,
-          fields-length fs (suc e) e x y g (omega arith) (omega arith) (stands-below (record-of fs) t e up m x h),
+          fields-length fs (suc e) e x y g (omega arith) (omega arith) (in-table-below (record-of fs) t e up m x h),
         )
 
     fields-length : (fs : Fields) (e up : ℕ) (x y : List ℕ) → AllGood fs → e + entriesIn fs ≤ 2 ^ 64 → up < 2 ^ 64 → drop (entry-width * e) t ≡ flats fs e up x
@@ -132,7 +130,7 @@ module _ (t ns : List ℕ) where
         (omega (
           arith,
           lines-length d e up (length name) after (entryLines (entriesIn fs) (e + entriesOf d) t ns y) (g .1) (omega arith) u h,
-          fields-length fs (e + entriesOf d) up x y (g .2) (omega arith) u (stands-after d t e up (length name) after h),
+          fields-length fs (e + entriesOf d) up x y (g .2) (omega arith) u (in-table-after d t e up (length name) after h),
         ))
 
 -- ---- the lines before the table

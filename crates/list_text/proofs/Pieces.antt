@@ -15,13 +15,13 @@ use Rattle.type_str.specs.Text.{typeText}
 use Rattle.type_str.specs.declared.TypeStr.{TypeStr}
 use Rattle.dtype.specs.declared.Entry.{Entry}
 use Rattle.dtype.specs.declared.Order.{Order}
-use Rattle.record.specs.Version.{Version, major}
+use Rattle.record.specs.Prefix.{Version, major}
 use Rattle.check_record.specs.declared.ItemSize.{ItemSize}
 use Rattle.dtype.specs.Agrees.{entryAt}
 use Rattle.table_entry.specs.Answer.{typeAnswer}
 use Rattle.table_entry.specs.EntryType.{typeOf}
 use Rattle.table_entry.specs.declared.EntryType.{EntryType}
-use Rattle.list_text.specs.Listing.{versionLine, orderLine, itemLine, parentText, typeIn, kindText, isField, nameText, entryLine}
+use Rattle.list_text.specs.Listing.{versionLine, orderLine, itemLine, parentText, typeTextIn, kindText, isField, nameText, entryLine}
 
 -- three pieces in turn
 pub three :
@@ -41,8 +41,8 @@ module _ (p : ℕ) (old : List ℕ) (at : ℕ) (out : List ℕ) (q : ℕ) where
 
 -- ---- the kind
 module _ (entry : Entry) (old : List ℕ) (at : ℕ) (mid : List ℕ) (p : ℕ) (out : List ℕ) (q : ℕ) where
-  pub kind-plain : (k : ℕ) → k ≡ 0 → Emits (λ x. (112 ∷ 108 ∷ 97 ∷ 105 ∷ 110 ∷ 32 ∷ []) ++ x) old at mid p → Emits (typeIn (typeOf entry)) mid p out q → Emits (kindText k entry) old at out q
-  kind-plain zero z a b = emits-then (λ x. (112 ∷ 108 ∷ 97 ∷ 105 ∷ 110 ∷ 32 ∷ []) ++ x) (typeIn (typeOf entry)) old at mid p out q a b
+  pub kind-plain : (k : ℕ) → k ≡ 0 → Emits (λ x. (112 ∷ 108 ∷ 97 ∷ 105 ∷ 110 ∷ 32 ∷ []) ++ x) old at mid p → Emits (typeTextIn (typeOf entry)) mid p out q → Emits (kindText k entry) old at out q
+  kind-plain zero z a b = emits-then (λ x. (112 ∷ 108 ∷ 97 ∷ 105 ∷ 110 ∷ 32 ∷ []) ++ x) (typeTextIn (typeOf entry)) old at mid p out q a b
   kind-plain (suc k) z a b = absurd (omega (arith, z))
 
   pub kind-array : (k : ℕ) → k ≡ 1 → Emits (λ x. (97 ∷ 114 ∷ 114 ∷ 97 ∷ 121 ∷ 32 ∷ []) ++ x) old at mid p → Emits (printed (entry .number)) mid p out q → Emits (kindText k entry) old at out q
@@ -56,11 +56,11 @@ module _ (entry : Entry) (old : List ℕ) (at : ℕ) (mid : List ℕ) (p : ℕ) 
   kind-record (suc (suc k)) n m a b = emits-then (λ x. (114 ∷ 101 ∷ 99 ∷ 111 ∷ 114 ∷ 100 ∷ 32 ∷ []) ++ x) (printed (entry .number)) old at mid p out q a b
 
 -- ---- the type
-pub type-given : (r : EntryType) (o : Outcome TypeStr) (t : TypeStr) (old : List ℕ) (at : ℕ) (out : List ℕ) (p : ℕ) → typeAnswer r ≡ o → r ≡ EntryType.Type t → Emits (typeText t) old at out p → Emits (typeIn o) old at out p
-type-given r o t old at out p h e k = subst (λ (y : Outcome TypeStr). Emits (typeIn y) old at out p) (sym (ap typeAnswer e) ∙ h) k
+pub type-given : (r : EntryType) (o : Outcome TypeStr) (t : TypeStr) (old : List ℕ) (at : ℕ) (out : List ℕ) (p : ℕ) → typeAnswer r ≡ o → r ≡ EntryType.Type t → Emits (typeText t) old at out p → Emits (typeTextIn o) old at out p
+type-given r o t old at out p h e k = subst (λ (y : Outcome TypeStr). Emits (typeTextIn y) old at out p) (sym (ap typeAnswer e) ∙ h) k
 
-pub type-none : (r : EntryType) (o : Outcome TypeStr) (old : List ℕ) (at : ℕ) → typeAnswer r ≡ o → r ≡ EntryType.NoType → Emits (typeIn o) old at old at
-type-none r o old at h e = subst (λ (y : Outcome TypeStr). Emits (typeIn y) old at old at) (sym (ap typeAnswer e) ∙ h) (emits-none old at)
+pub type-none : (r : EntryType) (o : Outcome TypeStr) (old : List ℕ) (at : ℕ) → typeAnswer r ≡ o → r ≡ EntryType.NoType → Emits (typeTextIn o) old at old at
+type-none r o old at h e = subst (λ (y : Outcome TypeStr). Emits (typeTextIn y) old at old at) (sym (ap typeAnswer e) ∙ h) (emits-none old at)
 
 -- ---- the name
 pub not-field : (t : List ℕ) (e : ℕ) → e ≡ 0 → false ≡ isField t e

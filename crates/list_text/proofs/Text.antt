@@ -13,16 +13,15 @@ use Rattle.emit.proofs.Pieces.{emits-then, emits-same}
 use Rattle.dtype.specs.declared.Order.{Order}
 use Rattle.dtype.specs.Dtype.{Dtype}
 use Rattle.dtype.specs.Entries.{entriesOf}
-use Rattle.dtype.specs.Flat.{entry-width}
+use Rattle.dtype.specs.Record.{entry-width, table}
 use Rattle.dtype.specs.Shape.{product, strides}
-use Rattle.dtype.specs.Record.{table}
 use Rattle.dtype.specs.Limits.{overDimensions, overLevels}
 use Rattle.dtype.proofs.Strides.{strides-length}
 use Rattle.dtype.proofs.Seen.{table-length, or-left}
-use Rattle.counts.specs.Front.{atFront}
+use Rattle.counts.specs.Lists.{atFront}
 use Rattle.shape.specs.Count.{stridesCount, WritesStrides}
 use Rattle.refusal.specs.declared.ItemsAnswer.{ItemsAnswer}
-use Rattle.record.specs.Version.{Version}
+use Rattle.record.specs.Prefix.{Version}
 use Rattle.check_record.specs.Answer.{itemSize}
 use Rattle.check_record.specs.Valid.{made}
 use Rattle.check_record.proofs.Accepts.{limits-of}

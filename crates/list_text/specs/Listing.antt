@@ -18,16 +18,16 @@ use Rattle.dtype.specs.Shape.{product, strides}
 use Rattle.dtype.specs.Record.{Record, table, names}
 use Rattle.dtype.specs.Agrees.{entryAt}
 use Rattle.dtype.specs.Seen.{nameAt}
-use Rattle.record.specs.Version.{Version, major}
+use Rattle.record.specs.Prefix.{Version, major}
 use Rattle.check_record.specs.Answer.{itemSize}
 use Rattle.table_entry.specs.EntryType.{typeOf}
 use Rattle.check_record.specs.declared.ItemSize.{ItemSize}
 use Rattle.check_record.specs.declared.ItemSize.the-variants.{Sized, Unsized}
 
 -- numbers, each after a space
-abbrev pub numbers : List ℕ → List ℕ → List ℕ
-numbers [] x = x
-numbers (n ∷ ns) x = 32 ∷ printed n (numbers ns x)
+abbrev pub spacedNumbers : List ℕ → List ℕ → List ℕ
+spacedNumbers [] x = x
+spacedNumbers (n ∷ ns) x = 32 ∷ printed n (spacedNumbers ns x)
 
 -- ---- the lines before the table
 -- `version 1.0`
@@ -41,11 +41,11 @@ orderLine Fortran x = 111 ∷ 114 ∷ 100 ∷ 101 ∷ 114 ∷ 32 ∷ 70 ∷ 10 �
 
 -- `shape 3`
 abbrev pub shapeLine : List ℕ → List ℕ → List ℕ
-shapeLine s x = 115 ∷ 104 ∷ 97 ∷ 112 ∷ 101 ∷ numbers s (10 ∷ x)
+shapeLine s x = 115 ∷ 104 ∷ 97 ∷ 112 ∷ 101 ∷ spacedNumbers s (10 ∷ x)
 
 -- `strides 1`
 abbrev pub stridesLine : List ℕ → List ℕ → List ℕ
-stridesLine s x = 115 ∷ 116 ∷ 114 ∷ 105 ∷ 100 ∷ 101 ∷ 115 ∷ numbers s (10 ∷ x)
+stridesLine s x = 115 ∷ 116 ∷ 114 ∷ 105 ∷ 100 ∷ 101 ∷ 115 ∷ spacedNumbers s (10 ∷ x)
 
 -- `count 3`
 abbrev pub countLine : ℕ → List ℕ → List ℕ
@@ -66,13 +66,13 @@ abbrev pub parentText : (e parent : ℕ) → List ℕ → List ℕ
 parentText zero p x = 45 ∷ x
 parentText (suc e) p x = printed p x
 
-abbrev pub typeIn : Outcome TypeStr → List ℕ → List ℕ
-typeIn (gives t) x = typeText t x
-typeIn (refused n) x = x
+abbrev pub typeTextIn : Outcome TypeStr → List ℕ → List ℕ
+typeTextIn (gives t) x = typeText t x
+typeTextIn (refused n) x = x
 
 -- "kind (`plain` and type string, `array` and length, `record` and field count)"
 abbrev pub kindText : (kind : ℕ) → Entry → List ℕ → List ℕ
-kindText zero e x = 112 ∷ 108 ∷ 97 ∷ 105 ∷ 110 ∷ 32 ∷ typeIn (typeOf e) x
+kindText zero e x = 112 ∷ 108 ∷ 97 ∷ 105 ∷ 110 ∷ 32 ∷ typeTextIn (typeOf e) x
 kindText (suc zero) e x = 97 ∷ 114 ∷ 114 ∷ 97 ∷ 121 ∷ 32 ∷ printed (e .number) x
 kindText (suc (suc k)) e x = 114 ∷ 101 ∷ 99 ∷ 111 ∷ 114 ∷ 100 ∷ 32 ∷ printed (e .number) x
 

@@ -173,13 +173,16 @@ fn blanks_rest(text: &[u8], from: usize) -> usize
     at
 }
 
-// The same in blocks of 16, for many blanks.
+// Blanks are tried this many at a time.
+const BLOCK: usize = 16;
+
+// The same in blocks, for many blanks.
 fn blanks_far(text: &[u8], from: usize) -> usize
     ensures { λ r. ⌜ r ≡ skip (now (text .entry)) from ⌝ }
 {
     let mut at = from;
-    while blank_block(text, at, 16) {
-        at += 16;
+    while blank_block(text, at, BLOCK) {
+        at += BLOCK;
     }
     blanks_rest(text, at)
 }

@@ -3,9 +3,9 @@ use Prim.Native.Nat.{ℕ, zero, suc, _+_, _*_, _≤_}
 use native.Mathlib.Omega.{arith}
 use mathlib.Core.List.{List, [], _∷_}
 use lib.ListN.{length}
-use Rattle.literal_grammar.specs.Print.{escapeOf, spelled, escapes, quote, print}
+use Rattle.literal_grammar.specs.Print.{escapeOf, spelledByte, escapes, quote, print}
 
-spelled-length : (letter b : ℕ) (r : List ℕ) → length (spelled letter b r) ≤ 2 + length r
+spelled-length : (letter b : ℕ) (r : List ℕ) → length (spelledByte letter b r) ≤ 2 + length r
 spelled-length zero b r = omega arith
 spelled-length (suc c) b r = omega arith
 

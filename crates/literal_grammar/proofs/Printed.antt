@@ -13,11 +13,10 @@ use Rattle.counts.proofs.Alike.{true-false}
 use Rattle.decimal.specs.Decimal.{isDigit, decimalFrom, printed}
 use Rattle.decimal.proofs.Prints.{by-tens, printed-low, printed-high, printed-front}
 use Rattle.literal_grammar.specs.Bytes.{isBlank, isQuote, isBreak, isEscape, unescape}
-use Rattle.literal_grammar.specs.Value.{Value, Values, Items}
+use Rattle.literal_grammar.specs.Value.{Value, Values, Items, Within}
 use Rattle.literal_grammar.specs.Grammar.{Natural, nought, nonzero, Quoted, closed, raw, escaped, in-quotes, unsigned, word-true, word-false, Gives, plain, around, in-square, in-round, in-braces, Listed, no-values, last-value, value-comma, no-elements, element-comma, Paired, no-items, last-item, item-comma}
-use Rattle.literal_grammar.specs.Nesting.{Within}
 use Rattle.literal_grammar.specs.Promise.{got}
-use Rattle.literal_grammar.specs.Print.{Layout, quote, number, word, square, unit, round, braces, Row, ended, last, more, Pairs, no-more, pair, spaces, escapeOf, spelled, escapes, print, printRow, printPairs, valueOf, valuesOf, itemsOf}
+use Rattle.literal_grammar.specs.Print.{Layout, quote, number, word, square, unit, round, braces, Row, ended, last, more, Pairs, no-more, pair, spaces, escapeOf, spelledByte, escapes, print, printRow, printPairs, valueOf, valuesOf, itemsOf}
 use Rattle.literal_grammar.proofs.Texts.{case-of, Blanks, all-append}
 use Rattle.literal_grammar.proofs.Reading.{literal}
 use Rattle.literal_grammar.proofs.Whole.{complete}
@@ -38,14 +37,14 @@ one-digit (suc n) h =
     let e : 10 * 0 + (48 + suc n - 48) ≡ suc n = omega arith in
     subst (Natural ((48 + suc n) ∷ [])) e (nonzero (digit-at (suc n) h) (ne-eqb (48 + suc n) 48 (λ e. omega arith)) tt)
 
-decimal-behind : (u : List ℕ) (m x : ℕ) → decimalFrom m (u ++ (x ∷ [])) ≡ 10 * decimalFrom m u + (x - 48)
+decimal-after : (u : List ℕ) (m x : ℕ) → decimalFrom m (u ++ (x ∷ [])) ≡ 10 * decimalFrom m u + (x - 48)
 unfolding decimalFrom
-decimal-behind [] m x = refl
-decimal-behind (d ∷ u) m x = decimal-behind u (10 * m + (d - 48)) x
+decimal-after [] m x = refl
+decimal-after (d ∷ u) m x = decimal-after u (10 * m + (d - 48)) x
 
-digit-behind : (u : List ℕ) (n x : ℕ) → 1 ≤ n → Natural u n → isDigit x ≡ true → Natural (u ++ (x ∷ [])) (10 * n + (x - 48))
-digit-behind u n x h nought hx = absurd (omega arith)
-digit-behind u n x h (nonzero {d = d} {u = w} hd nd hw) hx = subst (Natural (d ∷ (w ++ (x ∷ [])))) (decimal-behind (d ∷ w) 0 x) (nonzero hd nd (all-append isDigit w (x ∷ []) hw (hx, tt)))
+digit-after : (u : List ℕ) (n x : ℕ) → 1 ≤ n → Natural u n → isDigit x ≡ true → Natural (u ++ (x ∷ [])) (10 * n + (x - 48))
+digit-after u n x h nought hx = absurd (omega arith)
+digit-after u n x h (nonzero {d = d} {u = w} hd nd hw) hx = subst (Natural (d ∷ (w ++ (x ∷ [])))) (decimal-after (d ∷ w) 0 x) (nonzero hd nd (all-append isDigit w (x ∷ []) hw (hx, tt)))
 
 natural-printed : (n : ℕ) → Natural (printed n []) n
 natural-printed = by-tens (λ n. Natural (printed n []) n) (λ n h. subst (λ y. Natural y n) (sym (printed-low n [] h)) (one-digit n h))
@@ -53,13 +52,13 @@ natural-printed = by-tens (λ n. Natural (printed n []) n) (λ n h. subst (λ y.
     let x : ℕ = 48 + n % 10 in
     let text : printed (n / 10) [] ++ (x ∷ []) ≡ printed n [] = sym (printed-high n [] h ∙ printed-front (n / 10) (x ∷ [])) in
     let same : 10 * (n / 10) + (x - 48) ≡ n = omega arith in
-    subst (λ y. Natural y n) text (subst (Natural (printed (n / 10) [] ++ (x ∷ []))) same (digit-behind (printed (n / 10) []) (n / 10) x (omega arith) ih (digit-at (n % 10) (omega arith)))))
+    subst (λ y. Natural y n) text (subst (Natural (printed (n / 10) [] ++ (x ∷ []))) same (digit-after (printed (n / 10) []) (n / 10) x (omega arith) ih (digit-at (n % 10) (omega arith)))))
 
 -- ---- strings
 abbrev Spelt : ℕ → Type 0
-Spelt b = (p : List ℕ) × ((r : List ℕ) → spelled (escapeOf b) b r ≡ p ++ r) × ((u w : List ℕ) → Quoted 39 u w → Quoted 39 (p ++ u) (b ∷ w))
+Spelt b = (p : List ℕ) × ((r : List ℕ) → spelledByte (escapeOf b) b r ≡ p ++ r) × ((u w : List ℕ) → Quoted 39 u w → Quoted 39 (p ++ u) (b ∷ w))
 
-spelled-letter : (l b : ℕ) (r : List ℕ) → isEscape l ≡ true → spelled l b r ≡ 92 ∷ l ∷ r
+spelled-letter : (l b : ℕ) (r : List ℕ) → isEscape l ≡ true → spelledByte l b r ≡ 92 ∷ l ∷ r
 unfolding isEscape
 spelled-letter zero b r h = true-false (sym h)
 spelled-letter (suc c) b r h = refl
@@ -70,7 +69,7 @@ by-letter b ok back = (92 ∷ escapeOf b ∷ [], λ r. spelled-letter (escapeOf 
 
 by-itself : (b : ℕ) → eqb b 92 ≡ false → eqb b 39 ≡ false → eqb b 13 ≡ false → eqb b 10 ≡ false → Spelt b
 unfolding escapeOf isBreak
-by-itself b n1 n2 n3 n4 = (b ∷ [], λ r. let e : escapeOf b ≡ 0 = rw (escapeOf, n1, n2, n3, n4) in ap (λ l. spelled l b r) e, λ u w x. let nb : isBreak b ≡ false = rw (isBreak, n4, n3) in raw n2 n1 nb x)
+by-itself b n1 n2 n3 n4 = (b ∷ [], λ r. let e : escapeOf b ≡ 0 = rw (escapeOf, n1, n2, n3, n4) in ap (λ l. spelledByte l b r) e, λ u w x. let nb : isBreak b ≡ false = rw (isBreak, n4, n3) in raw n2 n1 nb x)
 
 spelt : (b : ℕ) → Spelt b
 unfolding escapeOf isEscape unescape
@@ -113,18 +112,18 @@ unfolding isBlank
 spaces-blank zero = tt
 spaces-blank (suc n) = (refl, spaces-blank n)
 
-gives-behind : (a : List ℕ) {u : List ℕ} {v : Value} → Blanks a → Gives u v → Gives (a ++ u) v
-gives-behind a {u = u} ba g = around a u [] (sym (append-nil (a ++ u))) ba g tt
+gives-after : (a : List ℕ) {u : List ℕ} {v : Value} → Blanks a → Gives u v → Gives (a ++ u) v
+gives-after a {u = u} ba g = around a u [] (sym (append-nil (a ++ u))) ba g tt
 
-listed-behind : (a : List ℕ) {u : List ℕ} {vs : Values} → Blanks a → Listed u vs → Listed (a ++ u) vs
-listed-behind a ba (no-values {u = u} bu) = no-values (all-append isBlank a u ba bu)
-listed-behind a ba (last-value g) = last-value (gives-behind a ba g)
-listed-behind a ba (value-comma u w e g i) = value-comma (a ++ u) w (ap (λ y. a ++ y) e ∙ sym (append-assoc a u (44 ∷ w))) (gives-behind a ba g) i
+listed-after : (a : List ℕ) {u : List ℕ} {vs : Values} → Blanks a → Listed u vs → Listed (a ++ u) vs
+listed-after a ba (no-values {u = u} bu) = no-values (all-append isBlank a u ba bu)
+listed-after a ba (last-value g) = last-value (gives-after a ba g)
+listed-after a ba (value-comma u w e g i) = value-comma (a ++ u) w (ap (λ y. a ++ y) e ∙ sym (append-assoc a u (44 ∷ w))) (gives-after a ba g) i
 
-paired-behind : (a : List ℕ) {u : List ℕ} {es : Items} → Blanks a → Paired u es → Paired (a ++ u) es
-paired-behind a ba (no-items {u = u} bu) = no-items (all-append isBlank a u ba bu)
-paired-behind a ba (last-item x y e g f) = last-item (a ++ x) y (ap (λ z. a ++ z) e ∙ sym (append-assoc a x (58 ∷ y))) (gives-behind a ba g) f
-paired-behind a ba (item-comma x y w e g f i) = item-comma (a ++ x) y w (ap (λ z. a ++ z) e ∙ simp append-assoc) (gives-behind a ba g) f i
+paired-after : (a : List ℕ) {u : List ℕ} {es : Items} → Blanks a → Paired u es → Paired (a ++ u) es
+paired-after a ba (no-items {u = u} bu) = no-items (all-append isBlank a u ba bu)
+paired-after a ba (last-item x y e g f) = last-item (a ++ x) y (ap (λ z. a ++ z) e ∙ sym (append-assoc a x (58 ∷ y))) (gives-after a ba g) f
+paired-after a ba (item-comma x y w e g f i) = item-comma (a ++ x) y w (ap (λ z. a ++ z) e ∙ simp append-assoc) (gives-after a ba g) f i
 
 -- ---- layouts
 -- one text, a byte, spaces, and another text
@@ -154,7 +153,7 @@ mutual
       let (u, eu, g) = layout-printed d in
       let (w, ew, i) = row-printed ds in
       let t : List ℕ = u ++ 44 ∷ (spaces n [] ++ w) in
-      (40 ∷ t ++ 41 ∷ [], enclosed (λ r. print d (44 ∷ spaces n (printRow ds r))) 40 41 t (joined (print d) (printRow ds) 44 n u w eu ew), in-round t refl (element-comma u (spaces n [] ++ w) refl g (listed-behind (spaces n []) (spaces-blank n) i)))
+      (40 ∷ t ++ 41 ∷ [], enclosed (λ r. print d (44 ∷ spaces n (printRow ds r))) 40 41 t (joined (print d) (printRow ds) 44 n u w eu ew), in-round t refl (element-comma u (spaces n [] ++ w) refl g (listed-after (spaces n []) (spaces-blank n) i)))
   layout-printed (braces es) = let (u, e, i) = pairs-printed es in (123 ∷ u ++ 125 ∷ [], enclosed (printPairs es) 123 125 u e, in-braces u refl i)
 
   row-printed : (ds : Row) → Prints (printRow ds) (λ u. Listed u (valuesOf ds))
@@ -163,7 +162,7 @@ mutual
   row-printed (more d n ds) =
       let (u, eu, g) = layout-printed d in
       let (w, ew, i) = row-printed ds in
-      (u ++ 44 ∷ (spaces n [] ++ w), joined (print d) (printRow ds) 44 n u w eu ew, value-comma u (spaces n [] ++ w) refl g (listed-behind (spaces n []) (spaces-blank n) i))
+      (u ++ 44 ∷ (spaces n [] ++ w), joined (print d) (printRow ds) 44 n u w eu ew, value-comma u (spaces n [] ++ w) refl g (listed-after (spaces n []) (spaces-blank n) i))
 
   pairs-printed : (es : Pairs) → Prints (printPairs es) (λ u. Paired u (itemsOf es))
   pairs-printed no-more = ([], λ r. refl, no-items tt)
@@ -175,7 +174,7 @@ mutual
       let parts : x ++ 58 ∷ (spaces m [] ++ t) ≡ x ++ 58 ∷ (spaces m [] ++ y) ++ 44 ∷ (spaces n [] ++ w) = simp append-assoc in (
         x ++ 58 ∷ (spaces m [] ++ t),
         joined (print k) (λ r. print d (44 ∷ spaces n (printPairs es r))) 58 m x t ex (joined (print d) (printPairs es) 44 n y w ey ew),
-        item-comma x (spaces m [] ++ y) (spaces n [] ++ w) parts g (gives-behind (spaces m []) (spaces-blank m) h) (paired-behind (spaces n []) (spaces-blank n) i),
+        item-comma x (spaces m [] ++ y) (spaces n [] ++ w) parts g (gives-after (spaces m []) (spaces-blank m) h) (paired-after (spaces n []) (spaces-blank n) i),
       )
 
 -- THE LAW

@@ -5,10 +5,9 @@ use mathlib.Core.Path.{_≡_, refl, sym, ap, subst}
 use mathlib.Core.Logic.{inl, inr}
 use mathlib.Core.List.{List, [], _∷_, _++_, append-assoc, append-nil}
 use mathlib.Core.Bool.{Bool, true, false}
-use Rattle.literal_grammar.specs.Value.{Value, Values, Items, string, integer, True, False, None, list, tuple, dict, end-of-values, value-then, end-of-items, item-then}
+use Rattle.literal_grammar.specs.Value.{Value, Values, Items, string, integer, True, False, None, list, tuple, dict, end-of-values, value-then, end-of-items, item-then, Within, AllWithin, ItemsWithin}
 use Rattle.literal_grammar.proofs.Lists.{Item, values, items}
 use Rattle.literal_grammar.specs.Grammar.{Plain, in-quotes, unsigned, minus-sign, word-true, word-false, word-none, Gives, plain, around, in-square, in-round, in-braces, Listed, no-values, last-value, value-comma, Tupled, no-elements, element-comma, Paired, no-items, last-item, item-comma}
-use Rattle.literal_grammar.specs.Nesting.{Within, AllWithin, ItemsWithin}
 use Rattle.literal_grammar.specs.Promise.{GivesIn}
 use Rattle.literal_grammar.proofs.Texts.{Blanks, all-append}
 use Rattle.literal_grammar.proofs.Layers.{Padded, padded, Parted, empty, last, more, Pair, pair, item, upto, Bracket, square, round, curly, Layer, Literal, plain-in, raise, raise′}

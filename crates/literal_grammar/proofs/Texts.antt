@@ -48,12 +48,12 @@ alike-head (b ∷ q) r (w, e) = ap headOf e
 pub alike-cons : (c : ℕ) (z w : List ℕ) → z ≡ c ∷ tailOf z → Alike z (c ∷ w)
 alike-cons c z w e = subst (λ y. Alike y (c ∷ w)) (sym e) (w, refl)
 
-alike-behind : (u q r : List ℕ) → Alike q r → Alike (u ++ q) (u ++ r)
-alike-behind [] q r al = al
-alike-behind (b ∷ u) q r al = (u ++ r, refl)
+alike-after : (u q r : List ℕ) → Alike q r → Alike (u ++ q) (u ++ r)
+alike-after [] q r al = al
+alike-after (b ∷ u) q r al = (u ++ r, refl)
 
 pub alike-on : (t u q r : List ℕ) → t ≡ u ++ q → Alike q r → Alike t (u ++ r)
-alike-on t u q r e al = subst (λ y. Alike y (u ++ r)) (sym e) (alike-behind u q r al)
+alike-on t u q r e al = subst (λ y. Alike y (u ++ r)) (sym e) (alike-after u q r al)
 
 -- ---- blanks
 abbrev pub Blanks : List ℕ → Type 0

@@ -1,5 +1,5 @@
 -- Document 01, "The literal": which texts give which values, a rule for each sentence. No rule mentions positions or an order of reading. How deep brackets may nest is
--- Nesting.antt, what a reader must return is Promise.antt. "Words are longest runs" needs no rule: in a text of these rules no two words are adjacent. Prefixes,
+-- `Within` (Value.antt), what a reader must return is Promise.antt. "Words are longest runs" needs no rule: in a text of these rules no two words are adjacent. Prefixes,
 -- comments, joined strings and a comma alone have no rule, so no text with one gives a value.
 use Prim.Native.Nat.{ℕ}
 use mathlib.Core.Path.{_≡_}

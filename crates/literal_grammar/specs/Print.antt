@@ -40,14 +40,14 @@ unfoldable pub escapeOf : ℕ → ℕ
 escapeOf b = cond (eqb b 92) 92 (cond (eqb b 39) 39 (cond (eqb b 13) 114 (cond (eqb b 10) 110 0)))
 
 -- one byte between the quotes, then r: as it is, or a backslash (92) and its letter
-abbrev pub spelled : (letter b : ℕ) → List ℕ → List ℕ
-spelled zero b r = b ∷ r
-spelled (suc c) b r = 92 ∷ suc c ∷ r
+abbrev pub spelledByte : (letter b : ℕ) → List ℕ → List ℕ
+spelledByte zero b r = b ∷ r
+spelledByte (suc c) b r = 92 ∷ suc c ∷ r
 
 -- the bytes of a string as printed between its quotes, then r
 abbrev pub escapes : List ℕ → List ℕ → List ℕ
 escapes [] r = r
-escapes (b ∷ w) r = spelled (escapeOf b) b (escapes w r)
+escapes (b ∷ w) r = spelledByte (escapeOf b) b (escapes w r)
 
 -- `True` or `False`, then r
 abbrev pub wordText : Bool → List ℕ → List ℕ

@@ -6,11 +6,10 @@ use mathlib.Core.Path.{_≡_}
 use mathlib.Core.List.{List, [], _∷_, _++_}
 use mathlib.Core.Bool.{true}
 use lib.ListN.{length, take, drop}
-use Rattle.counts.specs.AllBytes.{AllBytes}
+use Rattle.counts.specs.Lists.{AllBytes}
 use Rattle.literal_grammar.specs.Bytes.{isOpen}
-use Rattle.literal_grammar.specs.Value.{Value}
+use Rattle.literal_grammar.specs.Value.{Value, Within}
 use Rattle.literal_grammar.specs.Grammar.{Gives}
-use Rattle.literal_grammar.specs.Nesting.{Within}
 
 -- the text gives the value, and at most k brackets are open at once
 abbrev pub GivesIn : ℕ → List ℕ → Value → Type 0

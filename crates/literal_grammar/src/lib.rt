@@ -2,4 +2,4 @@
 // Every crate that reads or writes header text is proved against it.
 
 // The most brackets that may be open at once: one more is refused with 7.
-pub const OPEN: usize = 32;
+pub const MOST_OPEN: usize = 32;

@@ -60,13 +60,16 @@ fn plain_rest(text: &[u8], from: usize, quote: u8) -> usize
     at
 }
 
-// The same in blocks of 32, for a long run.
+// A long run is tried this many bytes at a time.
+const LONG_BLOCK: usize = 32;
+
+// The same in blocks, for a long run.
 fn plain_far(text: &[u8], from: usize, quote: u8) -> usize
     ensures { λ r. ⌜ r ≡ past (isPlain quote) (now (text .entry)) from ⌝ }
 {
     let mut at = from;
-    while plain_block(text, at, 32, quote) {
-        at += 32;
+    while plain_block(text, at, LONG_BLOCK, quote) {
+        at += LONG_BLOCK;
     }
     plain_rest(text, at, quote)
 }
@@ -78,11 +81,16 @@ fn is_low(b: u8) -> bool
     (b < b'(') | (b == b'\\')
 }
 
+// A string's first bytes are looked at together: this many.
+const FIRST: u8 = 16;
+
+const FIRST_BLOCK: usize = FIRST as usize;
+
 // The place i if the byte there is low, else 16.
 fn low_place(b: u8, i: u8) -> u8
     ensures { λ r. ⌜ r ≡ cond (isLow b) i 16 ⌝ }
 {
-    if is_low(b) { i } else { 16 }
+    if is_low(b) { i } else { FIRST }
 }
 
 fn lesser(a: u8, b: u8) -> u8
@@ -96,9 +104,9 @@ fn first_low(block: &[u8]) -> u8
     requires { ⌜ length (now block) ≡ 16 ⌝ }
     ensures { λ r. ⌜ r ≡ run isHigh (now (block .entry)) ⌝ }
 {
-    let mut first: u8 = 16;
+    let mut first: u8 = FIRST;
     let mut i: u8 = 0;
-    while i < 16 {
+    while i < FIRST {
         first = lesser(first, low_place(block[i as usize], i));
         i += 1;
     }
@@ -122,13 +130,13 @@ pub fn plain_any(text: &[u8], from: usize, quote: u8) -> usize
     if b'\'' < quote {
         return plain_rest(text, from, quote);
     }
-    if text.len() < 16 {
+    if text.len() < FIRST_BLOCK {
         return plain_rest(text, from, quote);
     }
-    if text.len() - 16 < from {
+    if text.len() - FIRST_BLOCK < from {
         return plain_rest(text, from, quote);
     }
-    let at = from + first_low(&text[from..from + 16]) as usize;
+    let at = from + first_low(&text[from..from + FIRST_BLOCK]) as usize;
     if byte_is(text, at, quote) {
         return at;
     }

@@ -51,10 +51,10 @@ SpellsAhead lo hi r = Ahead lo hi (r .ended)
 
 module _ (s : List ℕ) where
   -- the rest of a word whose first byte is at `at`
-  word-behind : (w : List ℕ) → Bytes w → (at : ℕ) → at < length s → Ahead at (length s) (wordAt w s (at + 1))
+  word-after : (w : List ℕ) → Bytes w → (at : ℕ) → at < length s → Ahead at (length s) (wordAt w s (at + 1))
   unfolding wordAt
-  word-behind [] bs at lt = omega arith
-  word-behind (c ∷ w) bs at lt = go (eqb (byteAt s (at + 1)) c) refl (word-behind w (bs .1) (at + 1))
+  word-after [] bs at lt = omega arith
+  word-after (c ∷ w) bs at lt = go (eqb (byteAt s (at + 1)) c) refl (word-after w (bs .1) (at + 1))
     where
       go : (t : Bool) → eqb (byteAt s (at + 1)) c ≡ t → (at + 1 < length s → Ahead (at + 1) (length s) (wordAt w s (at + 1 + 1)))
           → Ahead at (length s) (elim t [ true ↦ wordAt w s (at + 1 + 1) | false ↦ Fault (at + 1) ])
@@ -66,7 +66,7 @@ module _ (s : List ℕ) where
   word-ahead c w bs at = go (eqb (byteAt s at) c) refl
     where
       go : (t : Bool) → eqb (byteAt s at) c ≡ t → Ahead at (length s) (elim t [ true ↦ wordAt w s (at + 1) | false ↦ Fault at ])
-      go true h = word-behind w (bs .1) at (byte-in s at c (eqb-true _ _ h) (bs .0))
+      go true h = word-after w (bs .1) at (byte-in s at c (eqb-true _ _ h) (bs .0))
       go false h = tt
 
   pieces-ahead : (q m at : ℕ) → Ahead at (length s) (pieces m q s at .ended)

@@ -17,7 +17,7 @@ use Rattle.decimal.specs.Read.{digitsRead}
 use Rattle.decimal.specs.declared.Digits.{Digits}
 use Rattle.decimal.proofs.Runs.{digits-inside}
 use Rattle.literal_bytes.specs.Text.{byteAt, part, run, past}
-use Rattle.literal_tokens.specs.Tokens.{naturalAt, numberBy, numeralAt}
+use Rattle.literal_tokens.specs.Tokens.{naturalAt, numberOfNumeral, numeralAt}
 use Rattle.literal_bytes.specs.declared.Parsed.{Parsed}
 use Rattle.literal_bytes.specs.declared.Parsed.the-variants.{Value, Fault}
 use Rattle.literal_bytes.proofs.Positions.{byte-in, digit-in, past-more}
@@ -44,8 +44,8 @@ front-digits (b ∷ l) = go (isDigit b) (front-digits l)
     go false ih = refl
 
 -- how digits end is known
-ended-at : (s : List ℕ) (at : ℕ) (r : Parsed) → naturalAt s at ≡ r → (n : Number) → n ≡ numberBy s at r → record { ended = r; number = n } ≡ numeralAt s at
-ended-at s at r h n hn = ap (λ (x : Number). record { ended = r; number = x }) hn ∙ ap (λ (x : Parsed). record { ended = x; number = numberBy s at x }) (sym h)
+ended-at : (s : List ℕ) (at : ℕ) (r : Parsed) → naturalAt s at ≡ r → (n : Number) → n ≡ numberOfNumeral s at r → record { ended = r; number = n } ≡ numeralAt s at
+ended-at s at r h n hn = ap (λ (x : Number). record { ended = r; number = x }) hn ∙ ap (λ (x : Parsed). record { ended = x; number = numberOfNumeral s at x }) (sym h)
 
 module _ (s : List ℕ) (at : ℕ) where
   one-byte : at < length s → part s at (at + 1) ≡ byteAt s at ∷ []

@@ -20,16 +20,16 @@ mutual
     integer : Span → (minus : Bool) → ℕ → Node
     True False None : Span → Node
     list tuple : Span → Nodes → Node
-    dict : Span → Pairs → Node
+    dict : Span → NodePairs → Node
 
   pub data Nodes : Type 0 where
     end-of-nodes : Nodes
     node-then : Node → Nodes → Nodes
 
   -- the `key: value` items of a dict, in the order of the text
-  pub data Pairs : Type 0 where
-    end-of-pairs : Pairs
-    pair-then : (key value : Node) → Pairs → Pairs
+  pub data NodePairs : Type 0 where
+    end-of-pairs : NodePairs
+    pair-then : (key value : Node) → NodePairs → NodePairs
 
 -- one `key: value` item
 pub record Pair : Type 0 where
@@ -44,7 +44,7 @@ abbrev pub nodes : List Node → Nodes
 nodes [] = end-of-nodes
 nodes (n ∷ ns) = node-then n (nodes ns)
 
--- a list of pairs as `Pairs`
-abbrev pub pairs : List Pair → Pairs
+-- a list of pairs as `NodePairs`
+abbrev pub pairs : List Pair → NodePairs
 pairs [] = end-of-pairs
 pairs (p ∷ ps) = pair-then (p .key) (p .value) (pairs ps)

@@ -26,14 +26,14 @@ naturalAt s at = elim (eqb (byteAt s at) 48) [
 ]
 
 -- the number that the digits from `at` up to their end write, or `Over`; `Over` too where there are none
-abbrev pub numberBy : List ℕ → ℕ → Parsed → Number
-numberBy s at (Value e) = number (decimal (part s at e))
-numberBy s at (Fault p) = Over
-numberBy s at (Deep p) = Over
+abbrev pub numberOfNumeral : List ℕ → ℕ → Parsed → Number
+numberOfNumeral s at (Value e) = number (decimal (part s at e))
+numberOfNumeral s at (Fault p) = Over
+numberOfNumeral s at (Deep p) = Over
 
 -- where the digits at a position end, and their number
 abbrev pub numeralAt : List ℕ → ℕ → Numeral
-numeralAt s at = record { ended = naturalAt s at; number = numberBy s at (naturalAt s at) }
+numeralAt s at = record { ended = naturalAt s at; number = numberOfNumeral s at (naturalAt s at) }
 
 -- a given word: the position after it, or a fault at the first byte that differs
 unfoldable pub wordAt : List ℕ → List ℕ → ℕ → Parsed

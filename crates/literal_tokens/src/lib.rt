@@ -99,14 +99,14 @@ pub fn numeral_at(text: &[u8], at: usize) -> Numeral
     }
 }
 
-// The end of the word `known`, or a fault at the first byte that differs.
-fn word(text: &[u8], from: usize, known: &[u8]) -> Parsed
-    ensures { λ r. ⌜ r ≡ wordAt (now (known .entry)) (now (text .entry)) from ⌝ }
+// The end of the word `expected`, or a fault at the first byte that differs.
+fn word(text: &[u8], from: usize, expected: &[u8]) -> Parsed
+    ensures { λ r. ⌜ r ≡ wordAt (now (expected .entry)) (now (text .entry)) from ⌝ }
 {
     let mut at = from;
     let mut i: usize = 0;
-    while i < known.len() {
-        if peek(text, at) != known[i] as u16 {
+    while i < expected.len() {
+        if peek(text, at) != expected[i] as u16 {
             return Parsed::Fault(at);
         }
         at += 1;

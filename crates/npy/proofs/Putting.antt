@@ -4,18 +4,18 @@ use mathlib.Core.Path.{_≡_, ap, _∙_, subst}
 use mathlib.Core.List.{List}
 use lib.ListN.{length}
 use Rattle.counts.specs.Outcome.{Outcome, gives, refused, then, each, afterwards}
-use Rattle.counts.specs.Front.{atFront}
+use Rattle.counts.specs.Lists.{atFront}
 use Rattle.counts.specs.Owes.{Owes}
-use Rattle.npy_codes.specs.Codes.{code, Returns, alone}
+use Rattle.npy_codes.specs.Codes.{code, Returns, oneNumber}
 use Rattle.npy.specs.Calls.{Puts}
-use Rattle.npy_codes.proofs.Named.{retold}
+use Rattle.npy_codes.proofs.Then.{returns-same}
 
 module _ {A : Type 0} {given : Outcome A} (next : A → Outcome (List ℕ)) where
   pub then-put : {a : A} {answer : Outcome ℕ} {room room′ count count′ : List ℕ} {r : ℕ}
-      → gives a ≡ given → Owes (next a) room answer room′ → Returns alone answer count r count′ → Puts (then given next) room count r room′ count′
-  then-put {room = room} is owes tells =
+      → gives a ≡ given → Owes (next a) room answer room′ → Returns oneNumber answer count r count′ → Puts (then given next) room count r room′ count′
+  then-put {room = room} is owes said-so =
       record {
-        answered = retold (owes .answered ∙ ap (λ (g : Outcome A). each length (then g next)) is) tells;
+        answered = returns-same (owes .answered ∙ ap (λ (g : Outcome A). each length (then g next)) is) said-so;
         room-after = owes .room-after ∙ ap (λ (g : Outcome A). afterwards atFront (then g next) room) is;
       }
 
@@ -28,7 +28,7 @@ module _ {A : Type 0} {given : Outcome A} (next : A → Outcome (List ℕ)) wher
         answered =
             record {
               answered = number ∙ ap (λ (g : Outcome A). code (each length (then g next))) is;
-              after = ap (λ (g : Outcome A). afterwards (λ a old. alone a) (each length (then g next)) count) is;
+              after = ap (λ (g : Outcome A). afterwards (λ a old. oneNumber a) (each length (then g next)) count) is;
             };
         room-after = ap (λ (g : Outcome A). afterwards atFront (then g next) room) is;
       }

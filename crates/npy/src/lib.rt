@@ -17,9 +17,8 @@ ghost use Rattle.string_value.specs.Rooms.{readBytes, readPoints, writeBytes, w
 ghost use Rattle.element.specs.Element.{elementBytes, elementPoints};
 ghost use Rattle.header_prefix.specs.Answer.{versionIs};
 ghost use Rattle.header.specs.Reads.{lent};
-ghost use Rattle.npy_codes.specs.Codes.{Returns, alone};
-ghost use Rattle.npy_codes.specs.Numbers.{orderFor, typeFor, typeValues, summaryValues, runValues};
-ghost use Rattle.npy.specs.Calls.{Reads, ReadsHeld, ReadsText, Writes, Lists, ListsAs, Strides, Prints, Puts};
+ghost use Rattle.npy_codes.specs.Codes.{Returns, oneNumber, orderFor, typeFor, typeValues, summaryValues, runValues};
+ghost use Rattle.npy.specs.Calls.{ReadsInC, ReadsHeldInC, ReadsTextInC, WritesInC, ListsInC, ListsAsInC, StridesInC, PrintsInC, Puts};
 
 // The header of a file. Its record goes to the three lent rooms; `said` is its version, order, rank, entries, name bytes and where the data starts.
 #[no_mangle]
@@ -30,7 +29,7 @@ pub extern "C" fn npy_read(
     shape: &mut [u64],
     said: &mut [u64; 6],
 ) -> u8
-    ensures { λ r. ⌜ Reads (now (file .entry)) (lent (now (table .entry)) (now (names .entry)) (now (shape .entry))) (now (said .entry)) r (lent (now (table .exit)) (now (names .exit)) (now (shape .exit))) (now (said .exit)) ⌝ }
+    ensures { λ r. ⌜ ReadsInC (now (file .entry)) (lent (now (table .entry)) (now (names .entry)) (now (shape .entry))) (now (said .entry)) r (lent (now (table .exit)) (now (names .exit)) (now (shape .exit))) (now (said .exit)) ⌝ }
 {
     npy_codes::return_header(header::read(file, table, names, shape), said)
 }
@@ -45,7 +44,7 @@ pub extern "C" fn npy_read_held(
     shape: &mut [u64],
     said: &mut [u64; 6],
 ) -> u8
-    ensures { λ r. ⌜ ReadsHeld longer (now (file .entry)) (lent (now (table .entry)) (now (names .entry)) (now (shape .entry))) (now (said .entry)) r (lent (now (table .exit)) (now (names .exit)) (now (shape .exit))) (now (said .exit)) ⌝ }
+    ensures { λ r. ⌜ ReadsHeldInC longer (now (file .entry)) (lent (now (table .entry)) (now (names .entry)) (now (shape .entry))) (now (said .entry)) r (lent (now (table .exit)) (now (names .exit)) (now (shape .exit))) (now (said .exit)) ⌝ }
 {
     npy_codes::return_header(header::read_held(file, longer, table, names, shape), said)
 }
@@ -59,7 +58,7 @@ pub extern "C" fn npy_read_text(
     shape: &mut [u64],
     said: &mut [u64; 4],
 ) -> u8
-    ensures { λ r. ⌜ ReadsText (now (text .entry)) (lent (now (table .entry)) (now (names .entry)) (now (shape .entry))) (now (said .entry)) r (lent (now (table .exit)) (now (names .exit)) (now (shape .exit))) (now (said .exit)) ⌝ }
+    ensures { λ r. ⌜ ReadsTextInC (now (text .entry)) (lent (now (table .entry)) (now (names .entry)) (now (shape .entry))) (now (said .entry)) r (lent (now (table .exit)) (now (names .exit)) (now (shape .exit))) (now (said .exit)) ⌝ }
 {
     npy_codes::return_text(header::read_text(text, table, names, shape), said)
 }
@@ -94,7 +93,7 @@ pub extern "C" fn npy_write_header(
     out: &mut [u8],
     count: &mut [u64; 1],
 ) -> u8
-    ensures { λ r. ⌜ Writes (now (table .entry)) (now (names .entry)) (now (shape .entry)) order (now (out .entry)) (now (count .entry)) r (now (out .exit)) (now (count .exit)) ⌝ }
+    ensures { λ r. ⌜ WritesInC (now (table .entry)) (now (names .entry)) (now (shape .entry)) order (now (out .entry)) (now (count .entry)) r (now (out .exit)) (now (count .exit)) ⌝ }
 {
     match npy_codes::order_for(order) {
         OrderGiven::Is(o) => npy_codes::return_bytes(
@@ -117,7 +116,7 @@ pub extern "C" fn npy_list(
     out: &mut [u8],
     count: &mut [u64; 1],
 ) -> u8
-    ensures { λ r. ⌜ Lists version start (now (table .entry)) (now (names .entry)) (now (shape .entry)) order (now (out .entry)) (now (count .entry)) r (now (out .exit)) (now (count .exit)) ⌝ }
+    ensures { λ r. ⌜ ListsInC version start (now (table .entry)) (now (names .entry)) (now (shape .entry)) order (now (out .entry)) (now (count .entry)) r (now (out .exit)) (now (count .exit)) ⌝ }
 {
     match npy_codes::version_for(version) {
         VersionGiven::Is(v) => list_as(v, start, table, names, shape, order, out, count),
@@ -136,7 +135,7 @@ fn list_as(
     out: &mut [u8],
     count: &mut [u64; 1],
 ) -> u8
-    ensures { λ r. ⌜ ListsAs (versionIs version) start (now (table .entry)) (now (names .entry)) (now (shape .entry)) order (now (out .entry)) (now (count .entry)) r (now (out .exit)) (now (count .exit)) ⌝ }
+    ensures { λ r. ⌜ ListsAsInC (versionIs version) start (now (table .entry)) (now (names .entry)) (now (shape .entry)) order (now (out .entry)) (now (count .entry)) r (now (out .exit)) (now (count .exit)) ⌝ }
 {
     match npy_codes::order_for(order) {
         OrderGiven::Is(o) => npy_codes::return_bytes(
@@ -150,7 +149,7 @@ fn list_as(
 // The item count of a shape.
 #[no_mangle]
 pub extern "C" fn npy_count(shape: &[u64], order: u64, count: &mut [u64; 1]) -> u8
-    ensures { λ r. ⌜ Returns alone (then (orderFor order) (λ o. itemCount o (now (shape .entry)))) (now (count .entry)) r (now (count .exit)) ⌝ }
+    ensures { λ r. ⌜ Returns oneNumber (then (orderFor order) (λ o. itemCount o (now (shape .entry)))) (now (count .entry)) r (now (count .exit)) ⌝ }
 {
     match npy_codes::order_for(order) {
         OrderGiven::Is(o) => npy_codes::return_items(shape::count(shape, o), count),
@@ -166,7 +165,7 @@ pub extern "C" fn npy_strides(
     out: &mut [u64],
     count: &mut [u64; 1],
 ) -> u8
-    ensures { λ r. ⌜ Strides (now (shape .entry)) order (now (out .entry)) (now (count .entry)) r (now (out .exit)) (now (count .exit)) ⌝ }
+    ensures { λ r. ⌜ StridesInC (now (shape .entry)) order (now (out .entry)) (now (count .entry)) r (now (out .exit)) (now (count .exit)) ⌝ }
 {
     match npy_codes::order_for(order) {
         OrderGiven::Is(o) => npy_codes::return_items(shape::strides(shape, o, out), count),
@@ -182,7 +181,7 @@ pub extern "C" fn npy_item_number(
     index: &[u64],
     item: &mut [u64; 1],
 ) -> u8
-    ensures { λ r. ⌜ Returns alone (then (orderFor order) (λ o. itemOf o (now (shape .entry)) (now (index .entry)))) (now (item .entry)) r (now (item .exit)) ⌝ }
+    ensures { λ r. ⌜ Returns oneNumber (then (orderFor order) (λ o. itemOf o (now (shape .entry)) (now (index .entry)))) (now (item .entry)) r (now (item .exit)) ⌝ }
 {
     match npy_codes::order_for(order) {
         OrderGiven::Is(o) => npy_codes::return_items(
@@ -382,7 +381,7 @@ pub extern "C" fn npy_type_print(
     out: &mut [u8],
     count: &mut [u64; 1],
 ) -> u8
-    ensures { λ r. ⌜ Prints order letter size units (now (out .entry)) (now (count .entry)) r (now (out .exit)) (now (count .exit)) ⌝ }
+    ensures { λ r. ⌜ PrintsInC order letter size units (now (out .entry)) (now (count .entry)) r (now (out .exit)) (now (count .exit)) ⌝ }
 {
     match npy_codes::type_for(order, letter, size, units) {
         TypeRead::Read(t) => npy_codes::return_bytes(type_print::print(t, out), count),

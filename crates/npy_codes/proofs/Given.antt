@@ -4,7 +4,7 @@ use mathlib.Core.Path.{_≡_, refl}
 use borrow.Author.Tests.{ne-eqb}
 use Rattle.counts.specs.Outcome.{gives, refused}
 use Rattle.dtype.specs.declared.Order.the-variants.{C, Fortran}
-use Rattle.npy_codes.specs.Numbers.{orderFor}
+use Rattle.npy_codes.specs.Codes.{orderFor}
 
 pub order-c : (n : ℕ) → n ≡ 0 → orderFor n ≡ gives C
 order-c n is = rw is refl

@@ -1,4 +1,4 @@
-pub mod Told
+pub mod Returned
 mod Given
-pub mod Named
+pub mod Then
 pub mod Outcomes

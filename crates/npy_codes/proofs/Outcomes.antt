@@ -12,16 +12,15 @@ use Rattle.header_prefix.proofs.Outcomes.{versionBack, version-back}
 use Rattle.type_str.specs.Answer as typed
 use Rattle.type_str.specs.declared.TypeRead.{TypeRead}
 use Rattle.type_str.proofs.Outcomes as typed-one
-use Rattle.record.specs.Version as version
+use Rattle.record.specs.Prefix as version
 use Rattle.npy_codes.specs.declared.OrderGiven.{OrderGiven}
 use Rattle.npy_codes.specs.declared.VersionGiven.{VersionGiven}
-use Rattle.npy_codes.specs.Codes.{Returns}
-use Rattle.npy_codes.specs.Numbers.{orderFor, typeFor}
+use Rattle.npy_codes.specs.Codes.{Returns, orderFor, typeFor}
 use Rattle.npy_codes.specs.Given.{orderGiven, versionGiven}
 
 -- of every function that tells an answer
-pub tells-one : {A : Type 0} (values : A → List ℕ) (o : Outcome A) (room : List ℕ) → OneOutcome {A = ℕ × List ℕ} (λ r. Returns values o room (r .0) (r .1))
-tells-one values o room x y p q = pair-of (p .answered ∙ sym (q .answered)) (p .after ∙ sym (q .after))
+pub returns-one : {A : Type 0} (values : A → List ℕ) (o : Outcome A) (room : List ℕ) → OneOutcome {A = ℕ × List ℕ} (λ r. Returns values o room (r .0) (r .1))
+returns-one values o room x y p q = pair-of (p .answered ∙ sym (q .answered)) (p .after ∙ sym (q .after))
 
 -- ---- what a number names
 order-same : (a : OrderGiven) → answerFor OrderGiven.Is OrderGiven.Refused (orderGiven a) ≡ a

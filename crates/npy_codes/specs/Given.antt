@@ -2,7 +2,7 @@
 use Rattle.counts.specs.Outcome.{Outcome, gives, refused}
 use Rattle.refusal.specs.Numbers.{numberOf}
 use Rattle.dtype.specs.declared.Order.{Order}
-use Rattle.record.specs.Version.{Version}
+use Rattle.record.specs.Prefix.{Version}
 use Rattle.header_prefix.specs.Answer.{versionIs}
 use Rattle.npy_codes.specs.declared.OrderGiven.{OrderGiven}
 use Rattle.npy_codes.specs.declared.VersionGiven.{VersionGiven}

@@ -19,13 +19,12 @@ use table_entry::EntryType;
 use type_str::TypeRead;
 ghost use mathlib.Core.Path.{_≡_};
 ghost use Rattle.refusal.specs.Answers.{itemsAnswer, bytesAnswer, pointsAnswer};
-ghost use Rattle.record.specs.Version.{versionOf};
+ghost use Rattle.record.specs.Prefix.{versionOf};
 ghost use Rattle.type_str.specs.Answer as typed;
 ghost use Rattle.check_record.specs.Answer as checked;
 ghost use Rattle.place.specs.Answer as placed;
 ghost use Rattle.header.specs.Reads as header;
-ghost use Rattle.npy_codes.specs.Codes.{Returns, alone};
-ghost use Rattle.npy_codes.specs.Numbers.{orderNumber, orderFor, typeFor, typeValues, textValues, headerValues, summaryValues, runValues};
+ghost use Rattle.npy_codes.specs.Codes.{Returns, oneNumber, orderNumber, orderFor, typeFor, typeValues, textValues, headerValues, summaryValues, runValues};
 ghost use Rattle.npy_codes.specs.Given.{orderGiven, versionGiven};
 
 // An order that a caller gives by its number.
@@ -86,7 +85,7 @@ pub fn type_for(order: u64, letter: u64, size: u64, units: u64) -> TypeRead
 
 // Writes a number of items, or an item's number, to `said` and returns 0, or returns the refusal's number.
 pub fn return_items(a: ItemsAnswer, said: &mut [u64; 1]) -> u8
-    ensures { λ r. ⌜ Returns alone (itemsAnswer a) (now (said .entry)) r (now (said .exit)) ⌝ }
+    ensures { λ r. ⌜ Returns oneNumber (itemsAnswer a) (now (said .entry)) r (now (said .exit)) ⌝ }
 {
     match a {
         ItemsAnswer::Is(n) => {
@@ -99,7 +98,7 @@ pub fn return_items(a: ItemsAnswer, said: &mut [u64; 1]) -> u8
 
 // Writes a number of bytes to `said` and returns 0, or returns the refusal's number.
 pub fn return_bytes(a: BytesAnswer, said: &mut [u64; 1]) -> u8
-    ensures { λ r. ⌜ Returns alone (bytesAnswer a) (now (said .entry)) r (now (said .exit)) ⌝ }
+    ensures { λ r. ⌜ Returns oneNumber (bytesAnswer a) (now (said .entry)) r (now (said .exit)) ⌝ }
 {
     match a {
         BytesAnswer::Is(n) => {
@@ -112,7 +111,7 @@ pub fn return_bytes(a: BytesAnswer, said: &mut [u64; 1]) -> u8
 
 // Writes a number of code points to `said` and returns 0, or returns the refusal's number.
 pub fn return_points(a: PointsAnswer, said: &mut [u64; 1]) -> u8
-    ensures { λ r. ⌜ Returns alone (pointsAnswer a) (now (said .entry)) r (now (said .exit)) ⌝ }
+    ensures { λ r. ⌜ Returns oneNumber (pointsAnswer a) (now (said .entry)) r (now (said .exit)) ⌝ }
 {
     match a {
         PointsAnswer::Is(n) => {

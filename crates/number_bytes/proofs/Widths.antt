@@ -6,7 +6,7 @@ use native.Mathlib.Nat.{pow-suc, div-lt-iff-lt-mul, mod-add-div, mod-lt}
 use mathlib.Core.Path.{_≡_, refl, sym, ap, _∙_}
 use mathlib.Core.List.{List, [], _∷_, reverse, reverse-cons}
 use lib.ListN.{length}
-use Rattle.counts.specs.AllBytes.{AllBytes}
+use Rattle.counts.specs.Lists.{AllBytes}
 use Rattle.counts.proofs.AllBytes.{bytes-append}
 use Rattle.number_bytes.specs.Numbers.{little, leastBytes, leastFirst, inOrder, outOrder}
 use Rattle.number_bytes.proofs.Runs.{length-least, least-least}

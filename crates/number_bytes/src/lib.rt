@@ -21,7 +21,7 @@ pub fn read(run: &[u8], order: Endianness) -> Number
             return Number::Over;
         }
         k -= 1;
-        n = wide(byte_in(run, order, k)) + 0x100 * n;
+        n = as_u64(byte_in(run, order, k)) + 0x100 * n;
     }
     Number::Is(n)
 }
@@ -41,7 +41,7 @@ fn byte_in(run: &[u8], order: Endianness, k: usize) -> u8
     }
 }
 
-fn wide(byte: u8) -> u64
+fn as_u64(byte: u8) -> u64
     ensures { λ r. ⌜ r ≡ byte ⌝ }
 {
     byte as u64

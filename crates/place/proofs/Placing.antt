@@ -23,8 +23,7 @@ use Rattle.dtype.specs.Shape.{product, inRange, item}
 use Rattle.dtype.specs.Record.{Record, table}
 use Rattle.dtype.specs.PlainBytes.{plainBytes}
 use Rattle.dtype.specs.Limits.{overDimensions, overLevels, someOver, overSize, overShape}
-use Rattle.dtype.specs.Paths.{plainAt, offset}
-use Rattle.dtype.specs.Places.{dataBytes, place}
+use Rattle.dtype.specs.Places.{plainAt, offset, dataBytes, place}
 use Rattle.dtype.proofs.Seen.{or-left}
 use Rattle.dtype.proofs.Places.{run-inside}
 use Rattle.check_record.specs.Checked.{checkedRecord}

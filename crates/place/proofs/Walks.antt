@@ -1,4 +1,4 @@
--- A path followed in a table: what the loops of `skip` and `follow` keep, and what `step` finds at one entry. Sizes are exact since no entry is over, and
+-- A path followed in a table: what the loops of `field_at` and `follow` keep, and what `step` finds at one entry. Sizes are exact since no entry is over, and
 -- nothing that is summed is more than the whole item.
 use Prim.Native.Nat.{ℕ, zero, suc, _+_, _*_, _^_, _<_, _≤_}
 use mathlib.Core.Path.{_≡_, refl, ap, sym, _∙_}
@@ -21,24 +21,22 @@ use Rattle.type_str.specs.Text.{isType}
 use Rattle.dtype.specs.declared.Entry.{Entry}
 use Rattle.dtype.specs.Dtype.{Dtype, Fields, plain, array, record-of, end-of-fields, field-then, sizeOf}
 use Rattle.dtype.specs.Entries.{fieldCount, entriesOf, someEntry, someEntryIn, plainOnly}
-use Rattle.dtype.specs.Flat.{entry-width}
+use Rattle.dtype.specs.Record.{entry-width, table}
 use Rattle.dtype.specs.EntryOf.{entryOf}
-use Rattle.dtype.specs.Record.{table}
 use Rattle.dtype.specs.Limits.{someOver}
-use Rattle.dtype.specs.Paths.{plainAt, plainOf, offset}
+use Rattle.dtype.specs.Places.{plainAt, plainOf, offset}
 use Rattle.dtype.proofs.Runs.{Path-to, Field-path}
 use Rattle.dtype.specs.Agrees.{entryAt}
 use Rattle.dtype.specs.Seen.{fieldAt, fieldBytes}
 use Rattle.dtype.proofs.Flat.{some-entry, flat-length}
-use Rattle.dtype.proofs.Stands.{stands-entry}
+use Rattle.dtype.proofs.InTable.{in-table-entry}
 use Rattle.dtype.proofs.Seen.{or-left, or-right, size-fits, bytes-exact}
 use Rattle.dtype.specs.Leads.{Leads}
 use Rattle.dtype.proofs.Steps.{array-leads, record-leads, plain-leads-nowhere, past-leads-nowhere}
 use Rattle.check_table.specs.Reading.{untyped}
 use Rattle.table_entry.specs.EntryType.{typeOf}
 use Rattle.table_entry.proofs.Types.{type-of-written}
-use Rattle.type_letters.specs.Orders.{orderByte, orderOf}
-use Rattle.type_letters.specs.Letters.{letterByte}
+use Rattle.type_letters.specs.Letters.{orderByte, orderOf, letterByte}
 use Rattle.dtype.specs.TypeNumbers.{unitsNumber}
 use Rattle.dtype.specs.PlainBytes.{plainBytes}
 use Rattle.place.specs.declared.Led.{Led}
@@ -46,8 +44,8 @@ use Rattle.place.specs.declared.Reached.{Reached}
 use Rattle.place.specs.Walk.{ListedSized, Steps}
 
 -- what a table lists from an entry on lies in the table
-pub stands-room : (t : List ℕ) (e : ℕ) (d : Dtype) → ListedSized t e d → entry-width * (e + entriesOf d) ≤ length t
-stands-room t e d s =
+pub in-table-room : (t : List ℕ) (e : ℕ) (d : Dtype) → ListedSized t e d → entry-width * (e + entriesOf d) ≤ length t
+in-table-room t e d s =
     omega (arith, ap length (s .is), length-drop (entry-width * e) t, flat-length d e (s .up) (s .name) (s .rest), some-entry d)
 
 -- one field further
@@ -59,18 +57,18 @@ field-bytes-next : (t : List ℕ) (k c : ℕ) → fieldBytes t (suc k) c ≡ fie
 field-bytes-next t zero c = omega arith
 field-bytes-next t (suc k) c = omega (arith, field-bytes-next t k (c + entryAt t c .extent))
 
--- the loop of `skip`
-pub record Skipping (t : List ℕ) (e i c bytes k : ℕ) : Type 0 where
+-- the loop of `field_at`
+pub record PassingFields (t : List ℕ) (e i c bytes k : ℕ) : Type 0 where
   pub within : k ≤ i
   pub at : c ≡ fieldAt t k (suc e)
   pub is : bytes ≡ fieldBytes t k (suc e)
 
-pub skipping-start : (t : List ℕ) (e i : ℕ) → Skipping t e i (e + 1) 0 0
-skipping-start t e i = record { within = omega arith; at = omega arith; is = refl }
+pub passing-start : (t : List ℕ) (e i : ℕ) → PassingFields t e i (e + 1) 0 0
+passing-start t e i = record { within = omega arith; at = omega arith; is = refl }
 
-pub skipping-next : (t : List ℕ) (e i c bytes k : ℕ) → Skipping t e i c bytes k → k < i → (x : Entry) → x ≡ entryAt t c
-    → (more : Bytes) → ByteCount.Is more ≡ byteCount (number (bytes + x .bytes)) → Skipping t e i (c + x .extent) (more .0) (k + 1)
-skipping-next t e i c bytes k s l x q more m =
+pub passing-next : (t : List ℕ) (e i c bytes k : ℕ) → PassingFields t e i c bytes k → k < i → (x : Entry) → x ≡ entryAt t c
+    → (more : Bytes) → ByteCount.Is more ≡ byteCount (number (bytes + x .bytes)) → PassingFields t e i (c + x .extent) (more .0) (k + 1)
+passing-next t e i c bytes k s l x q more m =
     let z : k + 1 ≡ suc k = omega arith in
     let b = bytes-back (bytes + x .bytes) more m .0 in
     let p : x ≡ entryAt t (fieldAt t k (suc e)) = q ∙ ap (λ (j : ℕ). entryAt t j) (s .at) in
@@ -85,25 +83,25 @@ pub record Turn (t : List ℕ) (c bytes : ℕ) (x : Entry) : Type 0 where
   pub inside : c + x .extent ≤ length t
   pub fits : bytes + x .bytes < 2 ^ 64
 
-pub skipping-turn : (t : List ℕ) (e i c bytes k : ℕ) → Skipping t e i c bytes k → k < i
+pub passing-turn : (t : List ℕ) (e i c bytes k : ℕ) → PassingFields t e i c bytes k → k < i
     → (fs : Fields) × ListedSized t e (record-of fs) × (i < fieldCount fs) → (x : Entry) → x ≡ entryAt t c → Turn t c bytes x
-skipping-turn t e i c bytes k s l (fs, w, g) x q =
+passing-turn t e i c bytes k s l (fs, w, g) x q =
     let h = record-leads fs t e (w .up) (w .name) (w .rest) k (w .is) (w .none-over) (omega arith) in
     let p : x ≡ entryAt t (fieldAt t k (suc e)) = q ∙ ap (λ (j : ℕ). entryAt t j) (s .at) in
     let b = bytes-exact (h .inner) t (fieldAt t k (suc e)) (h .up) (h .name) (h .rest) (h .there) (h .none-over) in
-    let y = ap (λ (a : Entry). a .extent) (stands-entry (h .inner) t (fieldAt t k (suc e)) (h .up) (h .name) (h .rest) (h .there)) in
+    let y = ap (λ (a : Entry). a .extent) (in-table-entry (h .inner) t (fieldAt t k (suc e)) (h .up) (h .name) (h .rest) (h .there)) in
     record {
-      inside = omega (arith, s .at, ap (λ (a : Entry). a .extent) p, y, h .within, stands-room t e (record-of fs) w);
+      inside = omega (arith, s .at, ap (λ (a : Entry). a .extent) p, y, h .within, in-table-room t e (record-of fs) w);
       fits = omega (arith, s .is, ap (λ (a : Entry). a .bytes) p, b, h .inside, size-fits (record-of fs) (w .none-over));
     }
 
 -- so no sum is over
-pub skipping-over : {A : Type 0} (t : List ℕ) (c bytes : ℕ) (x : Entry) → Turn t c bytes x → ByteCount.Over ≡ byteCount (number (bytes + x .bytes)) → A
-skipping-over t c bytes x u o = absurd (omega (arith, u .fits, bytes-over (bytes + x .bytes) o))
+pub passing-over : {A : Type 0} (t : List ℕ) (c bytes : ℕ) (x : Entry) → Turn t c bytes x → ByteCount.Over ≡ byteCount (number (bytes + x .bytes)) → A
+passing-over t c bytes x u o = absurd (omega (arith, u .fits, bytes-over (bytes + x .bytes) o))
 
-pub skipping-end : (t : List ℕ) (e i c : ℕ) (before : Bytes) (k : ℕ) → Skipping t e i c (before .0) k → i ≤ k
+pub passing-end : (t : List ℕ) (e i c : ℕ) (before : Bytes) (k : ℕ) → PassingFields t e i c (before .0) k → i ≤ k
     → Led.To (record { entry = c; before = before }) ≡ Led.To (record { entry = fieldAt t i (suc e); before = asBytes (fieldBytes t i (suc e)) })
-skipping-end t e i c before k s l =
+passing-end t e i c before k s l =
     let z : k ≡ i = omega (arith, s .within) in
     let a : c ≡ fieldAt t i (suc e) = rw (← z) (s .at) in
     let b : before ≡ asBytes (fieldBytes t i (suc e)) = bytes-eq (rw (← z) (s .is)) in
@@ -112,7 +110,7 @@ skipping-end t e i c before k s l =
 -- ---- one step
 module _ (t : List ℕ) (e i : ℕ) (x : Entry) (q : x ≡ entryAt t e) where
   entry-is : (d : Dtype) (s : ListedSized t e d) → x ≡ entryOf d (s .up) (s .name)
-  entry-is d s = q ∙ stands-entry d t e (s .up) (s .name) (s .rest) (s .is)
+  entry-is d s = q ∙ in-table-entry d t e (s .up) (s .name) (s .rest) (s .is)
 
   pub at-plain : x .kind ≡ 0 → (d : Dtype) → ListedSized t e d → Steps t e d i Led.Nowhere
   at-plain k d s p = plain-leads-nowhere d i p (sym (ap (λ (a : Entry). a .kind) (entry-is d s)) ∙ k)
@@ -138,11 +136,11 @@ module _ (t : List ℕ) (e i : ℕ) (x : Entry) (q : x ≡ entryAt t e) where
     pub into-over : x .kind ≡ 1 → (y : Entry) → y ≡ entryAt t (e + 1) → ByteCount.Over ≡ byteCount (number (i * y .bytes)) → (d : Dtype) → ListedSized t e d → Steps t e d i Led.Nowhere
     into-over k y w o d s p = let r = leads-into k y w d s in absurd (omega (arith, r .inside, size-fits d (s .none-over), bytes-over (i * y .bytes) o))
 
-    -- what `skip` asks, and what it gives
-    pub skip-asks : (x .kind ≡ 0 → ⊥) → (x .kind ≡ 1 → ⊥) → (d : Dtype) × ListedSized t e d → (fs : Fields) × ListedSized t e (record-of fs) × (i < fieldCount fs)
-    skip-asks p r (plain ty, s) = absurd (p (ap (λ (a : Entry). a .kind) (entry-is (plain ty) s)))
-    skip-asks p r (array n d, s) = absurd (r (ap (λ (a : Entry). a .kind) (entry-is (array n d) s)))
-    skip-asks p r (record-of fs, s) = (fs, s, omega (arith, ap (λ (a : Entry). a .number) (entry-is (record-of fs) s)))
+    -- what `field_at` asks, and what it gives
+    pub field-asks : (x .kind ≡ 0 → ⊥) → (x .kind ≡ 1 → ⊥) → (d : Dtype) × ListedSized t e d → (fs : Fields) × ListedSized t e (record-of fs) × (i < fieldCount fs)
+    field-asks p r (plain ty, s) = absurd (p (ap (λ (a : Entry). a .kind) (entry-is (plain ty) s)))
+    field-asks p r (array n d, s) = absurd (r (ap (λ (a : Entry). a .kind) (entry-is (array n d) s)))
+    field-asks p r (record-of fs, s) = (fs, s, omega (arith, ap (λ (a : Entry). a .number) (entry-is (record-of fs) s)))
 
     pub to-field : (x .kind ≡ 0 → ⊥) → (x .kind ≡ 1 → ⊥) → (y : Led)
         → y ≡ Led.To (record { entry = fieldAt t i (suc e); before = asBytes (fieldBytes t i (suc e)) }) → (d : Dtype) → ListedSized t e d → Steps t e d i y

@@ -13,8 +13,7 @@ use Rattle.dtype.specs.PlainBytes.{plainBytes}
 use Rattle.dtype.specs.Entries.{hasObject}
 use Rattle.dtype.specs.Shape.{inRange}
 use Rattle.dtype.specs.Record.{Record}
-use Rattle.dtype.specs.Paths.{plainAt}
-use Rattle.dtype.specs.Places.{dataBytes, place}
+use Rattle.dtype.specs.Places.{plainAt, dataBytes, place}
 use Rattle.check_record.specs.Checked.{checkedRecord}
 use Rattle.place_area.specs.declared.Run.{Run}
 

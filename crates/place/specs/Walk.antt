@@ -1,5 +1,5 @@
 -- A path followed in a table, as the code does it: what one number of the path leads to, and what the whole path leads to. proofs/Walks.antt shows that this is what
--- dtype/specs/Paths.antt says.
+-- dtype/specs/Places.antt says.
 use Prim.Native.Nat.{ℕ, _+_, _*_}
 use mathlib.Core.Path.{_≡_}
 use mathlib.Core.Bool.{false}
@@ -9,7 +9,7 @@ use Rattle.counts.specs.Outcome.{gives, refused}
 use Rattle.refusal.specs.Numbers.{numberOf}
 use Rattle.dtype.specs.Dtype.{Dtype}
 use Rattle.dtype.specs.Entries.{entriesOf}
-use Rattle.dtype.specs.Flat.{entry-width, flat}
+use Rattle.dtype.specs.Record.{entry-width, flat}
 use Rattle.dtype.specs.Limits.{someOver}
 use Rattle.dtype.specs.PlainBytes.{plainBytes}
 use Rattle.dtype.specs.Shape.{product}
@@ -18,7 +18,7 @@ use Rattle.counts.specs.declared.Items.{Items}
 use Rattle.check_record.specs.Valid.{made, Valid}
 use Rattle.check_record.specs.Answer.{itemSize}
 use Rattle.check_record.specs.declared.ItemSize.{ItemSize}
-use Rattle.dtype.specs.Paths.{plainAt, offset}
+use Rattle.dtype.specs.Places.{plainAt, offset}
 use Rattle.dtype.specs.Leads.{Leads}
 use Rattle.place.specs.declared.Led.{Led}
 use Rattle.place.specs.declared.Placed.{Placed}

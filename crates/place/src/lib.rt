@@ -155,11 +155,11 @@ fn step(table: &[u64], e: usize, i: u64) -> Led
         };
         return Led::To(Reached { entry: c, before });
     }
-    skip(table, e, i)
+    field_at(table, e, i)
 }
 
 // Field i of the record at entry e.
-fn skip(table: &[u64], e: usize, i: u64) -> Led
+fn field_at(table: &[u64], e: usize, i: u64) -> Led
     requires { ⌜ ((fs : Fields) × ListedSized (now table) e (record-of fs) × (i < fieldCount fs)) ⌝ }
     ensures { λ r. ⌜ r ≡ Led.To (record { entry = fieldAt (now (table .entry)) i (suc e); before = asBytes (fieldBytes (now (table .entry)) i (suc e)) }) ⌝ }
 {

@@ -8,12 +8,12 @@ use native.Mathlib.Omega.{arith}
 use borrow.Author.Tests.{lt-ltb, le-ltb, leb-false}
 use lib.ListN.{length, drop}
 use Rattle.counts.specs.Outcome.{gives, refused, unless, afterwards}
-use Rattle.counts.specs.Front.{atFront}
+use Rattle.counts.specs.Lists.{atFront}
 use Rattle.counts.specs.Number.{number}
 use Rattle.counts.specs.Counts.{items}
 use Rattle.counts.specs.declared.Items.{Items}
 use Rattle.counts.specs.declared.ItemCount.{ItemCount}
-use Rattle.counts.proofs.OneOutcome.{told}
+use Rattle.counts.proofs.OneOutcome.{matched}
 use Rattle.refusal.specs.declared.Refusal.{Refusal}
 use Rattle.refusal.specs.declared.ItemsAnswer.{ItemsAnswer}
 use Rattle.refusal.specs.Numbers.{numberOf}
@@ -48,12 +48,12 @@ module _ (o : Order) (s x out : List ℕ) (w : ItemsAnswer) (out′ : List ℕ) 
   pub number-22 : (why : Refusal) → w ≡ ItemsAnswer.Refused why → itemsAnswer w ≡ itemOf o s x
   unfolding itemOf
   number-22 why e =
-      let v = counted-refused o s (numberOf why) (told itemsAnswer counted e) in
+      let v = counted-refused o s (numberOf why) (matched itemsAnswer counted e) in
       ap itemsAnswer e ∙ ap refused (v .1) ∙ simp (le-ltb 32 (length s) l, v .0)
 
   module _ (n : Items) (e : w ≡ ItemsAnswer.Is n) where
     not-over : overShape o s ≡ false
-    not-over = counted-fits o s (n .0) (told itemsAnswer counted e) .0
+    not-over = counted-fits o s (n .0) (matched itemsAnswer counted e) .0
 
     pub number-26 : inRange s x ≡ false → refused 26 ≡ itemOf o s x
     unfolding itemOf

@@ -10,9 +10,8 @@ use Rattle.counts.specs.Outcome.{gives}
 use Rattle.dtype.specs.declared.Order.{Order}
 use Rattle.dtype.specs.Dtype.{Dtype, Fields, plain, array, record-of, end-of-fields, field-then}
 use Rattle.dtype.specs.Entries.{entriesOf}
-use Rattle.dtype.specs.Flat.{flat, flats}
+use Rattle.dtype.specs.Record.{flat, flats, Record, table, names}
 use Rattle.dtype.specs.EntryOf.{entryOf}
-use Rattle.dtype.specs.Record.{Record, table, names}
 use Rattle.dtype.specs.Limits.{limited}
 use Rattle.dtype.proofs.Record.{tableOf-all}
 use Rattle.record.specs.Layout.{levelsOf}

@@ -6,17 +6,15 @@ use mathlib.Core.List.{List, []}
 use lib.ListN.{length, take, drop}
 use lib.Seq.{take-append-seam}
 use Rattle.counts.specs.Outcome.{gives}
-use Rattle.dtype.specs.Flat.{entry-width}
+use Rattle.dtype.specs.Record.{entry-width, nameBytes, Record, table, names}
 use Rattle.dtype.specs.Entries.{entriesOf}
-use Rattle.dtype.specs.Names.{nameBytes}
-use Rattle.dtype.specs.Record.{Record, table, names}
 use Rattle.dtype.proofs.Flat.{flat-length, names-length}
-use Rattle.counts.specs.Front.{atFront}
+use Rattle.counts.specs.Lists.{atFront}
 use Rattle.record.specs.Rooms.{Lent, holding}
 use Rattle.header.specs.declared.RecordInfo.{RecordInfo}
 use Rattle.header.specs.Reads.{infoOf}
 use Rattle.check_record.specs.Checked.{checkedRecord}
-use Rattle.read_back.specs.Rooms.{tableIn, namesIn, shapeIn, Fronts}
+use Rattle.read_back.specs.Rooms.{tableStored, namesStored, shapeStored, Fronts}
 
 -- rooms that hold a record have its parts at their fronts
 pub table-whole : (r : Record) → entry-width * entriesOf (r .dtype) ≡ length (table (r .dtype))
@@ -46,7 +44,7 @@ holding-fronts r l =
 
 -- the fronts are accepted as the parts of the record are
 pub checked-fronts : (r : Record) (info : RecordInfo) (l : Lent) → Parts r info l → checkedRecord (table (r .dtype)) (names (r .dtype)) (r .shape) (r .order) ≡ gives r
-    → checkedRecord (tableIn info l) (namesIn info l) (shapeIn info l) (info .order) ≡ gives r
+    → checkedRecord (tableStored info l) (namesStored info l) (shapeStored info l) (info .order) ≡ gives r
 checked-fronts r info l p e = rw (p .table-is, p .names-are, p .shape-is, p .order-is) e
 
 -- rooms into which a record was stored

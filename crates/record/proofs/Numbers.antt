@@ -7,13 +7,11 @@ use mathlib.Core.Option.{Option, none, some}
 use lib.Dec.{leb, ltb, eqb}
 use lib.ListN.{length, getD, take, drop}
 use Rattle.counts.specs.Outcome.{Outcome, gives, refused, then, each, unless}
-use Rattle.counts.specs.Same.{same}
+use Rattle.counts.specs.Lists.{same}
 use Rattle.refusal.specs.Numbers.{last-number}
 use Rattle.utf8.specs.Decode.{unlessIll, firstIll, utf8}
 use Rattle.decimal.specs.Decimal.{digitsOf, afterDigits, decimal}
-use Rattle.type_letters.specs.Orders.{orders, orderByte, orderOf}
-use Rattle.type_letters.specs.Letters.{letters, letterByte, letterOf}
-use Rattle.type_letters.specs.Spelling.{firstOf}
+use Rattle.type_letters.specs.Letters.{orders, orderByte, orderOf, letters, letterByte, letterOf, firstOf}
 use Rattle.type_letters.specs.declared.Endianness.{Endianness}
 use Rattle.type_letters.specs.declared.TypeChar.{TypeChar}
 use Rattle.type_units.specs.Units.{units, unitText, unitsOf}
@@ -32,8 +30,7 @@ use Rattle.record.specs.Dict.{isThe, allStrings, lastOf, needed, key-ord
 use Rattle.record.specs.Dimensions.{signed, dimension, dimensions, subShape, ranked, shapeOf}
 use Rattle.record.specs.Descr.{arrays, twoOrThree, perhaps, descrOf, fieldsOf, fieldOf, namedOf, typedOf}
 use Rattle.record.specs.FromValue.{declaredOrder, recordFrom, recordOf}
-use Rattle.record.specs.Version.{Version, one-zero, two-zero, three-zero, versionOf, lengthWidth, textStart}
-use Rattle.record.specs.Prefix.{magic, most-text, Prefix, dataStart, lengthRead, prefix}
+use Rattle.record.specs.Prefix.{Version, one-zero, two-zero, three-zero, versionOf, lengthWidth, textStart, magic, most-text, Prefix, dataStart, lengthRead, prefix}
 use Rattle.record.specs.Rooms.{Rooms, needs, tooSmall}
 use Rattle.record.specs.Header.{Reading, valueRead, recordIn, stored}
 

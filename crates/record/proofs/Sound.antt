@@ -9,7 +9,7 @@ use Rattle.utf8.specs.Utf8.{WellFormed}
 use Rattle.type_str.specs.Text.{isType}
 use Rattle.dtype.specs.declared.Entry.{Entry}
 use Rattle.dtype.specs.Dtype.{Dtype, Fields, plain, array, record-of, end-of-fields, field-then}
-use Rattle.dtype.specs.EntryOf.{numbers}
+use Rattle.dtype.specs.EntryOf.{entryNumbers}
 use Rattle.dtype.specs.Record.{Record}
 use Rattle.record.specs.Layout.{levelsOf}
 use Rattle.record.specs.Sound.{Small}
@@ -37,5 +37,5 @@ small-after [] x h = h
 small-after (n ∷ ns) x h = small-after ns x (h .1)
 
 -- .. and what the check of a record needs of an entry in front
-pub small-entry : (e : Entry) (x : List ℕ) → Small (numbers e x) → (e .number < 2 ^ 64) × Small x
-small-entry e x h = (h .1 .1 .1 .1 .0, small-after (numbers e []) x h)
+pub small-entry : (e : Entry) (x : List ℕ) → Small (entryNumbers e x) → (e .number < 2 ^ 64) × Small x
+small-entry e x h = (h .1 .1 .1 .1 .0, small-after (entryNumbers e []) x h)

@@ -20,10 +20,10 @@ pub fn next(room: &mut [u8]) -> Frame
     if io::read_full(STDIN_FILENO, &mut head) < 4 {
         return Frame::End;
     }
-    let n = wide(head[0])
-        + 0x100 * wide(head[1])
-        + 0x10000 * wide(head[2])
-        + 0x1000000 * wide(head[3]);
+    let n = as_usize(head[0])
+        + 0x100 * as_usize(head[1])
+        + 0x10000 * as_usize(head[2])
+        + 0x1000000 * as_usize(head[3]);
     if n > room.len() {
         return Frame::End;
     }
@@ -33,7 +33,7 @@ pub fn next(room: &mut [u8]) -> Frame
     Frame::Case(n)
 }
 
-fn wide(byte: u8) -> usize
+fn as_usize(byte: u8) -> usize
     ensures { λ r. ⌜ r < 0x100 ⌝ }
 {
     byte as usize

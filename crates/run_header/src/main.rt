@@ -8,8 +8,21 @@ use type_letters::Endianness;
 ghost use Prim.Native.Nat.{_≤_, _<_, _+_};
 ghost use lib.ListN.{length};
 
+// The longest case: a file of the longest text and its prefix, and the numbers before it.
+const CASE: usize = 147456;
+
+// More dimensions than a record has, and more bytes than a listing has.
+const DIMENSIONS: usize = 64;
+
+const LISTING: usize = 262144;
+
+// The bytes of a case before its file, of which the last says whether the file is longer.
+const FRONT: usize = 13;
+
+const LONGER: usize = FRONT - 1;
+
 fn main() {
-    let mut room = [0u8; 147456];
+    let mut room = [0u8; CASE];
     run_cases(&mut room);
 }
 
@@ -33,21 +46,21 @@ fn run_case(room: &mut [u8]) -> bool {
 fn replay(case: &[u8]) {
     let mut table = [5u64; dtype::TABLE];
     let mut names = [5u8; dtype::MOST_NAMES];
-    let mut shape = [5u64; 64];
+    let mut shape = [5u64; DIMENSIONS];
     lend(case, &mut table, &mut names, &mut shape);
 }
 
 fn lend(case: &[u8], table: &mut [u64], names: &mut [u8], shape: &mut [u64]) {
-    if case.len() < 13 {
+    if case.len() < FRONT {
         say(b"short");
         return;
     }
     let entries = at_most(&case[0..4], table.len() / dtype::ENTRY);
     let bytes = at_most(&case[4..8], names.len());
-    let rank = at_most(&case[8..12], shape.len());
+    let rank = at_most(&case[8..LONGER], shape.len());
     read_case(
-        &case[13..],
-        case[12] != 0,
+        &case[FRONT..],
+        case[LONGER] != 0,
         &mut table[..dtype::ENTRY * entries],
         &mut names[..bytes],
         &mut shape[..rank],
@@ -101,7 +114,7 @@ fn list_record(said: &[u64; 6], table: &[u64], names: &[u8], shape: &[u64]) {
 }
 
 fn list(said: &[u64; 6], table: &[u64], names: &[u8], shape: &[u64]) {
-    let mut out = [0u8; 262144];
+    let mut out = [0u8; LISTING];
     let mut length = [0u64; 1];
     let r = npy::npy_list(
         said[0],

@@ -9,9 +9,26 @@ use type_letters::Endianness;
 ghost use Prim.Native.Nat.{_≤_, _<_};
 ghost use lib.ListN.{length};
 
+// The longest case: a file of the longest text and its prefix, and the numbers beside it.
+const CASE: usize = 147456;
+
+// The most numbers of a case's table, shape, index or path; a table may be longer than a reader lends.
+const TABLE_NUMBERS: usize = 8192;
+
+const DIMENSIONS: usize = 64;
+
+const STEPS: usize = 256;
+
+// The most numbers, points or bytes that a case lends to a function other than the writer, and the most bytes that it lends to that.
+const FEW: usize = 1024;
+
+const FEW_NUMBERS: u64 = FEW as u64;
+
+const MANY: usize = 131088;
+
 fn main() {
-    let mut room = [0u8; 147456];
-    let mut table = [0u64; 8192];
+    let mut room = [0u8; CASE];
+    let mut table = [0u64; TABLE_NUMBERS];
     run_cases(&mut room, &mut table);
 }
 
@@ -39,9 +56,9 @@ fn replay(case: &[u8], table: &mut [u64]) {
     }
     let parts = &case[1..];
     let mut given = [0u64; 7];
-    let mut shape = [0u64; 64];
-    let mut index = [0u64; 256];
-    let mut path = [0u64; 256];
+    let mut shape = [0u64; DIMENSIONS];
+    let mut index = [0u64; STEPS];
+    let mut path = [0u64; STEPS];
     store(part(parts, 1), &mut given);
     let rank = store(part(parts, 2), &mut shape);
     let places = store(part(parts, 3), &mut index);
@@ -168,10 +185,10 @@ fn ask(
 fn lend_record(op: u8, given: &[u64; 7], bytes: &[u8]) {
     let mut table = [5u64; TABLE];
     let mut names = [5u8; MOST_NAMES];
-    let mut shape = [5u64; 64];
+    let mut shape = [5u64; DIMENSIONS];
     let numbers = at_most(given[4], TABLE);
     let named = at_most(given[5], MOST_NAMES);
-    let rank = at_most(given[6], 64);
+    let rank = at_most(given[6], DIMENSIONS);
     read_record(
         op,
         given[0] != 0,
@@ -230,15 +247,15 @@ fn lend_room(
     index: &[u64],
     path: &[u64],
 ) {
-    if given[4] <= 1024 {
+    if given[4] <= FEW_NUMBERS {
         lend_small(op, given, bytes, table, names, shape, index, path);
         return;
     }
-    let mut numbers = [5u64; 1024];
-    let mut out = [5u8; 131088];
-    let mut points = [5u32; 1024];
-    let few = at_most(given[4], 1024);
-    let many = at_most(given[4], 131088);
+    let mut numbers = [5u64; FEW];
+    let mut out = [5u8; MANY];
+    let mut points = [5u32; FEW];
+    let few = at_most(given[4], FEW);
+    let many = at_most(given[4], MANY);
     ask_room(
         op,
         given,
@@ -265,10 +282,10 @@ fn lend_small(
     index: &[u64],
     path: &[u64],
 ) {
-    let mut numbers = [5u64; 1024];
-    let mut out = [5u8; 1024];
-    let mut points = [5u32; 1024];
-    let few = at_most(given[4], 1024);
+    let mut numbers = [5u64; FEW];
+    let mut out = [5u8; FEW];
+    let mut points = [5u32; FEW];
+    let few = at_most(given[4], FEW);
     ask_room(
         op,
         given,
@@ -361,8 +378,8 @@ fn write_points(
     out: &mut [u8],
     count: &mut [u64; 1],
 ) -> u8 {
-    let mut points = [0u32; 256];
-    let n = at_most(value.len() as u64, 256);
+    let mut points = [0u32; STEPS];
+    let n = at_most(value.len() as u64, STEPS);
     narrow(value, &mut points);
     npy::npy_write_points(a, b, c, d, &points[..n], out, count)
 }

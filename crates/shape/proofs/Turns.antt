@@ -23,7 +23,7 @@ use Rattle.refusal.specs.declared.Refusal.{Refusal}
 use Rattle.refusal.specs.declared.ItemsAnswer.{ItemsAnswer}
 use Rattle.refusal.specs.Numbers.{numberOf}
 use Rattle.refusal.specs.Answers.{itemsAnswer}
-use Rattle.counts.specs.Front.{atFront}
+use Rattle.counts.specs.Lists.{atFront}
 use Rattle.counts.proofs.Sides.{lt-or-ge}
 use Rattle.shape.specs.Count.{itemCount, stridesCount, WritesStrides}
 use Rattle.shape.specs.Visit.{visited}

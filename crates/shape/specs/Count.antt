@@ -5,7 +5,7 @@ use mathlib.Core.Path.{_≡_}
 use mathlib.Core.List.{List}
 use lib.Dec.{ltb}
 use lib.ListN.{length}
-use Rattle.counts.specs.Front.{atFront}
+use Rattle.counts.specs.Lists.{atFront}
 use Rattle.counts.specs.Outcome.{Outcome, gives, unless, afterwards}
 use Rattle.dtype.specs.declared.Order.{Order}
 use Rattle.dtype.specs.Shape.{product, strides}

@@ -11,7 +11,7 @@ ghost use Prim.Native.Nat.{_<_, _≤_};
 ghost use lib.ListN.{length};
 ghost use Rattle.dtype.specs.Shape.{strides};
 ghost use Rattle.dtype.specs.Limits.{overShape};
-ghost use Rattle.counts.specs.Front.{atFront};
+ghost use Rattle.counts.specs.Lists.{atFront};
 ghost use Rattle.refusal.specs.Answers.{itemsAnswer};
 ghost use Rattle.shape.specs.Count.{itemCount, WritesStrides};
 ghost use Rattle.shape.specs.Visit.{visited};

@@ -17,7 +17,7 @@ use Rattle.literal.specs.Forget.{forget, forgetAll}
 use Rattle.literal_bytes.specs.Text.{byteAt, kindOf}
 use Rattle.literal_bytes.specs.Gaps.{gapAt}
 use Rattle.literal.specs.Literal.{value}
-use Rattle.literal.specs.Rows.{Row}
+use Rattle.literal.specs.Rows.{RowOf}
 use Rattle.literal_bytes.specs.declared.ValueKind.{ValueKind}
 use Rattle.literal_bytes.specs.declared.ValueKind.the-variants.{Square, Round, Curly, Quote, Minus, Digit, TrueWord, FalseWord, NoneWord, Other}
 use Rattle.literal_bytes.proofs.Positions.{kind-in}
@@ -27,7 +27,7 @@ use Rattle.shape_verdict.specs.declared.ShapeVerdict.{ShapeVerdict}
 use Rattle.shape_verdict.specs.declared.ShapeVerdict.the-variants.{Good, Refused}
 use Rattle.shape_verdict.specs.declared.Member.{Member}
 use Rattle.shape_verdict.specs.Outline.{outlineOf, extendedTo, extendedBy, extends}
-use Rattle.shape_verdict.specs.Answer.{sized, outlined, rankOf}
+use Rattle.shape_verdict.specs.Answer.{memberAnswer, outlined, rankOf}
 use Rattle.shape_verdict.proofs.Outlines.{outline-whole}
 use Rattle.shape_text.specs.Members.{closingOf}
 use Rattle.shape_text.specs.Walk.{dimensionsOf, goesOn}
@@ -70,7 +70,7 @@ goes-none (Good o) e = refl
 goes-none (Refused why) e = refl
 
 -- a verdict counts one more at most
-pub rank-more : (v v′ : ShapeVerdict) (m : Member) → outlined v′ ≡ then (outlined v) (λ o. each (extendedBy o) (sized m)) → rankOf v′ ≤ rankOf v + 1
+pub rank-more : (v v′ : ShapeVerdict) (m : Member) → outlined v′ ≡ then (outlined v) (λ o. each (extendedBy o) (memberAnswer m)) → rankOf v′ ≤ rankOf v + 1
 unfolding extendedTo
 rank-more v (Refused why) m h = omega arith
 rank-more (Refused why) (Good o) m h = absurd (let z : _≡_ {A = ℕ} 0 1 = cc in omega arith)
@@ -83,7 +83,7 @@ pub record Bracket (k : ℕ) (s : List ℕ) (at : ℕ) (n : Node) (e close : ℕ
   pub inside : at < length s
   pub held : List Node
   pub holds : (j : ℕ) → membersOr j (forget n) ≡ gives (forgetAll (nodes held))
-  pub row : Row (value (k - 1) s) s close held (gapAt s (at + 1) close) e
+  pub row : RowOf (value (k - 1) s) s close held (gapAt s (at + 1) close) e
 
 module _ (k : ℕ) (s : List ℕ) (at e : ℕ) (n : Node) (h : value k s at ≡ got n e) where
   pub bracket : (c : ValueKind) → kindOf (byteAt s at) ≡ c → (closingOf c ≡ 0 → ⊥) → Bracket k s at n e (closingOf c)

@@ -17,7 +17,7 @@ use Rattle.literal_tokens.specs.Node.{Node}
 use Rattle.literal_bytes.specs.Got.{got, pos}
 use Rattle.literal.specs.Forget.{forget}
 use Rattle.literal_bytes.specs.Text.{byteAt, part, kindOf, past}
-use Rattle.literal_tokens.specs.Tokens.{naturalAt, numberBy, numeralAt}
+use Rattle.literal_tokens.specs.Tokens.{naturalAt, numberOfNumeral, numeralAt}
 use Rattle.literal.specs.Literal.{value}
 use Rattle.literal_tokens.specs.declared.Numeral.{Numeral}
 use Rattle.literal_bytes.specs.declared.Parsed.{Parsed}
@@ -107,10 +107,10 @@ module _ (s : List ℕ) (at : ℕ) where
     numeral-ends = ap (λ (x : Numeral). x .ended) hr
 
     pub numeral-number : (e : ℕ) → naturalAt s at ≡ Value e → r .number ≡ number (decimal (part s at e))
-    numeral-number e he = ap (λ (x : Numeral). x .number) hr ∙ ap (numberBy s at) he
+    numeral-number e he = ap (λ (x : Numeral). x .number) hr ∙ ap (numberOfNumeral s at) he
 
-    pub numeral-stands : (e : ℕ) → r .ended ≡ Value e → kindOf (byteAt s at) ≡ Digit
-    numeral-stands e he = digit-kind (byteAt s at) (subst Natural (sym numeral-ends ∙ he) natural-is)
+    pub numeral-there : (e : ℕ) → r .ended ≡ Value e → kindOf (byteAt s at) ≡ Digit
+    numeral-there e he = digit-kind (byteAt s at) (subst Natural (sym numeral-ends ∙ he) natural-is)
 
     pub no-numeral : OneOf (1 ∷ 2 ∷ []) (tagOf parsed.the-type (r .ended)) → isDigit (byteAt s at) ≡ false
     no-numeral o = go (r .ended) (stops (r .ended) o) (subst Natural (sym numeral-ends) natural-is)

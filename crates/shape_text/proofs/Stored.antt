@@ -18,7 +18,7 @@ use Rattle.literal_grammar.specs.Value.{Values}
 use Rattle.counts.proofs.Alike.{or-none}
 use Rattle.record.specs.Parts.{membersOr}
 use Rattle.record.specs.Dimensions.{dimension, dimensions}
-use Rattle.counts.specs.Front.{atFront}
+use Rattle.counts.specs.Lists.{atFront}
 use Rattle.literal_tokens.specs.Node.{Node}
 use Rattle.literal_bytes.specs.Got.{Got, got, fault, deep, pos}
 use Rattle.literal.specs.Answer.{endOf}
@@ -26,7 +26,7 @@ use Rattle.literal.specs.Forget.{forget, forgetAll}
 use Rattle.literal_bytes.specs.Text.{byteAt, kindOf}
 use Rattle.literal.specs.Literal.{value}
 use Rattle.literal_bytes.specs.Gaps.{gapAt, thenAt}
-use Rattle.literal.specs.Rows.{Row}
+use Rattle.literal.specs.Rows.{RowOf}
 use Rattle.literal_bytes.specs.declared.ValueKind.{ValueKind}
 use Rattle.literal_bytes.specs.declared.ValueKind.the-variants.{Square, Round, Curly, Quote, Minus, Digit, TrueWord, FalseWord, NoneWord, Other}
 use Rattle.literal_bytes.specs.declared.Parsed.{Parsed}
@@ -43,7 +43,7 @@ use Rattle.literal.proofs.Steps.{thing, gapLeft, gap-enough, gap-falls, read-ah
 use Rattle.refusal.specs.declared.Refusal.{Refusal}
 use Rattle.refusal.specs.Numbers.{numberOf}
 use Rattle.shape_verdict.specs.declared.Member.{Member}
-use Rattle.shape_verdict.specs.Answer.{sized}
+use Rattle.shape_verdict.specs.Answer.{memberAnswer}
 use Rattle.shape_text.specs.Members.{closingOf, SizeAt}
 use Rattle.shape_text.specs.Answer.{dimensionsAt}
 use Rattle.shape_text.specs.Walk.{dimensionsOf}
@@ -140,14 +140,14 @@ module _ (k : ℕ) (s : List ℕ) (close from : ℕ) (old out : List ℕ) (g : G
       there : (n : Node) × (value k s p ≡ got n q)
       there = thing (value k s p) q (sym hq ∙ hv)
 
-      size : sized d ≡ dimension (forget (there .0))
+      size : memberAnswer d ≡ dimension (forget (there .0))
       size = hd k (there .0) q (there .1)
 
       refused-here : (j : ℕ) → dimension (forget (there .0)) ≡ refused j → (frontFrom (value k s) s close (w .bound) (Item p) ≡ []) × (stopFrom (value k s) s close (w .bound) (Item p) ≡ Item p)
       refused-here j e = (front-none k s close (w .bound) p q j (there .0) (there .1) e, stop-none k s close (w .bound) p q j (there .0) (there .1) e)
 
       pub filling-none : (why : Refusal) → d ≡ Member.Refused why → Stored (frontIn k s from close) (stopIn k s from close) old (record { rank = i; stop = Item p }) out
-      filling-none why h = at-item p hp (refused-here (numberOf why) (sym size ∙ ap sized h))
+      filling-none why h = at-item p hp (refused-here (numberOf why) (sym size ∙ ap memberAnswer h))
 
       pub filling-count : (i ≤ p) × (p < q) × (q ≤ length s)
       filling-count =
@@ -164,9 +164,9 @@ module _ (k : ℕ) (s : List ℕ) (close from : ℕ) (old out : List ℕ) (g : G
         more-by (suc b) lt hl hs hz =
             let a = filling-count in
             let e : frontFrom (value k s) s close (suc b) g ≡ n ∷ frontFrom (value k s) s close b g′ =
-            ap (frontFrom (value k s) s close (suc b)) hp ∙ front-more k s close b p q n (there .0) (there .1) (sym size ∙ ap sized hn) ∙ ap (λ (x : Gap). n ∷ frontFrom (value k s) s close b x) (sym hg) in
+            ap (frontFrom (value k s) s close (suc b)) hp ∙ front-more k s close b p q n (there .0) (there .1) (sym size ∙ ap memberAnswer hn) ∙ ap (λ (x : Gap). n ∷ frontFrom (value k s) s close b x) (sym hg) in
             let z : stopFrom (value k s) s close (suc b) g ≡ stopFrom (value k s) s close b g′ =
-            ap (stopFrom (value k s) s close (suc b)) hp ∙ stop-more k s close b p q n (there .0) (there .1) (sym size ∙ ap sized hn) ∙ ap (stopFrom (value k s) s close b) (sym hg) in
+            ap (stopFrom (value k s) s close (suc b)) hp ∙ stop-more k s close b p q n (there .0) (there .1) (sym size ∙ ap memberAnswer hn) ∙ ap (stopFrom (value k s) s close b) (sym hg) in
             let falls = gap-falls p q (length s) g′ (a .1) (a .2) after in
             record {
               bound = b;
@@ -244,7 +244,7 @@ parts (gives n) (refused m) ms h = absurd (let z : _≡_ {A = ℕ} 0 1 = cc in o
 parts (refused m) ds ms h = absurd (let z : _≡_ {A = ℕ} 0 1 = cc in omega arith)
 
 module _ (k : ℕ) (s : List ℕ) (close : ℕ) (small : close < 256) where
-  front-row : (m : ℕ) (g : Gap) (vs : List Node) (e : ℕ) (ns : List ℕ) → gapLeft (length s) g < m → Row (value k s) s close vs g e → dimensionsOf vs ≡ gives ns → frontFrom (value k s) s close m g ≡ ns
+  front-row : (m : ℕ) (g : Gap) (vs : List Node) (e : ℕ) (ns : List ℕ) → gapLeft (length s) g < m → RowOf (value k s) s close vs g e → dimensionsOf vs ≡ gives ns → frontFrom (value k s) s close m g ≡ ns
   unfolding frontFrom forget forgetAll
   front-row zero g vs e ns lt h d = absurd (not-suc-le-zero lt)
   front-row (suc m) (Shut p) [] e ns lt h d = let z : [] ≡ ns = cc in z
@@ -260,7 +260,7 @@ module _ (k : ℕ) (s : List ℕ) (close : ℕ) (small : close < 256) where
       let ih = front-row m (thenAt s q close) vs e (x .1) (omega arith) (h .2) (x .3) in
       front-more k s close m p q (x .0) v (h .1) (x .2) ∙ ap (λ (l : List ℕ). x .0 ∷ l) ih ∙ sym (x .4)
 
-  stop-row : (m : ℕ) (g : Gap) (vs : List Node) (e : ℕ) (ns : List ℕ) → gapLeft (length s) g < m → Row (value k s) s close vs g e → dimensionsOf vs ≡ gives ns → stopFrom (value k s) s close m g ≡ Shut e
+  stop-row : (m : ℕ) (g : Gap) (vs : List Node) (e : ℕ) (ns : List ℕ) → gapLeft (length s) g < m → RowOf (value k s) s close vs g e → dimensionsOf vs ≡ gives ns → stopFrom (value k s) s close m g ≡ Shut e
   unfolding stopFrom forget forgetAll
   stop-row zero g vs e ns lt h d = absurd (not-suc-le-zero lt)
   stop-row (suc m) (Shut p) [] e ns lt h d = ap Shut h

@@ -40,12 +40,12 @@ use Rattle.shape_verdict.specs.declared.ShapeVerdict.{ShapeVerdict}
 use Rattle.refusal.specs.declared.Refusal.{Refusal}
 use Rattle.shape_verdict.specs.declared.Member.{Member}
 use Rattle.shape_verdict.specs.Outline.{outlineOf, extendedBy, extendedCapped}
-use Rattle.shape_verdict.specs.Answer.{sized, outlined, rankOf}
+use Rattle.shape_verdict.specs.Answer.{memberAnswer, outlined, rankOf}
 use Rattle.shape_verdict.proofs.Outlines.{joined-below}
 use Rattle.shape_text.specs.declared.ShapeJudged.{ShapeJudged}
 use Rattle.shape_text.specs.Answer.{dimensionsAt, JudgesShape}
 use Rattle.shape_text.specs.Members.{closingOf, SizeAt}
-use Rattle.shape_text.specs.Walk.{dimensionsOf, goesOn, Walks, judgedShut}
+use Rattle.shape_text.specs.Walk.{dimensionsOf, goesOn, WalksMembers, judgedShut}
 use Rattle.shape_text.proofs.Goes.{Counted, counted-at, counted-more}
 use Rattle.shape_text.proofs.Held.{nothing-rank, goes-whole, goes-one, goes-none, rank-more, no-bracket}
 
@@ -55,7 +55,7 @@ refused-goes v (got ns e) st = absurd st
 refused-goes v (fault p) st = refl
 refused-goes v (deep p) st = refl
 
-walks-stop : (v : Outcome Outline) (g : Got (List Node)) (x : Parsed) → x ≡ pos g → Stops x → Walks v g (record { ended = x; verdict = ShapeVerdict.Refused Refusal.NotShape })
+walks-stop : (v : Outcome Outline) (g : Got (List Node)) (x : Parsed) → x ≡ pos g → Stops x → WalksMembers v g (record { ended = x; verdict = ShapeVerdict.Refused Refusal.NotShape })
 walks-stop v g x h st = record { ends = h; says = refused-goes v g (subst (λ (y : Parsed). Stops y) h st) }
 
 -- ---- the loop
@@ -87,27 +87,27 @@ module _ (k : ℕ) (s : List ℕ) (close from : ℕ) (met : ShapeVerdict) where
         counted = counted-first (rankOf met) (gapAt s from close) le (gap-ahead s from close small);
       })
 
-  end-by : (m : ℕ) (g : Gap) (v : ShapeVerdict) → gapLeft (length s) g < m → OneOf (0 ∷ 2 ∷ []) (tagOf gap.the-type g) → Walks (outlined v) (items (value k s) s close m g) (judgedShut g v)
+  end-by : (m : ℕ) (g : Gap) (v : ShapeVerdict) → gapLeft (length s) g < m → OneOf (0 ∷ 2 ∷ []) (tagOf gap.the-type g) → WalksMembers (outlined v) (items (value k s) s close m g) (judgedShut g v)
   unfolding items
   end-by zero g v lt o = absurd (not-suc-le-zero lt)
   end-by (suc m) (Shut e) v lt o = record { ends = refl; says = goes-none v e }
   end-by (suc m) (Stray p) v lt o = record { ends = refl; says = refl }
   end-by (suc m) (Item p) v lt o = absurd (miss (0 ∷ 2 ∷ []) 1 tt o)
 
-  pub walking-end : (g : Gap) (v : ShapeVerdict) (r : ShapeJudged) → Walking g v → r ≡ judgedShut g v → OneOf (0 ∷ 2 ∷ []) (tagOf gap.the-type g) → Walks (outlined met) whole r
+  pub walking-end : (g : Gap) (v : ShapeVerdict) (r : ShapeJudged) → Walking g v → r ≡ judgedShut g v → OneOf (0 ∷ 2 ∷ []) (tagOf gap.the-type g) → WalksMembers (outlined met) whole r
   walking-end g v r w hr o =
       let e = end-by (w .bound) g v (w .enough) o in
-      subst (λ (x : ShapeJudged). Walks (outlined met) whole x) (sym hr) (record { ends = e .ends ∙ sym (w .ends); says = e .says ∙ sym (w .says) })
+      subst (λ (x : ShapeJudged). WalksMembers (outlined met) whole x) (sym hr) (record { ends = e .ends ∙ sym (w .ends); says = e .says ∙ sym (w .says) })
 
   pub walking-stop : (g : Gap) (v : ShapeVerdict) (p : ℕ) (r : Parsed) → Walking g v → g ≡ Item p → r ≡ pos (value k s p) → OneOf (1 ∷ 2 ∷ []) (tagOf the-type r)
-      → Walks (outlined met) whole (record { ended = r; verdict = ShapeVerdict.Refused Refusal.NotShape })
+      → WalksMembers (outlined met) whole (record { ended = r; verdict = ShapeVerdict.Refused Refusal.NotShape })
   walking-stop g v p r w hp hr o =
       let w′ = subst (λ (x : Gap). Walking x v) hp w in
       let st = subst (λ (x : Parsed). Stops x) hr (stops r o) in
       walks-stop (outlined met) whole r (hr ∙ sym (w′ .ends ∙ stop-by (value k s) s close (w′ .bound) p (value k s p) (w′ .enough) refl st)) (stops r o)
 
   module _ (small : close < 256) (g g′ : Gap) (v v′ : ShapeVerdict) (p q : ℕ) (r : Parsed) (d : Member) (hp : g ≡ Item p) (hq : r ≡ Value q) (hr : r ≡ pos (value k s p)) (hd : SizeAt s p d)
-      (hv : outlined v′ ≡ then (outlined v) (λ o. each (extendedCapped o) (sized d))) (hg : g′ ≡ thenAt s q close) (fits : length s < 2 ^ 64) where
+      (hv : outlined v′ ≡ then (outlined v) (λ o. each (extendedCapped o) (memberAnswer d))) (hg : g′ ≡ thenAt s q close) (fits : length s < 2 ^ 64) where
     ahead : (p < q) × (q ≤ length s)
     ahead = read-ahead p (length s) q r (pos (value k s p)) hr hq (value-ahead k s p)
 
@@ -118,7 +118,7 @@ module _ (k : ℕ) (s : List ℕ) (close from : ℕ) (met : ShapeVerdict) where
     more-by (suc m) n hn lt he hs le =
         let after = then-ahead s q close small in
         let falls = gap-falls p q (length s) (thenAt s q close) (ahead .0) (ahead .1) after in
-        let joins = hv ∙ joined-below v (sized d) (omega (arith, ahead)) in
+        let joins = hv ∙ joined-below v (memberAnswer d) (omega (arith, ahead)) in
         record {
           bound = m;
           enough = omega arith;
@@ -135,23 +135,23 @@ module _ (k : ℕ) (s : List ℕ) (close from : ℕ) (met : ShapeVerdict) where
 
 -- ---- a tuple
 module _ (k : ℕ) (s : List ℕ) (at : ℕ) where
-  shut-by : (g : Gap) (v : ShapeVerdict) → gapAt s at 41 ≡ g → OneOf (0 ∷ 2 ∷ []) (tagOf gap.the-type g) → Walks (outlined v) (tupleBy (value k s) s at) (judgedShut g v)
+  shut-by : (g : Gap) (v : ShapeVerdict) → gapAt s at 41 ≡ g → OneOf (0 ∷ 2 ∷ []) (tagOf gap.the-type g) → WalksMembers (outlined v) (tupleBy (value k s) s at) (judgedShut g v)
   unfolding tupleBy
   shut-by (Shut e) v hg o = rw (tupleBy, hg) (record { ends = refl; says = goes-none v e })
   shut-by (Stray p) v hg o = rw (tupleBy, hg) (record { ends = refl; says = refl })
   shut-by (Item p) v hg o = absurd (miss (0 ∷ 2 ∷ []) 1 tt o)
 
   pub round-end : (g : Gap) (v : ShapeVerdict) (o : Outline) (r : ShapeJudged) → g ≡ gapAt s at 41 → OneOf (0 ∷ 2 ∷ []) (tagOf gap.the-type g) → v ≡ ShapeVerdict.Good o → r ≡ judgedShut g v
-      → Walks (gives o) (tupleBy (value k s) s at) r
+      → WalksMembers (gives o) (tupleBy (value k s) s at) r
   round-end g v o r hg t hv hr =
-      subst (λ (x : ShapeJudged). Walks (gives o) (tupleBy (value k s) s at) x) (sym (hr ∙ ap (judgedShut g) hv)) (shut-by g (ShapeVerdict.Good o) (sym hg) t)
+      subst (λ (x : ShapeJudged). WalksMembers (gives o) (tupleBy (value k s) s at) x) (sym (hr ∙ ap (judgedShut g) hv)) (shut-by g (ShapeVerdict.Good o) (sym hg) t)
 
   module _ (v : Outcome Outline) (p : ℕ) (x : Parsed) (hg : gapAt s at 41 ≡ Item p) (hx : x ≡ pos (value k s p)) where
-    pub round-stop : OneOf (1 ∷ 2 ∷ []) (tagOf the-type x) → Walks v (tupleBy (value k s) s at) (record { ended = x; verdict = ShapeVerdict.Refused Refusal.NotShape })
+    pub round-stop : OneOf (1 ∷ 2 ∷ []) (tagOf the-type x) → WalksMembers v (tupleBy (value k s) s at) (record { ended = x; verdict = ShapeVerdict.Refused Refusal.NotShape })
     round-stop o = walks-stop v (tupleBy (value k s) s at) x (tuple-stop (value k s) s at p x hg hx (stops x o)) (stops x o)
 
     module _ (q : ℕ) (hq : x ≡ Value q) (c : Parsed) (hc : c ≡ needAt s q 44) where
-      pub round-comma : OneOf (1 ∷ 2 ∷ []) (tagOf the-type c) → Walks v (tupleBy (value k s) s at) (record { ended = c; verdict = ShapeVerdict.Refused Refusal.NotShape })
+      pub round-comma : OneOf (1 ∷ 2 ∷ []) (tagOf the-type c) → WalksMembers v (tupleBy (value k s) s at) (record { ended = c; verdict = ShapeVerdict.Refused Refusal.NotShape })
       round-comma o = walks-stop v (tupleBy (value k s) s at) c (tuple-comma (value k s) s at p q c hg (sym hq ∙ hx) hc (stops c o)) (stops c o)
 
       first-by : (n : Node) (e : ℕ) → value k s p ≡ got n q → needAt s q 44 ≡ Value e → tupleBy (value k s) s at ≡ with (λ e. _∷_ n) (listBy (value k s) s e 41)
@@ -159,8 +159,8 @@ module _ (k : ℕ) (s : List ℕ) (at : ℕ) where
       first-by n e hn he = rw (tupleBy, hg, hn, he)
 
       -- the first member is met, and the others are walked over after it
-      pub round-more : (e : ℕ) (d : Member) (u : ShapeVerdict) (r : ShapeJudged) → c ≡ Value e → SizeAt s p d → outlined u ≡ then v (λ o. each (extendedBy o) (sized d))
-          → Walks (outlined u) (listBy (value k s) s e 41) r → Walks v (tupleBy (value k s) s at) r
+      pub round-more : (e : ℕ) (d : Member) (u : ShapeVerdict) (r : ShapeJudged) → c ≡ Value e → SizeAt s p d → outlined u ≡ then v (λ o. each (extendedBy o) (memberAnswer d))
+          → WalksMembers (outlined u) (listBy (value k s) s e 41) r → WalksMembers v (tupleBy (value k s) s at) r
       round-more e d u r he hd hu w =
           let t = thing (value k s p) q (sym hq ∙ hx) in
           let b = first-by (t .0) e (t .1) (sym hc ∙ he) in
@@ -170,12 +170,12 @@ module _ (k : ℕ) (s : List ℕ) (at : ℕ) where
           }
 
 -- the verdict on a first member
-pub first-joined : (v u : ShapeVerdict) (d : Member) → v ≡ ShapeVerdict.Good (outlineOf []) → outlined u ≡ then (outlined v) (λ o. each (extendedCapped o) (sized d))
-    → (outlined u ≡ then (gives (outlineOf [])) (λ o. each (extendedBy o) (sized d))) × (rankOf u ≤ 1)
+pub first-joined : (v u : ShapeVerdict) (d : Member) → v ≡ ShapeVerdict.Good (outlineOf []) → outlined u ≡ then (outlined v) (λ o. each (extendedCapped o) (memberAnswer d))
+    → (outlined u ≡ then (gives (outlineOf [])) (λ o. each (extendedBy o) (memberAnswer d))) × (rankOf u ≤ 1)
 first-joined v u d hv hu =
     let z = nothing-rank v hv in
-    let joins = hu ∙ joined-below v (sized d) (omega arith) in
-    (joins ∙ ap (λ (x : ShapeVerdict). then (outlined x) (λ o. each (extendedBy o) (sized d))) hv, omega (arith, rank-more v u d joins))
+    let joins = hu ∙ joined-below v (memberAnswer d) (omega arith) in
+    (joins ∙ ap (λ (x : ShapeVerdict). then (outlined x) (λ o. each (extendedBy o) (memberAnswer d))) hv, omega (arith, rank-more v u d joins))
 
 -- ---- the value around them
 module _ (f : ℕ → List Node → Node) (same : (e : ℕ) (ns : List Node) → dimensionsAt (got (f e ns) e) ≡ dimensionsOf ns) where
@@ -185,7 +185,7 @@ module _ (f : ℕ → List Node → Node) (same : (e : ℕ) (ns : List Node) →
   around (fault p) = refl
   around (deep p) = refl
 
-  judged-around : (g : Got Node) (h : Got (List Node)) (r : ShapeJudged) → g ≡ with f h → Walks (gives (outlineOf [])) h r → JudgesShape g r
+  judged-around : (g : Got Node) (h : Got (List Node)) (r : ShapeJudged) → g ≡ with f h → WalksMembers (gives (outlineOf [])) h r → JudgesShape g r
   judged-around g h r e w =
       record {
         ends = w .ends ∙ sym (ap pos e ∙ pos-with f h);
@@ -237,12 +237,12 @@ module _ (s : List ℕ) (at : ℕ) where
     above : suc (k - 1) ≡ k
     above = omega arith
 
-    pub judged-square : byteAt s at ≡ 91 → (v : ShapeVerdict) → v ≡ ShapeVerdict.Good (outlineOf []) → (r : ShapeJudged) → Walks (outlined v) (listBy (value (k - 1) s) s (at + 1) 93) r → JudgesShape (value k s at) r
+    pub judged-square : byteAt s at ≡ 91 → (v : ShapeVerdict) → v ≡ ShapeVerdict.Good (outlineOf []) → (r : ShapeJudged) → WalksMembers (outlined v) (listBy (value (k - 1) s) s (at + 1) 93) r → JudgesShape (value k s at) r
     judged-square h v hv r w =
         judged-around (λ e ns. list (span at e) (nodes ns)) (list-same at) (value k s at) (listBy (value (k - 1) s) s (at + 1) 93) r (ap (λ (j : ℕ). value j s at) (sym above) ∙ square-by (k - 1) h)
-        (subst (λ (x : Outcome Outline). Walks x (listBy (value (k - 1) s) s (at + 1) 93) r) (ap outlined hv) w)
+        (subst (λ (x : Outcome Outline). WalksMembers x (listBy (value (k - 1) s) s (at + 1) 93) r) (ap outlined hv) w)
 
-    pub judged-round : (byteAt s at ≡ 91 → ⊥) → byteAt s at ≡ 40 → (r : ShapeJudged) → Walks (gives (outlineOf [])) (tupleBy (value (k - 1) s) s (at + 1)) r → JudgesShape (value k s at) r
+    pub judged-round : (byteAt s at ≡ 91 → ⊥) → byteAt s at ≡ 40 → (r : ShapeJudged) → WalksMembers (gives (outlineOf [])) (tupleBy (value (k - 1) s) s (at + 1)) r → JudgesShape (value k s at) r
     judged-round no-square h r w = judged-around (λ e ns. tuple (span at e) (nodes ns)) (tuple-same at) (value k s at) (tupleBy (value (k - 1) s) s (at + 1)) r (ap (λ (j : ℕ). value j s at) (sym above) ∙ round-by (k - 1) no-square h) w
 
 -- a value that is no list and no tuple

@@ -17,7 +17,7 @@ use Rattle.literal_bytes.specs.declared.ValueKind.{ValueKind}
 use Rattle.literal_bytes.specs.declared.ValueKind.the-variants.{Square, Round, Curly, Quote, Minus, Digit, TrueWord, FalseWord, NoneWord, Other}
 use Rattle.shape_verdict.specs.declared.Member.{Member}
 use Rattle.refusal.specs.declared.Refusal.{Refusal}
-use Rattle.shape_verdict.specs.Answer.{sized}
+use Rattle.shape_verdict.specs.Answer.{memberAnswer}
 use Rattle.shape_verdict.specs.Signs.{positiveOf, negativeOf}
 
 -- the closing bracket of a list (93 is `]`) or a tuple (41 is `)`), by the kind of its first byte, or 0
@@ -35,7 +35,7 @@ closingOf Other = 0
 
 -- what the dimension of the value at a position has to be, whichever value is there
 abbrev pub SizeAt : List ℕ → ℕ → Member → Type 0
-SizeAt s at r = (k : ℕ) (n : Node) (e : ℕ) → value k s at ≡ got n e → sized r ≡ dimension (forget n)
+SizeAt s at r = (k : ℕ) (n : Node) (e : ℕ) → value k s at ≡ got n e → memberAnswer r ≡ dimension (forget n)
 
 -- the dimension that the digits at a position are, or those after a `-` (45); any other byte begins none
 abbrev pub memberAt : List ℕ → ℕ → Member

@@ -28,7 +28,7 @@ goesOn v (fault p) = refused 11
 goesOn v (deep p) = refused 11
 
 -- the statement of a walk over members, after those of which v is the outline
-pub record Walks (v : Outcome Outline) (g : Got (List Node)) (r : ShapeJudged) : Type 0 where
+pub record WalksMembers (v : Outcome Outline) (g : Got (List Node)) (r : ShapeJudged) : Type 0 where
   pub ends : r .ended ≡ pos g
   pub says : outlined (r .verdict) ≡ goesOn v g
 

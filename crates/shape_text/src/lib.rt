@@ -36,7 +36,7 @@ ghost use Rattle.literal.specs.Brackets.{listBy, tupleBy};
 ghost use Rattle.shape_verdict.specs.Answer.{outlined, rankOf};
 ghost use Rattle.shape_verdict.specs.Outline.{outlineOf};
 ghost use Rattle.shape_text.specs.Answer.{JudgesShape};
-ghost use Rattle.shape_text.specs.Walk.{judgedShut, Walks};
+ghost use Rattle.shape_text.specs.Walk.{judgedShut, WalksMembers};
 ghost use lib.ListN.{set};
 ghost use Rattle.shape_text.specs.Fill.{frontIn, frontAt, stopIn, stopAt, Stored};
 
@@ -135,7 +135,7 @@ pub fn judge(text: &[u8], at: usize, room: usize) -> ShapeJudged
 
 // The members of a tuple: none, or one with its comma and then as in a list.
 fn tuple(text: &[u8], from: usize, room: usize) -> ShapeJudged
-    ensures { λ r. ⌜ Walks (gives (outlineOf [])) (tupleBy (valueOf room (now (text .entry))) (now (text .entry)) from) r ⌝ }
+    ensures { λ r. ⌜ WalksMembers (gives (outlineOf [])) (tupleBy (valueOf room (now (text .entry))) (now (text .entry)) from) r ⌝ }
 {
     let g = gap_at(text, from, b')');
     let Gap::Item(p) = g else {
@@ -163,7 +163,7 @@ fn tuple(text: &[u8], from: usize, room: usize) -> ShapeJudged
 // The members from `from` up to the closing bracket, after those that `met` is the verdict on. The walk goes on after a bad one: a fault may follow.
 fn members(text: &[u8], from: usize, close: u8, room: usize, met: ShapeVerdict) -> ShapeJudged
     requires { ⌜ rankOf met ≤ from ⌝ }
-    ensures { λ r. ⌜ Walks (outlined met) (listBy (valueOf room (now (text .entry))) (now (text .entry)) from close) r ⌝ }
+    ensures { λ r. ⌜ WalksMembers (outlined met) (listBy (valueOf room (now (text .entry))) (now (text .entry)) from close) r ⌝ }
 {
     let mut g = gap_at(text, from, close);
     let mut verdict = met;

@@ -20,7 +20,7 @@ use Rattle.dtype.specs.Entries.{someEntry, levels, hasObject}
 use Rattle.dtype.specs.Shape.{product}
 use Rattle.dtype.specs.Limits.{over, someOver, overLevels}
 use Rattle.record.specs.Descr.{arrays}
-use Rattle.shape_verdict.specs.Outline.{hasZero, afterZero, outlineOf, sizedBy, largestIn}
+use Rattle.shape_verdict.specs.Outline.{hasZero, afterZero, outlineOf, bytesOfItems, largestIn}
 use Rattle.shape_verdict.proofs.Outlines.{bytes-sized}
 
 -- ---- products
@@ -110,7 +110,7 @@ pub largest-is : (ns : List ℕ) (s : ℕ) → largestIn (outlineOf ns) s ≡ by
 unfolding largestIn outlineOf
 largest-is ns s = go (eqb s 0) refl
   where
-    go : (t : Bool) → eqb s 0 ≡ t → cond t (ByteCount.Is (record { 0 = 0 })) (sizedBy (items (number (afterZero ns))) s) ≡ bytes (number (afterZero ns * s))
+    go : (t : Bool) → eqb s 0 ≡ t → cond t (ByteCount.Is (record { 0 = 0 })) (bytesOfItems (items (number (afterZero ns))) s) ≡ bytes (number (afterZero ns * s))
     go true h =
         let z : afterZero ns * s ≡ 0 = ap (λ (x : ℕ). afterZero ns * x) (eqb-true s 0 h) ∙ omega arith in
         sym (ap (λ (x : ℕ). bytes (number x)) z ∙ ap bytes (number-is 0 (omega arith)))

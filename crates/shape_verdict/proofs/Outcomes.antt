@@ -17,7 +17,7 @@ use Rattle.shape_verdict.specs.declared.ShapeVerdict.{ShapeVerdict}
 use Rattle.shape_verdict.specs.declared.ShapeVerdict.the-variants.{Good, Refused}
 use Rattle.shape_verdict.specs.declared.Member.{Member}
 use Rattle.shape_verdict.specs.Outline.{largestIn, overIn}
-use Rattle.shape_verdict.specs.Answer.{sized, outlined}
+use Rattle.shape_verdict.specs.Answer.{memberAnswer, outlined}
 use Rattle.shape_verdict.specs.Signs.{positiveOf, negativeOf}
 
 same : (v : ShapeVerdict) → answerFor Good Refused (outlined v) ≡ v
@@ -34,8 +34,8 @@ over-one o shape = by-equation (overIn o shape)
 pub largest-one : (levels : Outline) (size : ℕ) → OneOutcome {A = ByteCount} (λ r. r ≡ largestIn levels size)
 largest-one levels size = by-equation (largestIn levels size)
 
-pub positive-one : (n : Number) → OneOutcome {A = Member} (λ r. ((m : ℕ) → n ≡ number m → sized r ≡ signed false m) × (r ≡ positiveOf n))
+pub positive-one : (n : Number) → OneOutcome {A = Member} (λ r. ((m : ℕ) → n ≡ number m → memberAnswer r ≡ signed false m) × (r ≡ positiveOf n))
 positive-one n x y a b = a .1 ∙ sym (b .1)
 
-pub negative-one : (n : Number) → OneOutcome {A = Member} (λ r. ((m : ℕ) → n ≡ number m → sized r ≡ signed true m) × (r ≡ negativeOf n))
+pub negative-one : (n : Number) → OneOutcome {A = Member} (λ r. ((m : ℕ) → n ≡ number m → memberAnswer r ≡ signed true m) × (r ≡ negativeOf n))
 negative-one n x y a b = a .1 ∙ sym (b .1)

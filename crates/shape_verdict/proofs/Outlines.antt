@@ -20,8 +20,8 @@ use Rattle.shape_verdict.specs.declared.Outline.{Outline}
 use Rattle.shape_verdict.specs.declared.ShapeVerdict.{ShapeVerdict}
 use Rattle.shape_verdict.specs.declared.ShapeVerdict.the-variants.{Good, Refused}
 use Rattle.shape_verdict.specs.declared.Member.{Member}
-use Rattle.shape_verdict.specs.Answer.{sized, outlined, rankOf}
-use Rattle.shape_verdict.specs.Outline.{hasZero, beforeZero, afterZero, outlineOf, scaledBy, sizedBy, extendedTo, extendedBy, extends, extendedCapped}
+use Rattle.shape_verdict.specs.Answer.{memberAnswer, outlined, rankOf}
+use Rattle.shape_verdict.specs.Outline.{hasZero, beforeZero, afterZero, outlineOf, scaledBy, bytesOfItems, extendedTo, extendedBy, extends, extendedCapped}
 
 -- a product that fits or is over, where the new factor is not 0
 large : (a : ℕ) → 2 ^ 64 ≤ a → (m : ℕ) → (m ≡ 0 → ⊥) → 2 ^ 64 ≤ a * m
@@ -37,8 +37,8 @@ items-scaled a n h =
     (λ (l : 2 ^ 64 ≤ a). rw (number-over a l) (ap items (number-over (a * n) (large a l n (eqb-false n 0 h)))))
     (lt-or-ge a (2 ^ 64))
 
-pub bytes-sized : (a s : ℕ) → eqb s 0 ≡ false → bytes (number (a * s)) ≡ sizedBy (items (number a)) s
-unfolding sizedBy
+pub bytes-sized : (a s : ℕ) → eqb s 0 ≡ false → bytes (number (a * s)) ≡ bytesOfItems (items (number a)) s
+unfolding bytesOfItems
 bytes-sized a s h =
     ⊎-elim
     (λ (l : a < 2 ^ 64). rw (number-is a l))
@@ -121,7 +121,7 @@ outline-whole ns = sym (extends-from [] ns)
 
 -- a good verdict and a dimension
 pub joined-good : (v : ShapeVerdict) (m : Member) (o r : Outline) (n : ℕ) → v ≡ Good o → m ≡ Member.Is n → r ≡ extendedCapped o n
-    → gives r ≡ then (outlined v) (λ o. each (extendedCapped o) (sized m))
+    → gives r ≡ then (outlined v) (λ o. each (extendedCapped o) (memberAnswer m))
 joined-good v m o r n hv hm hr = rw (hv, hm) (ap gives hr)
 
 -- below 2^64-1 the rank that is held is the rank

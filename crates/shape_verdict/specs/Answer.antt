@@ -8,9 +8,9 @@ use Rattle.shape_verdict.specs.declared.ShapeVerdict.{ShapeVerdict}
 use Rattle.shape_verdict.specs.declared.Member.{Member}
 
 -- one dimension
-abbrev pub sized : Member → Outcome ℕ
-sized (Member.Is n) = gives n
-sized (Member.Refused why) = refused (numberOf why)
+abbrev pub memberAnswer : Member → Outcome ℕ
+memberAnswer (Member.Is n) = gives n
+memberAnswer (Member.Refused why) = refused (numberOf why)
 
 -- a shape or sub-shape
 abbrev pub outlined : ShapeVerdict → Outcome Outline

@@ -63,13 +63,13 @@ abbrev pub extendedCapped : Outline → ℕ → Outline
 extendedCapped o n = extendedTo (capped (o .rank + 1)) o n
 
 -- so many items of s bytes, where s is not 0
-unfoldable pub sizedBy : ItemCount → ℕ → ByteCount
-sizedBy (ItemCount.Is a) s = bytes (number (a .0 * s))
-sizedBy ItemCount.Over s = ByteCount.Over
+unfoldable pub bytesOfItems : ItemCount → ℕ → ByteCount
+bytesOfItems (ItemCount.Is a) s = bytes (number (a .0 * s))
+bytesOfItems ItemCount.Over s = ByteCount.Over
 
 -- 21, by the outline: the largest size that an array level has, over items of s bytes
 unfoldable pub largestIn : Outline → ℕ → ByteCount
-largestIn o s = cond (eqb s 0) (ByteCount.Is (record { 0 = 0 })) (sizedBy (o .after) s)
+largestIn o s = cond (eqb s 0) (ByteCount.Is (record { 0 = 0 })) (bytesOfItems (o .after) s)
 
 -- 22, by the outline
 abbrev pub overIn : Order → Outline → Bool

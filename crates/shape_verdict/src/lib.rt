@@ -8,12 +8,12 @@ use counts::Number;
 use dtype::Order;
 use refusal::Refusal;
 ghost use mathlib.Core.Path.{_≡_};
-ghost use Rattle.shape_verdict.specs.Outline.{scaledBy, sizedBy, largestIn, overIn, extendedCapped};
+ghost use Rattle.shape_verdict.specs.Outline.{scaledBy, bytesOfItems, largestIn, overIn, extendedCapped};
 ghost use mathlib.Core.Bool.{true, false};
 ghost use Prim.Native.Nat.{ℕ, _+_};
 ghost use Rattle.counts.specs.Number.{number, capped};
 ghost use Rattle.record.specs.Dimensions.{signed};
-ghost use Rattle.shape_verdict.specs.Answer.{sized, outlined};
+ghost use Rattle.shape_verdict.specs.Answer.{memberAnswer, outlined};
 ghost use Rattle.shape_verdict.specs.Signs.{positiveOf, negativeOf};
 ghost use Rattle.counts.specs.Outcome.{then, each};
 
@@ -57,12 +57,12 @@ pub fn largest(levels: Outline, size: Bytes) -> ByteCount
     if size.0 == 0 {
         return ByteCount::Is(Bytes(0));
     }
-    sized(after, size)
+    bytes_of_items(after, size)
 }
 
 // The bytes of a product of dimensions, over items of `size` bytes.
-fn sized(n: ItemCount, size: Bytes) -> ByteCount
-    ensures { λ r. ⌜ r ≡ sizedBy n (size .0) ⌝ }
+fn bytes_of_items(n: ItemCount, size: Bytes) -> ByteCount
+    ensures { λ r. ⌜ r ≡ bytesOfItems n (size .0) ⌝ }
 {
     match n {
         ItemCount::Is(n) => n.of_size(size),
@@ -82,7 +82,7 @@ fn scaled(a: ItemCount, n: u64) -> ItemCount
 
 // The dimension that a number without a `-` is: 12 where it is over 2^64-1.
 pub fn positive(n: Number) -> Member
-    ensures { λ r. ⌜ ((m : ℕ) → n ≡ number m → sized r ≡ signed false m) ⌝ }
+    ensures { λ r. ⌜ ((m : ℕ) → n ≡ number m → memberAnswer r ≡ signed false m) ⌝ }
     ensures { λ r. ⌜ r ≡ positiveOf n ⌝ }
 {
     match n {
@@ -93,7 +93,7 @@ pub fn positive(n: Number) -> Member
 
 // The dimension that a number after a `-` is: 11 unless it is 0.
 pub fn negative(n: Number) -> Member
-    ensures { λ r. ⌜ ((m : ℕ) → n ≡ number m → sized r ≡ signed true m) ⌝ }
+    ensures { λ r. ⌜ ((m : ℕ) → n ≡ number m → memberAnswer r ≡ signed true m) ⌝ }
     ensures { λ r. ⌜ r ≡ negativeOf n ⌝ }
 {
     match n {
@@ -110,7 +110,7 @@ pub fn negative(n: Number) -> Member
 
 // The verdict with one member more: the first refusal stays.
 pub fn joined(verdict: ShapeVerdict, member: Member) -> ShapeVerdict
-    ensures { λ r. ⌜ outlined r ≡ then (outlined verdict) (λ o. each (extendedCapped o) (sized member)) ⌝ }
+    ensures { λ r. ⌜ outlined r ≡ then (outlined verdict) (λ o. each (extendedCapped o) (memberAnswer member)) ⌝ }
 {
     let ShapeVerdict::Good(o) = verdict else {
         return verdict;

@@ -19,7 +19,7 @@ use Rattle.number_bytes.proofs.Widths.{in-out}
 use Rattle.utf8_scalar.specs.Scalar.{isScalar, allScalars}
 use Rattle.utf8_scalar.proofs.Scalars.{scalar-low, scalar-below}
 use Rattle.type_str.specs.Text.{isType}
-use Rattle.type_letters.specs.Classes.{isUnicode}
+use Rattle.type_letters.specs.Letters.{isUnicode}
 use Rattle.type_letters.specs.declared.Endianness.{Endianness}
 use Rattle.type_letters.specs.declared.TypeChar.the-variants.{ByteStr, RawData}
 use Rattle.type_str.specs.declared.TypeStr.{TypeStr}

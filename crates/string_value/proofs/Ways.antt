@@ -17,7 +17,7 @@ use Rattle.counts.specs.declared.ByteCount.{ByteCount}
 use Rattle.counts.proofs.Fits.{number-is-back, number-over-back}
 use Rattle.counts.proofs.Apart.{gives-refused, each-none}
 use Rattle.utf8_scalar.specs.Scalar.{allScalars}
-use Rattle.type_letters.specs.Classes.{isUnicode, isBytes, isRaw}
+use Rattle.type_letters.specs.Letters.{isUnicode, isBytes, isRaw}
 use Rattle.type_str.specs.Text.{isType}
 use Rattle.type_letters.specs.declared.TypeChar.the-variants.{ByteStr, RawData}
 use Rattle.type_str.specs.declared.TypeStr.{TypeStr}

@@ -10,7 +10,7 @@ use Rattle.counts.specs.Outcome.{Outcome, gives, refused, then, each, unless}
 use Rattle.number_bytes.specs.Numbers.{inOrder}
 use Rattle.utf8_scalar.specs.Scalar.{isScalar}
 use Rattle.type_letters.specs.declared.Endianness.{Endianness}
-use Rattle.type_letters.specs.Classes.{isUnicode, isBytes, isRaw}
+use Rattle.type_letters.specs.Letters.{isUnicode, isBytes, isRaw}
 use Rattle.type_str.specs.declared.TypeStr.{TypeStr}
 
 -- b in front of what is left of the rest; a zero in front of nothing is dropped

@@ -9,7 +9,7 @@ use Rattle.counts.specs.Outcome.{Outcome, gives, refused, unless}
 use Rattle.number_bytes.specs.Numbers.{outOrder}
 use Rattle.utf8_scalar.specs.Scalar.{allScalars}
 use Rattle.type_letters.specs.declared.Endianness.{Endianness}
-use Rattle.type_letters.specs.Classes.{isUnicode, isBytes, isRaw}
+use Rattle.type_letters.specs.Letters.{isUnicode, isBytes, isRaw}
 use Rattle.type_str.specs.declared.TypeStr.{TypeStr}
 
 -- "fills up with zeros"

@@ -7,9 +7,7 @@ use native.Mathlib.Omega.{arith}
 use borrow.Author.Tests.{eqb-true, ne-eqb}
 use lib.Dec.{eqb}
 use Rattle.counts.specs.Outcome.{Outcome, gives, refused, then, unless}
-use Rattle.type_letters.specs.Orders.{orders, orderByte, orderOf}
-use Rattle.type_letters.specs.Letters.{letters, letterByte, letterOf}
-use Rattle.type_letters.specs.Spelling.{firstOf}
+use Rattle.type_letters.specs.Letters.{orders, orderByte, orderOf, letters, letterByte, letterOf, firstOf}
 use Rattle.type_units.specs.Units.{units}
 use Rattle.type_str.specs.Text.{isType}
 use Rattle.type_letters.specs.declared.Endianness.{Endianness}

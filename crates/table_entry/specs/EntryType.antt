@@ -4,9 +4,7 @@ use Prim.Native.Nat.{ℕ}
 use mathlib.Core.Bool.{not}
 use lib.Dec.{eqb}
 use Rattle.counts.specs.Outcome.{Outcome, gives, refused, then, unless}
-use Rattle.type_letters.specs.Orders.{orderOf}
-use Rattle.type_letters.specs.Letters.{letterOf}
-use Rattle.type_letters.specs.Spelling.{firstOf}
+use Rattle.type_letters.specs.Letters.{orderOf, letterOf, firstOf}
 use Rattle.type_units.specs.Units.{units}
 use Rattle.type_str.specs.Text.{isType}
 use Rattle.type_units.specs.declared.TimeUnits.{TimeUnits}

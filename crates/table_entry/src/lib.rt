@@ -13,17 +13,19 @@ use type_units::UnitsRead;
 ghost use mathlib.Core.Path.{_≡_};
 ghost use Prim.Native.Nat.{_*_, _<_};
 ghost use lib.ListN.{getD, drop};
-ghost use Rattle.type_letters.specs.Orders.{orderOf};
-ghost use Rattle.type_letters.specs.Letters.{letterOf};
+ghost use Rattle.type_letters.specs.Letters.{orderOf, letterOf};
 ghost use Rattle.type_letters.specs.Answer.{orderAnswer, letterAnswer};
 ghost use Rattle.type_units.specs.Answer.{unitsAnswer};
-ghost use Rattle.dtype.specs.Flat.{entry-width};
+ghost use Rattle.dtype.specs.Record.{entry-width};
 ghost use Rattle.dtype.specs.EntryOf.{entryOf};
 ghost use Rattle.dtype.specs.Agrees.{entryAt};
 ghost use Rattle.table_entry.specs.EntryType.{unitsFor, typeOf};
 ghost use Rattle.table_entry.specs.Answer.{typeAnswer};
 ghost use Rattle.dtype.specs.Dtype.{plain};
 ghost use Rattle.dtype.specs.TypeNumbers.{unitsNumber};
+
+// The largest number that is a byte's.
+const LAST_BYTE: u64 = u8::MAX as u64;
 
 // The type of a plain entry, or that no type string has it.
 pub enum EntryType {
@@ -92,7 +94,7 @@ pub fn type_of(entry: Entry) -> EntryType
 fn order_of(n: u64) -> OrderRead
     ensures { λ r. ⌜ orderAnswer r ≡ orderOf n ⌝ }
 {
-    if 255 < n {
+    if LAST_BYTE < n {
         return OrderRead::NoOrder;
     }
     Endianness::from_byte(n as u8)
@@ -101,7 +103,7 @@ fn order_of(n: u64) -> OrderRead
 fn letter_of(n: u64) -> LetterRead
     ensures { λ r. ⌜ letterAnswer r ≡ letterOf n ⌝ }
 {
-    if 255 < n {
+    if LAST_BYTE < n {
         return LetterRead::NoLetter;
     }
     TypeChar::from_byte(n as u8)

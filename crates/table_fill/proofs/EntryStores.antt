@@ -10,9 +10,8 @@ use borrow.Rule.Slice.PartMut.{putMid, midOf}
 pub use Rattle.table_fill.proofs.Stores.{sets-append}
 use Rattle.dtype.specs.Dtype.{Dtype, Fields, plain, array, record-of, end-of-fields, field-then}
 use Rattle.dtype.specs.Entries.{entriesOf}
-use Rattle.dtype.specs.Names.{namesOf, namesIn}
-use Rattle.dtype.specs.Flat.{flat, flats}
-use Rattle.dtype.specs.EntryOf.{entryOf, numbers}
+use Rattle.dtype.specs.Record.{namesOf, namesIn, flat, flats}
+use Rattle.dtype.specs.EntryOf.{entryOf, entryNumbers}
 
 -- a store in a part, seen from the whole
 shift : (y : ℕ) (l : List ℕ) (k : ℕ) (xs : List ℕ) → y ∷ sets l k xs ≡ sets (y ∷ l) (suc k) xs
@@ -58,8 +57,8 @@ nine l i a b c d e f g h j =
 mutual
   pub flat-front : (d : Dtype) (at up m : ℕ) (x : List ℕ) → flat d at up m x ≡ flat d at up m [] ++ x
   flat-front (plain t) at up m x = refl
-  flat-front (array n d) at up m x = ap (numbers (entryOf (array n d) up m)) (flat-front d (suc at) at 0 x)
-  flat-front (record-of fs) at up m x = ap (numbers (entryOf (record-of fs) up m)) (flats-front fs (suc at) at x)
+  flat-front (array n d) at up m x = ap (entryNumbers (entryOf (array n d) up m)) (flat-front d (suc at) at 0 x)
+  flat-front (record-of fs) at up m x = ap (entryNumbers (entryOf (record-of fs) up m)) (flats-front fs (suc at) at x)
 
   pub flats-front : (fs : Fields) (at up : ℕ) (x : List ℕ) → flats fs at up x ≡ flats fs at up [] ++ x
   flats-front end-of-fields at up x = refl

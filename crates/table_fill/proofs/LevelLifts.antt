@@ -8,7 +8,7 @@ use lib.Seq.{sets, length-sets}
 use Rattle.dtype.specs.Dtype.{Dtype, sizeOf}
 use Rattle.dtype.specs.Entries.{entriesOf}
 use Rattle.counts.specs.Number.{capped}
-use Rattle.dtype.specs.Flat.{entry-width, flat}
+use Rattle.dtype.specs.Record.{entry-width, flat}
 use Rattle.dtype.proofs.Flat.{flat-length}
 use Rattle.record.specs.Descr.{arrays}
 use Rattle.record.proofs.Levels.{arrays-entries}

@@ -13,33 +13,33 @@ use Rattle.dtype.specs.declared.Entry.{Entry}
 use Rattle.dtype.specs.Dtype.{Dtype, array, sizeOf}
 use Rattle.dtype.specs.Entries.{entriesOf}
 use Rattle.counts.specs.Number.{capped}
-use Rattle.dtype.specs.Flat.{entry-width, flat}
-use Rattle.dtype.specs.EntryOf.{entryOf, numbers}
+use Rattle.dtype.specs.Record.{entry-width, flat}
+use Rattle.dtype.specs.EntryOf.{entryOf, entryNumbers}
 use Rattle.dtype.proofs.Whole.{capped-times}
 use Rattle.record.specs.Descr.{arrays}
 use Rattle.table_fill.specs.Written.{put, bare, upOf, nameOf, sizeOver, levelled}
 use Rattle.table_fill.proofs.Stores.{sets-back}
 
 -- ---- one entry
-pub put-room : (table : List ℕ) (at : ℕ) (e : Entry) → entry-width * at + entry-width ≤ length table → put table at e ≡ sets table (entry-width * at) (numbers e [])
+pub put-room : (table : List ℕ) (at : ℕ) (e : Entry) → entry-width * at + entry-width ≤ length table → put table at e ≡ sets table (entry-width * at) (entryNumbers e [])
 put-room table at e h =
-    ap (λ (t : Bool). cond t (sets table (entry-width * at) (numbers e [])) table) (lt-ltb at (length table / entry-width) (omega arith))
+    ap (λ (t : Bool). cond t (sets table (entry-width * at) (entryNumbers e [])) table) (lt-ltb at (length table / entry-width) (omega arith))
 
 pub put-none : (table : List ℕ) (at : ℕ) (e : Entry) → length table / entry-width ≤ at → put table at e ≡ table
-put-none table at e h = ap (λ (t : Bool). cond t (sets table (entry-width * at) (numbers e [])) table) (le-ltb at (length table / entry-width) h)
+put-none table at e h = ap (λ (t : Bool). cond t (sets table (entry-width * at) (entryNumbers e [])) table) (le-ltb at (length table / entry-width) h)
 
 pub put-length : (table : List ℕ) (at : ℕ) (e : Entry) → length (put table at e) ≡ length table
 put-length table at e = go (ltb at (length table / entry-width))
   where
-    go : (t : Bool) → length (cond t (sets table (entry-width * at) (numbers e [])) table) ≡ length table
-    go true = length-sets table (entry-width * at) (numbers e [])
+    go : (t : Bool) → length (cond t (sets table (entry-width * at) (entryNumbers e [])) table) ≡ length table
+    go true = length-sets table (entry-width * at) (entryNumbers e [])
     go false = refl
 
 -- one entry followed by what comes after it
-pub entry-before : (e : Entry) (at at′ : ℕ) (x old : List ℕ) → at′ ≡ suc at → sets (sets old (entry-width * at′) x) (entry-width * at) (numbers e []) ≡ sets old (entry-width * at) (numbers e x)
+pub entry-before : (e : Entry) (at at′ : ℕ) (x old : List ℕ) → at′ ≡ suc at → sets (sets old (entry-width * at′) x) (entry-width * at) (entryNumbers e []) ≡ sets old (entry-width * at) (entryNumbers e x)
 entry-before e at at′ x old h =
     let i : entry-width * at′ ≡ entry-width * at + entry-width = omega arith in
-    ap (λ (j : ℕ). sets (sets old j x) (entry-width * at) (numbers e [])) i ∙ sym (sets-back old (entry-width * at) (numbers e []) x)
+    ap (λ (j : ℕ). sets (sets old j x) (entry-width * at) (entryNumbers e [])) i ∙ sym (sets-back old (entry-width * at) (entryNumbers e []) x)
 
 -- ---- the parent and the name of a level
 -- a level below the outermost has no name, and its parent is the level above it
@@ -99,7 +99,7 @@ levels-flat (n ∷ ns) d at up m last size old hs hl hr =
     let x = flat inner (suc at) at 0 [] in
     let long = length-sets old (entry-width * suc at) x in
     ap (λ (t : List ℕ). put t at e) inside ∙ put-room (sets old (entry-width * suc at) x) at e (omega (arith, long, hl, hr))
-    ∙ entry-before e at (suc at) x old refl ∙ ap (λ (y : Entry). sets old (entry-width * at) (numbers y x)) is
+    ∙ entry-before e at (suc at) x old refl ∙ ap (λ (y : Entry). sets old (entry-width * at) (entryNumbers y x)) is
 
 -- ---- written from the innermost on
 module _ (ns : List ℕ) (entry up m last size : ℕ) (table0 : List ℕ) where

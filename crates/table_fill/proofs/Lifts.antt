@@ -12,8 +12,8 @@ use borrow.Author.Tests.{lt-ltb, le-ltb, eq-eqb, ne-eqb}
 use Rattle.dtype.specs.Dtype.{Dtype, Fields, plain, array, record-of, end-of-fields, field-then}
 use Rattle.dtype.specs.Entries.{entriesOf, entriesIn}
 use Rattle.counts.specs.Number.{capped}
-use Rattle.dtype.specs.Flat.{entry-width, flat, flats}
-use Rattle.dtype.specs.EntryOf.{entryOf, numbers}
+use Rattle.dtype.specs.Record.{entry-width, flat, flats}
+use Rattle.dtype.specs.EntryOf.{entryOf, entryNumbers}
 use Rattle.table_fill.specs.Lifted.{name-column, movedNumber, movedFrom, movedOn, relinked, lifted}
 use Rattle.table_fill.proofs.Stores.{set-sets, getD-sets, sets-over}
 
@@ -30,14 +30,14 @@ module _ (i n by up : ℕ) where
   pub moved-name : (i ≡ 0 → ⊥) → i ≡ name-column → 0 ≡ movedNumber i n by up
   moved-name z h = ap (λ (t : Bool). cond t 0 (cond (eqb (i % entry-width) 0) (capped (n + by)) n)) (sym (eq-eqb i name-column h)) ∙ later z
 
-  behind : (i ≡ 0 → ⊥) → (i ≡ name-column → ⊥) → cond (eqb (i % entry-width) 0) (capped (n + by)) n ≡ movedNumber i n by up
-  behind z y = ap (λ (t : Bool). cond t 0 (cond (eqb (i % entry-width) 0) (capped (n + by)) n)) (sym (ne-eqb i name-column y)) ∙ later z
+  later-moved : (i ≡ 0 → ⊥) → (i ≡ name-column → ⊥) → cond (eqb (i % entry-width) 0) (capped (n + by)) n ≡ movedNumber i n by up
+  later-moved z y = ap (λ (t : Bool). cond t 0 (cond (eqb (i % entry-width) 0) (capped (n + by)) n)) (sym (ne-eqb i name-column y)) ∙ later z
 
   pub moved-parent : (i ≡ 0 → ⊥) → (i ≡ name-column → ⊥) → i % entry-width ≡ 0 → capped (n + by) ≡ movedNumber i n by up
-  moved-parent z y h = ap (λ (t : Bool). cond t (capped (n + by)) n) (sym (eq-eqb (i % entry-width) 0 h)) ∙ behind z y
+  moved-parent z y h = ap (λ (t : Bool). cond t (capped (n + by)) n) (sym (eq-eqb (i % entry-width) 0 h)) ∙ later-moved z y
 
   pub moved-other : (i ≡ 0 → ⊥) → (i ≡ name-column → ⊥) → (i % entry-width ≡ 0 → ⊥) → n ≡ movedNumber i n by up
-  moved-other z y h = ap (λ (t : Bool). cond t (capped (n + by)) n) (sym (ne-eqb (i % entry-width) 0 h)) ∙ behind z y
+  moved-other z y h = ap (λ (t : Bool). cond t (capped (n + by)) n) (sym (ne-eqb (i % entry-width) 0 h)) ∙ later-moved z y
 
 -- ---- one entry
 cons-eq : {a b : ℕ} {x y : List ℕ} → a ≡ b → x ≡ y → a ∷ x ≡ b ∷ y
@@ -59,9 +59,9 @@ module _ (by up : ℕ) where
       (row-moved ns i (suc j) (suc k) x l z (omega arith) (omega arith) (omega arith) ∙ ap (λ (y : ℕ). ns ++ movedFrom y by up x) e)
 
   entry-moved : (d : Dtype) (p p′ m i i′ : ℕ) (x x′ : List ℕ) → p′ ≡ p + by → p′ < 2 ^ 64 → name-column < i → i % entry-width ≡ 0 → i′ ≡ i + entry-width → movedFrom i′ by up x ≡ x′
-      → movedFrom i by up (numbers (entryOf d p m) x) ≡ numbers (entryOf d p′ m) x′
+      → movedFrom i by up (entryNumbers (entryOf d p m) x) ≡ entryNumbers (entryOf d p′ m) x′
   entry-moved d p p′ m i i′ x x′ hp small l z hi hx =
-      let others = drop 1 (numbers (entryOf d p m) []) in
+      let others = drop 1 (entryNumbers (entryOf d p m) []) in
       let long : length others ≡ name-column = refl in
       let first : capped (p + by) ≡ p′ = omega arith in
       let rest : suc i + length others ≡ i′ = omega arith in
@@ -89,7 +89,7 @@ module _ (by up : ℕ) where
         (flats-moved fs (at + entriesOf d) (at′ + entriesOf d) p p′ (i + entry-width * entriesOf d) i′ x (omega arith) hp (omega arith) small (omega arith) (omega arith) (omega arith))
 
   -- ---- a whole dtype
-  root-moved : (d : Dtype) (p m : ℕ) (x : List ℕ) → movedFrom 0 by up (numbers (entryOf d p m) x) ≡ numbers (entryOf d up 0) (movedFrom entry-width by up x)
+  root-moved : (d : Dtype) (p m : ℕ) (x : List ℕ) → movedFrom 0 by up (entryNumbers (entryOf d p m) x) ≡ entryNumbers (entryOf d up 0) (movedFrom entry-width by up x)
   unfolding movedNumber
   root-moved d p m x = refl
 
@@ -97,10 +97,10 @@ module _ (by up : ℕ) where
   dtype-moved (plain t) at at′ p m ha big = root-moved (plain t) p m []
   dtype-moved (array n d) at at′ p m ha big =
       root-moved (array n d) p m (flat d (suc at) at 0 [])
-      ∙ ap (numbers (entryOf (array n d) up 0)) (flat-moved d (suc at) (suc at′) at at′ 0 entry-width (entry-width + entry-width * entriesOf d) [] (omega arith) ha (omega arith) (omega arith) (omega arith) (omega arith) refl)
+      ∙ ap (entryNumbers (entryOf (array n d) up 0)) (flat-moved d (suc at) (suc at′) at at′ 0 entry-width (entry-width + entry-width * entriesOf d) [] (omega arith) ha (omega arith) (omega arith) (omega arith) (omega arith) refl)
   dtype-moved (record-of fs) at at′ p m ha big =
       root-moved (record-of fs) p m (flats fs (suc at) at [])
-      ∙ ap (numbers (entryOf (record-of fs) up 0)) (flats-moved fs (suc at) (suc at′) at at′ entry-width (entry-width + entry-width * entriesIn fs) [] (omega arith) ha (omega arith) (omega arith) (omega arith) (omega arith) refl)
+      ∙ ap (entryNumbers (entryOf (record-of fs) up 0)) (flats-moved fs (suc at) (suc at′) at at′ entry-width (entry-width + entry-width * entriesIn fs) [] (omega arith) ha (omega arith) (omega arith) (omega arith) (omega arith) refl)
 
 -- ---- the loop
 moved-length : (l : List ℕ) (i by up : ℕ) → length (movedFrom i by up l) ≡ length l
@@ -137,21 +137,21 @@ module _ (table0 due : List ℕ) (to : ℕ) where
       record { low = omega arith; long = refl; holds = ap (sets table0 (to + n)) (sym none) }
 
   module _ (i j : ℕ) (hi : i ≡ suc j) (table : List ℕ) (w : Storing i table) where
-    stands : table ≡ sets table0 (suc (to + j)) (drop (suc j) due)
-    stands =
+    as-before : table ≡ sets table0 (suc (to + j)) (drop (suc j) due)
+    as-before =
         let more : to + i ≡ suc (to + j) = omega arith in
         w .holds ∙ ap (λ (x : ℕ). sets table0 x (drop i due)) more ∙ ap (λ (x : ℕ). sets table0 (suc (to + j)) (drop x due)) hi
 
     -- up to the next store, everything is as it was
     as-it-was : (k : ℕ) → k ≤ to + j → getD table k 0 ≡ getD table0 k 0
-    as-it-was k le = ap (λ (l : List ℕ). getD l k 0) stands ∙ getD-sets table0 (suc (to + j)) k (drop (suc j) due) (omega arith)
+    as-it-was k le = ap (λ (l : List ℕ). getD l k 0) as-before ∙ getD-sets table0 (suc (to + j)) k (drop (suc j) due) (omega arith)
 
     storing-more : (n : ℕ) → n ≡ getD due j 0 → (table′ : List ℕ) → table′ ≡ set table (to + j) n → Storing j table′
     storing-more n hn table′ ht =
         record {
           low = omega (arith, w .low);
           long = ap length ht ∙ length-set table (to + j) n ∙ w .long;
-          holds = ht ∙ ap (λ (l : List ℕ). set l (to + j) n) stands ∙ set-sets table0 (to + j) n (suc (to + j)) (drop (suc j) due) (omega arith)
+          holds = ht ∙ ap (λ (l : List ℕ). set l (to + j) n) as-before ∙ set-sets table0 (to + j) n (suc (to + j)) (drop (suc j) due) (omega arith)
               ∙ ap (λ (x : ℕ). sets table0 (to + j) (x ∷ drop (suc j) due)) hn ∙ ap (sets table0 (to + j)) (sym (drop-cons due j 0 (omega (arith, w .low))));
         }
 
@@ -197,77 +197,77 @@ module _ (table0 : List ℕ) (entry count by : ℕ) where
   abbrev there : List ℕ
   there = take (entry-width * count) (drop (entry-width * entry) table0)
 
-  abbrev told : List ℕ
-  told = movedFrom 0 by (entry - 1) there
+  abbrev relinked-row : List ℕ
+  relinked-row = movedFrom 0 by (entry - 1) there
 
-  abbrev pub Telling : ℕ → List ℕ → Type 0
-  Telling i table = Storing table0 told (entry-width * entry) i table
+  abbrev pub Relinking : ℕ → List ℕ → Type 0
+  Relinking i table = Storing table0 relinked-row (entry-width * entry) i table
 
-  pub telling-all : (i : ℕ) (table : List ℕ) → Telling i table → i ≡ 0 → table ≡ relinked table0 entry count by
-  telling-all i table w hi = storing-all table0 told (entry-width * entry) i table w hi
+  pub relinking-all : (i : ℕ) (table : List ℕ) → Relinking i table → i ≡ 0 → table ≡ relinked table0 entry count by
+  relinking-all i table w hi = storing-all table0 relinked-row (entry-width * entry) i table w hi
 
   module _ (room : entry-width * (entry + count) ≤ length table0) where
     there-length : length there ≡ entry-width * count
     there-length = part-length table0 (entry-width * entry) (entry-width * count) (omega arith)
 
-    told-length : length told ≡ entry-width * count
-    told-length = moved-length there 0 by (entry - 1) ∙ there-length
+    relinked-long : length relinked-row ≡ entry-width * count
+    relinked-long = moved-length there 0 by (entry - 1) ∙ there-length
 
-    told-get : (j : ℕ) → j < entry-width * count → getD told j 0 ≡ movedNumber j (getD table0 (entry-width * entry + j) 0) by (entry - 1)
-    told-get j lt =
+    relinked-get : (j : ℕ) → j < entry-width * count → getD relinked-row j 0 ≡ movedNumber j (getD table0 (entry-width * entry + j) 0) by (entry - 1)
+    relinked-get j lt =
         let z : 0 + j ≡ j = omega arith in
         moved-get there 0 by (entry - 1) j (omega (arith, there-length)) ∙ ap (λ (x : ℕ). movedNumber x (getD there j 0) by (entry - 1)) z
         ∙ ap (λ (x : ℕ). movedNumber j x by (entry - 1)) (getD-take (entry-width * count) (drop (entry-width * entry) table0) j 0 lt ∙ getD-drop (entry-width * entry) table0 j 0)
 
-    pub telling-start : (k : ℕ) → k ≡ count → Telling (entry-width * k) table0
-    telling-start k hk = storing-start table0 told (entry-width * entry) (entry-width * k) (told-length ∙ ap (λ (x : ℕ). entry-width * x) (sym hk))
+    pub relinking-start : (k : ℕ) → k ≡ count → Relinking (entry-width * k) table0
+    relinking-start k hk = storing-start table0 relinked-row (entry-width * entry) (entry-width * k) (relinked-long ∙ ap (λ (x : ℕ). entry-width * x) (sym hk))
 
-    pub telling-low : (k : ℕ) (table : List ℕ) → Telling (entry-width * k) table → k ≤ count
-    telling-low k table w = omega (arith, w .low, told-length)
+    pub relinking-low : (k : ℕ) (table : List ℕ) → Relinking (entry-width * k) table → k ≤ count
+    relinking-low k table w = omega (arith, w .low, relinked-long)
 
     -- m numbers that are neither a parent nor the first name stay
-    telling-skip : (m j : ℕ) (table : List ℕ) → ((k : ℕ) → j ≤ k → k < j + m → (k ≡ name-column → ⊥) × (k % entry-width ≡ 0 → ⊥)) → Telling (j + m) table → Telling j table
-    telling-skip zero j table stay w = let z : j + 0 ≡ j = omega arith in subst (λ (x : ℕ). Telling x table) z w
-    telling-skip (suc m) j table stay w =
+    relinking-skip : (m j : ℕ) (table : List ℕ) → ((k : ℕ) → j ≤ k → k < j + m → (k ≡ name-column → ⊥) × (k % entry-width ≡ 0 → ⊥)) → Relinking (j + m) table → Relinking j table
+    relinking-skip zero j table stay w = let z : j + 0 ≡ j = omega arith in subst (λ (x : ℕ). Relinking x table) z w
+    relinking-skip (suc m) j table stay w =
         let s = stay (j + m) (omega arith) (omega arith) in
-        let same : getD told (j + m) 0 ≡ getD table0 (entry-width * entry + (j + m)) 0 =
-        told-get (j + m) (omega (arith, w .low, told-length))
+        let same : getD relinked-row (j + m) 0 ≡ getD table0 (entry-width * entry + (j + m)) 0 =
+        relinked-get (j + m) (omega (arith, w .low, relinked-long))
         ∙ sym (moved-other (j + m) (getD table0 (entry-width * entry + (j + m)) 0) by (entry - 1) (λ (e : j + m ≡ 0). s .1 (ap (λ (x : ℕ). x % entry-width) e)) (s .0) (s .1)) in
-        telling-skip m j table (λ k lo hi. stay k lo (omega arith)) (storing-skip table0 told (entry-width * entry) (j + suc m) (j + m) (omega arith) table w same)
+        relinking-skip m j table (λ k lo hi. stay k lo (omega arith)) (storing-skip table0 relinked-row (entry-width * entry) (j + suc m) (j + m) (omega arith) table w same)
 
     -- an entry after the first: its parent
-    pub telling-more : (k j : ℕ) → k ≡ suc j → 0 < j → (table : List ℕ) → Telling (entry-width * k) table → (at n : ℕ) → at ≡ entry-width * (entry + j) → n ≡ capped (getD table at 0 + by)
-        → (table′ : List ℕ) → table′ ≡ set table at n → Telling (entry-width * j) table′
-    telling-more k j hk pos table w at n hat hn table′ ht =
+    pub relinking-more : (k j : ℕ) → k ≡ suc j → 0 < j → (table : List ℕ) → Relinking (entry-width * k) table → (at n : ℕ) → at ≡ entry-width * (entry + j) → n ≡ capped (getD table at 0 + by)
+        → (table′ : List ℕ) → table′ ≡ set table at n → Relinking (entry-width * j) table′
+    relinking-more k j hk pos table w at n hat hn table′ ht =
         let to = entry-width * entry in
         let i = entry-width * j in
         let place : at ≡ to + i = omega arith in
         let whole : entry-width * k ≡ i + 1 + name-column = omega arith in
         let more : i + 1 ≡ suc i = omega arith in
-        let s : Telling (i + 1) table =
-        telling-skip name-column (i + 1) table (λ k lo hi. (λ (e : k ≡ name-column). absurd (omega arith), λ (e : k % entry-width ≡ 0). absurd (omega arith))) (subst (λ (x : ℕ). Telling x table) whole w) in
-        let read : getD table at 0 ≡ getD table0 (to + i) 0 = ap (λ (x : ℕ). getD table x 0) place ∙ as-it-was table0 told to (i + 1) i more table s (to + i) (omega arith) in
-        let is : n ≡ getD told i 0 =
+        let s : Relinking (i + 1) table =
+        relinking-skip name-column (i + 1) table (λ k lo hi. (λ (e : k ≡ name-column). absurd (omega arith), λ (e : k % entry-width ≡ 0). absurd (omega arith))) (subst (λ (x : ℕ). Relinking x table) whole w) in
+        let read : getD table at 0 ≡ getD table0 (to + i) 0 = ap (λ (x : ℕ). getD table x 0) place ∙ as-it-was table0 relinked-row to (i + 1) i more table s (to + i) (omega arith) in
+        let is : n ≡ getD relinked-row i 0 =
         hn ∙ ap (λ (x : ℕ). capped (x + by)) read
         ∙ moved-parent i (getD table0 (to + i) 0) by (entry - 1) (λ (e : i ≡ 0). absurd (omega arith)) (λ (e : i ≡ name-column). absurd (omega arith)) (omega arith)
-        ∙ sym (told-get i (omega (arith, s .low, told-length))) in
-        storing-more table0 told to (i + 1) i more table s n is table′ (ht ∙ ap (λ (x : ℕ). set table x n) place)
+        ∙ sym (relinked-get i (omega (arith, s .low, relinked-long))) in
+        storing-more table0 relinked-row to (i + 1) i more table s n is table′ (ht ∙ ap (λ (x : ℕ). set table x n) place)
 
     -- the first: its name, then its parent
-    pub telling-first : (k : ℕ) → k ≡ 1 → (table : List ℕ) → Telling (entry-width * k) table → (at up : ℕ) → at ≡ entry-width * entry → up ≡ entry - 1
-        → (table1 table2 : List ℕ) → table1 ≡ set table (at + name-column) 0 → table2 ≡ set table1 at up → Telling 0 table2
-    telling-first k hk table w at up hat hup table1 table2 h1 h2 =
+    pub relinking-first : (k : ℕ) → k ≡ 1 → (table : List ℕ) → Relinking (entry-width * k) table → (at up : ℕ) → at ≡ entry-width * entry → up ≡ entry - 1
+        → (table1 table2 : List ℕ) → table1 ≡ set table (at + name-column) 0 → table2 ≡ set table1 at up → Relinking 0 table2
+    relinking-first k hk table w at up hat hup table1 table2 h1 h2 =
         let to = entry-width * entry in
         let whole : entry-width * k ≡ suc name-column = omega arith in
         let place : at + name-column ≡ to + name-column = omega arith in
         let front : at ≡ to + 0 = omega arith in
-        let name : Telling name-column table1 =
-        storing-more table0 told to (entry-width * k) name-column whole table w 0
-        (moved-name name-column (getD table0 (to + name-column) 0) by (entry - 1) (λ (e : name-column ≡ 0). absurd (omega arith)) refl ∙ sym (told-get name-column (omega (arith, w .low, told-length))))
+        let name : Relinking name-column table1 =
+        storing-more table0 relinked-row to (entry-width * k) name-column whole table w 0
+        (moved-name name-column (getD table0 (to + name-column) 0) by (entry - 1) (λ (e : name-column ≡ 0). absurd (omega arith)) refl ∙ sym (relinked-get name-column (omega (arith, w .low, relinked-long))))
         table1 (h1 ∙ ap (λ (x : ℕ). set table x 0) place) in
-        let s : Telling 1 table1 = telling-skip (name-column - 1) 1 table1 (λ k lo hi. (λ (e : k ≡ name-column). absurd (omega arith), λ (e : k % entry-width ≡ 0). absurd (omega arith))) name in
-        storing-more table0 told to 1 0 refl table1 s up
-        (hup ∙ moved-first 0 (getD table0 (to + 0) 0) by (entry - 1) refl ∙ sym (told-get 0 (omega (arith, s .low, told-length))))
+        let s : Relinking 1 table1 = relinking-skip (name-column - 1) 1 table1 (λ k lo hi. (λ (e : k ≡ name-column). absurd (omega arith), λ (e : k % entry-width ≡ 0). absurd (omega arith))) name in
+        storing-more table0 relinked-row to 1 0 refl table1 s up
+        (hup ∙ moved-first 0 (getD table0 (to + 0) 0) by (entry - 1) refl ∙ sym (relinked-get 0 (omega (arith, s .low, relinked-long))))
         table2 (h2 ∙ ap (λ (x : ℕ). set table1 x up) front)
 
 -- ---- both

@@ -20,8 +20,8 @@ lift-one table entry count by = by-equation (lifted table entry count by)
 pub entries-between-one : (at stop : ℕ) → OneOutcome {A = ℕ} (λ r. r ≡ stop - at)
 entries-between-one at stop = by-equation (stop - at)
 
-pub type-of-one : (r : TypeRead) → OneOutcome {A = TypeStr} (λ t. t ≡ typeIn r)
-type-of-one r = by-equation (typeIn r)
+pub type-in-one : (r : TypeRead) → OneOutcome {A = TypeStr} (λ t. t ≡ typeIn r)
+type-in-one r = by-equation (typeIn r)
 
 -- an outcome is the result and the final table
 two-one : (n : Bytes) (l : List ℕ) → OneOutcome {A = Bytes × List ℕ} (λ r. (r .0 ≡ n) × (r .1 ≡ l))
@@ -33,6 +33,6 @@ put-plain-one table at t up m = two-one (asBytes (capped (sizeOf (plain t)))) (p
 pub put-record-one : (table : List ℕ) (at up m count last size : ℕ) → OneOutcome {A = List ℕ} (λ l. l ≡ put table at (bare 2 up count (last - at) size m))
 put-record-one table at up m count last size = by-equation (put table at (bare 2 up count (last - at) size m))
 
-pub put-over-one : (ns : List ℕ) (entry up m last size : ℕ) (table : List ℕ)
+pub put-sub-shape-one : (ns : List ℕ) (entry up m last size : ℕ) (table : List ℕ)
     → OneOutcome {A = Bytes × List ℕ} (λ r. (r .0 ≡ asBytes (sizeOver ns size)) × (r .1 ≡ above ns entry up m last size table))
-put-over-one ns entry up m last size table = two-one (asBytes (sizeOver ns size)) (above ns entry up m last size table)
+put-sub-shape-one ns entry up m last size table = two-one (asBytes (sizeOver ns size)) (above ns entry up m last size table)

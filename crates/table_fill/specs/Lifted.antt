@@ -7,7 +7,7 @@ use lib.Dec.{ltb, eqb}
 use lib.ListN.{length, take, drop}
 use lib.Seq.{sets}
 use Rattle.counts.specs.Number.{capped}
-use Rattle.dtype.specs.Flat.{entry-width}
+use Rattle.dtype.specs.Record.{entry-width}
 
 -- which number of an entry is the length of its name: the last
 abbrev pub name-column : ℕ

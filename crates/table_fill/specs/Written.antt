@@ -14,8 +14,8 @@ use Rattle.type_str.specs.declared.TypeStr.{TypeStr}
 use Rattle.type_str.specs.declared.TypeRead.{TypeRead}
 use Rattle.dtype.specs.declared.Entry.{Entry}
 use Rattle.counts.specs.Number.{capped}
-use Rattle.dtype.specs.Flat.{entry-width}
-use Rattle.dtype.specs.EntryOf.{numbers}
+use Rattle.dtype.specs.Record.{entry-width}
+use Rattle.dtype.specs.EntryOf.{entryNumbers}
 use Rattle.table_fill.specs.Lifted.{lifted}
 
 -- a placeholder where no type was read
@@ -29,7 +29,7 @@ typeIn (TypeRead.Refused why) = noType
 
 -- the table with e as its entry number `at`; unchanged where it has no room for that
 abbrev pub put : (table : List ℕ) (at : ℕ) → Entry → List ℕ
-put table at e = cond (ltb at (length table / entry-width)) (sets table (entry-width * at) (numbers e [])) table
+put table at e = cond (ltb at (length table / entry-width)) (sets table (entry-width * at) (entryNumbers e [])) table
 
 -- the entry of an array level or a record, with the numbers of a type 0
 abbrev pub bare : (kind up number extent bytes m : ℕ) → Entry

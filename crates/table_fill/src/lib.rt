@@ -17,7 +17,7 @@ use type_units::TimeUnits;
 ghost use mathlib.Core.Path.{_≡_};
 ghost use Prim.Native.Nat.{_+_, _-_, _*_, _≤_};
 ghost use lib.ListN.{length};
-ghost use Rattle.dtype.specs.Flat.{entry-width};
+ghost use Rattle.dtype.specs.Record.{entry-width};
 ghost use Rattle.dtype.specs.EntryOf.{entryOf};
 ghost use Rattle.table_fill.specs.Lifted.{movedOn, relinked, lifted};
 ghost use Rattle.dtype.specs.Dtype.{plain, sizeOf};
@@ -97,7 +97,7 @@ fn capped_sum(a: u64, b: u64) -> u64
 }
 
 // The type that was read, or a placeholder.
-pub fn type_of(r: TypeRead) -> TypeStr
+pub fn type_in(r: TypeRead) -> TypeStr
     ensures { λ t. ⌜ t ≡ typeIn r ⌝ }
 {
     match r {
@@ -166,7 +166,7 @@ pub fn put_record(
 }
 
 // Writes the levels of a sub-shape around the type whose entries go from `entry` up to `stop`, which are moved to make room, and returns their size.
-pub fn put_over(
+pub fn put_sub_shape(
     table: &mut [u64],
     entry: usize,
     up: u64,

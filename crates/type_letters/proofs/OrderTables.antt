@@ -7,7 +7,7 @@ use borrow.Author.Tests.{eqb-true}
 use Rattle.counts.specs.Outcome.{Outcome, gives, refused}
 use Rattle.counts.proofs.Holds.{Holds}
 use Rattle.type_letters.proofs.Tables.{first-passes}
-use Rattle.type_letters.specs.Orders.{orderByte, orders, orderOf}
+use Rattle.type_letters.specs.Letters.{orderByte, orders, orderOf}
 use Rattle.type_letters.specs.declared.Endianness.{Endianness}
 use Rattle.type_letters.specs.declared.Endianness.the-variants.{Little, Big, Irrelevant}
 

@@ -4,13 +4,11 @@ use mathlib.Core.Path.{_≡_, refl}
 use Rattle.counts.specs.Outcome.{Outcome, gives, refused}
 use Rattle.counts.specs.OneOutcome.{OneOutcome}
 use Rattle.counts.proofs.OneOutcome.{by-equation, by-inverse}
-use Rattle.type_letters.specs.Orders.{orderByte, orderOf}
+use Rattle.type_letters.specs.Letters.{orderByte, orderOf, letterByte, letterOf, isObject, isUnicode}
 use Rattle.type_letters.specs.Answer.{orderAnswer, letterAnswer}
 use Rattle.type_letters.specs.declared.Endianness.{Endianness}
 use Rattle.type_letters.specs.declared.OrderRead.{OrderRead}
 use mathlib.Core.Bool.{Bool}
-use Rattle.type_letters.specs.Letters.{letterByte, letterOf}
-use Rattle.type_letters.specs.Classes.{isObject, isUnicode}
 use Rattle.type_letters.specs.declared.TypeChar.{TypeChar}
 use Rattle.type_letters.specs.declared.LetterRead.{LetterRead}
 

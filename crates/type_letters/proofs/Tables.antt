@@ -4,7 +4,7 @@ use mathlib.Core.Bool.{Bool, true, false, cond}
 use mathlib.Core.List.{List, [], _∷_}
 use Rattle.counts.specs.Outcome.{gives}
 use Rattle.counts.proofs.Holds.{Holds}
-use Rattle.type_letters.specs.Spelling.{firstOf}
+use Rattle.type_letters.specs.Letters.{firstOf}
 
 -- the case that a lookup gives passes its test
 pub first-passes : {A : Type 0} (test : A → Bool) (cases : List A) → Holds (λ a. test a ≡ true) (firstOf test cases)

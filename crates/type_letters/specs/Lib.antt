@@ -1,5 +1,2 @@
-pub mod Spelling
-pub mod Orders
-pub mod Answer
 pub mod Letters
-pub mod Classes
+pub mod Answer

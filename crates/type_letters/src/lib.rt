@@ -1,10 +1,8 @@
 // Byte orders and letters of type strings (document 01, "The record"): each is an enum, read from a byte and written as one; any other byte is a syntax fault, 15.
 // Called wherever a type string is read, checked or printed, and for the byte order of numbers.
 ghost use mathlib.Core.Path.{_≡_};
-ghost use Rattle.type_letters.specs.Orders.{orderByte, orderOf};
+ghost use Rattle.type_letters.specs.Letters.{orderByte, orderOf, letterByte, letterOf, isObject, isUnicode};
 ghost use Rattle.type_letters.specs.Answer.{orderAnswer, letterAnswer};
-ghost use Rattle.type_letters.specs.Letters.{letterByte, letterOf};
-ghost use Rattle.type_letters.specs.Classes.{isObject, isUnicode};
 
 // `<`, `>` or `|`, in this order.
 pub enum Endianness {

@@ -11,10 +11,8 @@ use Rattle.emit.proofs.Pieces.{emits-then, emits-same}
 use Rattle.emit.proofs.Texts.{written-short, written-whole}
 use Rattle.refusal.specs.declared.Refusal.the-variants.{NoReading, OutputRoom}
 use Rattle.refusal.specs.declared.BytesAnswer.the-variants.{Is, Refused}
-use Rattle.type_letters.specs.Orders.{orderByte}
-use Rattle.type_letters.specs.Letters.{letterByte}
+use Rattle.type_letters.specs.Letters.{orderByte, letterByte, isObject}
 use Rattle.type_units.specs.Units.{unitText}
-use Rattle.type_letters.specs.Classes.{isObject}
 use Rattle.type_str.specs.Text.{typeText, isType, typePrinted}
 use Rattle.type_str.specs.declared.TypeStr.{TypeStr}
 use Rattle.type_print.specs.Printed.{Prints}

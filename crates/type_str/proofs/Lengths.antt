@@ -9,7 +9,7 @@ use lib.ListN.{length}
 use Rattle.counts.proofs.Sides.{lt-or-ge}
 use Rattle.decimal.specs.Decimal.{printed}
 use Rattle.decimal.proofs.Lengths.{printed-u64}
-use Rattle.type_letters.specs.Classes.{isObject}
+use Rattle.type_letters.specs.Letters.{isObject}
 use Rattle.type_units.specs.Units.{unitText}
 use Rattle.type_units.specs.declared.TimeUnits.{TimeUnits}
 use Rattle.type_units.specs.declared.TimeUnits.the-variants.{Absent, Year, Month, Week, Day, Hour, Minute, Second, Millisecond, Microsecond, Nanosecond, Picosecond, Femtosecond, Attosecond}

@@ -4,8 +4,7 @@ use Prim.Native.Nat.{ℕ}
 use mathlib.Core.Bool.{Bool, true, false, not, _||_, _&&_}
 use mathlib.Core.List.{List, [], _∷_}
 use lib.Dec.{eqb}
-use Rattle.type_letters.specs.Letters.{letterByte}
-use Rattle.type_letters.specs.Classes.{isUnicode}
+use Rattle.type_letters.specs.Letters.{letterByte, isUnicode}
 use Rattle.type_letters.specs.declared.Endianness.{Endianness}
 use Rattle.type_letters.specs.declared.Endianness.the-variants.{Little, Big, Irrelevant}
 use Rattle.type_letters.specs.declared.TypeChar.{TypeChar}

@@ -7,7 +7,7 @@ use lib.ListN.{length, getD}
 use native.Mathlib.Omega.{arith}
 use borrow.Author.Tests.{ne-eqb}
 use Rattle.counts.specs.Outcome.{Outcome, gives, refused}
-use Rattle.counts.specs.Same.{same}
+use Rattle.counts.specs.Lists.{same}
 use Rattle.counts.proofs.Alike.{same-equal}
 use Rattle.counts.proofs.Holds.{Holds}
 use Rattle.type_letters.proofs.Tables.{first-passes}

@@ -4,8 +4,8 @@ use Prim.Native.Nat.{ℕ}
 use mathlib.Core.List.{List, [], _∷_, _++_}
 use mathlib.Core.Bool.{Bool, true, false}
 use Rattle.counts.specs.Outcome.{Outcome}
-use Rattle.counts.specs.Same.{same}
-use Rattle.type_letters.specs.Spelling.{firstOf}
+use Rattle.counts.specs.Lists.{same}
+use Rattle.type_letters.specs.Letters.{firstOf}
 use Rattle.type_units.specs.declared.TimeUnits.{TimeUnits}
 use Rattle.type_units.specs.declared.TimeUnits.the-variants.{Absent, Year, Month, Week, Day, Hour, Minute, Second, Millisecond, Microsecond, Nanosecond, Picosecond, Femtosecond, Attosecond}
 

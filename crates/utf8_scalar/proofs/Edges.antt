@@ -9,7 +9,7 @@ pub record Edges : Type 0 where
   pub two-last : encode 0x7FF ≡ 0xDF ∷ 0xBF ∷ []
   pub three-first : encode 0x800 ≡ 0xE0 ∷ 0xA0 ∷ 0x80 ∷ []
   pub before-surrogates : encode 0xD7FF ≡ 0xED ∷ 0x9F ∷ 0xBF ∷ []
-  pub behind-surrogates : encode 0xE000 ≡ 0xEE ∷ 0x80 ∷ 0x80 ∷ []
+  pub after-surrogates : encode 0xE000 ≡ 0xEE ∷ 0x80 ∷ 0x80 ∷ []
   pub three-last : encode 0xFFFF ≡ 0xEF ∷ 0xBF ∷ 0xBF ∷ []
   pub four-first : encode 0x10000 ≡ 0xF0 ∷ 0x90 ∷ 0x80 ∷ 0x80 ∷ []
   pub four-last : encode 0x10FFFF ≡ 0xF4 ∷ 0x8F ∷ 0xBF ∷ 0xBF ∷ []
@@ -23,7 +23,7 @@ edges =
       two-last = refl;
       three-first = refl;
       before-surrogates = refl;
-      behind-surrogates = refl;
+      after-surrogates = refl;
       three-last = refl;
       four-first = refl;
       four-last = refl;

@@ -8,7 +8,7 @@ use native.Mathlib.Omega.{arith}
 use native.Mathlib.Nat.{not-suc-le-zero, le-of-suc-le-suc, mod-lt}
 use borrow.Author.Tests.{lt-ltb, le-ltb}
 use lib.ListN.{length, getD}
-use Rattle.counts.specs.AllBytes.{AllBytes}
+use Rattle.counts.specs.Lists.{AllBytes}
 use Rattle.counts.proofs.Sides.{lt-or-ge}
 use Rattle.utf8_scalar.specs.Scalar.{isScalar}
 use Rattle.utf8_scalar.specs.Encode.{encode}

@@ -10,7 +10,7 @@ use lib.ListN.{length, drop}
 use lib.Seq.{sets-eq}
 use mathlib.Core.Logic.{⊎-elim}
 use Rattle.counts.specs.Outcome.{gives, refused}
-use Rattle.counts.specs.Front.{atFront}
+use Rattle.counts.specs.Lists.{atFront}
 use Rattle.counts.specs.Owes.{roomed}
 use Rattle.counts.proofs.Owes.{owes-refused, owes-same, roomed-whole, roomed-short}
 use Rattle.counts.specs.Number.{capped}
@@ -24,8 +24,7 @@ use Rattle.literal_grammar.specs.Print.{spaces, print, valueOf}
 use Rattle.dtype.specs.declared.Order.{Order}
 use Rattle.dtype.specs.Limits.{limited}
 use Rattle.dtype.specs.Record.{Record}
-use Rattle.record.specs.Version.{textStart}
-use Rattle.record.specs.Prefix.{most-text}
+use Rattle.record.specs.Prefix.{textStart, most-text}
 use Rattle.record.specs.Layout.{headerLayout}
 use Rattle.record.specs.Padding.{isAscii, spacesAfter, versionFor}
 use Rattle.record.specs.Within.{within}
@@ -37,12 +36,12 @@ use Rattle.check_record.proofs.Accepts.{accepts-valid, checked-valid}
 use Rattle.write_depth.specs.Printable.{printable}
 use Rattle.write_depth.proofs.Views.{View, unread, too-deep, shown, view}
 use Rattle.write_text.specs.declared.Printed.{Printed}
-use Rattle.write_text.specs.Prints.{Prints}
-use Rattle.write_text.proofs.Prints.{told-end}
+use Rattle.write_text.specs.Prints.{PrintsText}
+use Rattle.write_text.proofs.Prints.{printed-end}
 use Rattle.write_padding.specs.declared.PaddingPlan.{PaddingPlan}
 use Rattle.write_padding.specs.Plan.{planned}
 use Rattle.header_prefix.specs.Answer.{versionIs}
-use Rattle.write_padding.proofs.Plans.{chosen-back, told-long, told-fits}
+use Rattle.write_padding.proofs.Plans.{chosen-back, planned-too-long, planned-fits}
 use Rattle.write.specs.Writes.{headerWritten, WritesHeader, WritesRecord}
 use Rattle.write.proofs.Ascii.{text-ascii}
 
@@ -84,7 +83,7 @@ record Fits (x : Record) (p : PaddingPlan) : Type 0 where
 fits-by : (x : Record) (p : PaddingPlan) (a : Bool) (n : ℕ) → a ≡ isAscii (bareText x) → n ≡ length (bareText x) → gives p ≡ planned a n → Fits x p
 unfolding version textLength headerLength
 fits-by x p a n e z pl =
-    let y = rw (e, z) at (told-fits a n p pl .0) in
+    let y = rw (e, z) at (planned-fits a n p pl .0) in
     record {
       version-is = ap (λ (q : PaddingPlan). versionIs (q .version)) y ∙ chosen-back (versionFor (isAscii (bareText x)) (length (bareText x)));
       spaces-is = ap (λ (q : PaddingPlan). q .spaces) y;
@@ -140,24 +139,24 @@ module _ (t ns s : List ℕ) (o : Order) (x : Record) (h : printable t ns s o �
     unfolding textLength version
     record-4 why e =
         refused-by x room why
-        (four x room (limits-are t ns s o x is-checked) near-is (⊎-elim over within-most (lt-or-ge most-text n)) ∙ ap refused (told-long a n (numberOf why) e .0))
+        (four x room (limits-are t ns s o x is-checked) near-is (⊎-elim over within-most (lt-or-ge most-text n)) ∙ ap refused (planned-too-long a n (numberOf why) e .0))
       where
         over : most-text < n → most-text < textLength x
         over l = omega arith
 
         within-most : n ≤ most-text → most-text < textLength x
-        within-most few = rw (same-ascii, length-is few) at (told-long a n (numberOf why) e .1)
+        within-most few = rw (same-ascii, length-is few) at (planned-too-long a n (numberOf why) e .1)
 
     module _ (p : PaddingPlan) (fit : gives p ≡ planned a n) where
       few : n ≤ most-text
-      few = omega (arith, told-fits a n p fit .1)
+      few = omega (arith, planned-fits a n p fit .1)
 
       plan-fits : Fits x p
       plan-fits = fits-by x p a n same-ascii (length-is few) fit
 
       short : textLength x ≤ most-text
       unfolding textLength version
-      short = rw (same-ascii, length-is few) at (told-fits a n p fit .1)
+      short = rw (same-ascii, length-is few) at (planned-fits a n p fit .1)
 
       pub record-28 : length room < p .whole → WritesRecord x room (BytesAnswer.Refused OutputRoom) room
       record-28 l =
@@ -193,8 +192,8 @@ module _ (t ns s : List ℕ) (o : Order) (room : List ℕ) where
       go (shown x e near p) = absurd (let z : _≡_ {A = ℕ} 0 1 = cc in omega arith)
 
   -- and what was printed to scratch room is measured
-  pub header-measured : (bare : ℕ) → bare < 2 ^ 64 → (scratch mid : List ℕ) (r : Printed) → r ≡ Printed.End bare → Prints (printable t ns s o) scratch 0 r mid → (w : BytesAnswer) (out : List ℕ)
+  pub header-measured : (bare : ℕ) → bare < 2 ^ 64 → (scratch mid : List ℕ) (r : Printed) → r ≡ Printed.End bare → PrintsText (printable t ns s o) scratch 0 r mid → (w : BytesAnswer) (out : List ℕ)
       → ((x : Record) → printable t ns s o ≡ gives x → bare ≡ capped (length (bareText x)) → WritesRecord x room w out) → WritesHeader t ns s o room w out
   header-measured bare small scratch mid r z h w out k =
-      let u = told-end (printable t ns s o) scratch 0 bare mid (subst (λ (y : Printed). Prints (printable t ns s o) scratch 0 y mid) z h) in
+      let u = printed-end (printable t ns s o) scratch 0 bare mid (subst (λ (y : Printed). PrintsText (printable t ns s o) scratch 0 y mid) z h) in
       header-by (u .0) (can-print t ns s o (u .0) (u .1) .0) w out (k (u .0) (u .1) (omega (arith, u .2 .after [])))

@@ -18,17 +18,14 @@ use Rattle.type_letters.specs.declared.TypeChar.the-variants.{Bool as Boolean, 
 use Rattle.type_units.specs.declared.TimeUnits.{TimeUnits}
 use Rattle.type_units.specs.declared.TimeUnits.the-variants.{Absent, Year, Month, Week, Day, Hour, Minute, Second, Millisecond, Microsecond, Nanosecond, Picosecond, Femtosecond, Attosecond}
 use Rattle.type_str.specs.declared.TypeStr.{TypeStr}
-use Rattle.type_letters.specs.Orders.{orderByte}
-use Rattle.type_letters.specs.Letters.{letterByte}
+use Rattle.type_letters.specs.Letters.{orderByte, letterByte, isObject}
 use Rattle.type_units.specs.Units.{unitText}
-use Rattle.type_letters.specs.Classes.{isObject}
 use Rattle.type_str.specs.Text.{typeText}
-use Rattle.literal_grammar.specs.Print.{Layout, escapeOf, spelled, escapes, print, printRow}
+use Rattle.literal_grammar.specs.Print.{Layout, escapeOf, spelledByte, escapes, print, printRow}
 use Rattle.dtype.specs.declared.Order.{Order}
 use Rattle.dtype.specs.declared.Order.the-variants.{C, Fortran}
 use Rattle.dtype.specs.Dtype.{Dtype, Fields, plain, array, record-of, end-of-fields, field-then}
-use Rattle.dtype.specs.Names.{namesOf, namesIn}
-use Rattle.dtype.specs.Record.{names}
+use Rattle.dtype.specs.Record.{namesOf, namesIn, names}
 use Rattle.record.specs.Layout.{dimensionRow, shapeLayout, fieldLayout, levelsOf, descrLayout, fieldRow}
 use Rattle.record.specs.Padding.{isAscii}
 use Rattle.record.specs.File.{bareText}
@@ -113,12 +110,12 @@ shape-ascii [] r j h = refl
 shape-ascii (n ∷ s) r j h = row-ascii (n ∷ s) (41 ∷ r) j h
 
 -- ---- names
-spelled-ascii : (b : ℕ) (r : List ℕ) → isAscii (spelled (escapeOf b) b r) ≡ (ltb b 0x80 && isAscii r)
+spelled-ascii : (b : ℕ) (r : List ℕ) → isAscii (spelledByte (escapeOf b) b r) ≡ (ltb b 0x80 && isAscii r)
 unfolding escapeOf
 spelled-ascii b r = go (eqb b 92) (eqb b 39) (eqb b 13) (eqb b 10) refl refl refl refl
   where
     go : (c₁ c₂ c₃ c₄ : Bool) → eqb b 92 ≡ c₁ → eqb b 39 ≡ c₂ → eqb b 13 ≡ c₃ → eqb b 10 ≡ c₄
-        → isAscii (spelled (cond c₁ 92 (cond c₂ 39 (cond c₃ 114 (cond c₄ 110 0)))) b r) ≡ (ltb b 0x80 && isAscii r)
+        → isAscii (spelledByte (cond c₁ 92 (cond c₂ 39 (cond c₃ 114 (cond c₄ 110 0)))) b r) ≡ (ltb b 0x80 && isAscii r)
     go true c₂ c₃ c₄ e₁ e₂ e₃ e₄ = let z = eqb-true b 92 e₁ in rw z
     go false true c₃ c₄ e₁ e₂ e₃ e₄ = let z = eqb-true b 39 e₂ in rw z
     go false false true c₄ e₁ e₂ e₃ e₄ = let z = eqb-true b 13 e₃ in rw z

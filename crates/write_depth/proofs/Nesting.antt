@@ -16,38 +16,38 @@ use Rattle.dtype.specs.Agrees.{entryAt}
 use Rattle.dtype.proofs.Flat.{some-entry}
 use Rattle.record.specs.Layout.{dimensionRow, shapeLayout, levelsOf, fieldLayout, descrLayout, fieldRow}
 use Rattle.record.specs.Within.{within, allWithin}
-use Rattle.write_depth.specs.Listed.{Listed, ListedIn}
+use Rattle.write_depth.specs.Listed.{InTableAt, FieldsInTableAt}
 use Rattle.write_depth.proofs.UnderLevels.{innermostOf, Innermost}
 use Rattle.write_depth.proofs.Listing.{listed-entry, listed-room, listed-fields, listed-first, listed-later, innermost-descr, under-record}
 
 -- ---- `within`
 module _ (t : List ℕ) (e : ℕ) where
-  listed-inside : (d : Dtype) → Listed t e d → e < length t
+  listed-inside : (d : Dtype) → InTableAt t e d → e < length t
   listed-inside d l = omega (arith, listed-room t e d l, some-entry d)
 
   module _ (x : Entry) (q : x ≡ entryAt t e) (k : ℕ) where
-    kind-is : (d : Dtype) (l : Listed t e d) → x .kind ≡ entryOf d (l .up) (l .name) .kind
+    kind-is : (d : Dtype) (l : InTableAt t e d) → x .kind ≡ entryOf d (l .up) (l .name) .kind
     kind-is d l = ap (λ (a : Entry). a .kind) (q ∙ listed-entry t e d l)
 
-    pub plain-within : x .kind ≡ 0 → (d : Dtype) → Listed t e d → true ≡ within (valueOf (descrLayout d)) k
+    pub plain-within : x .kind ≡ 0 → (d : Dtype) → InTableAt t e d → true ≡ within (valueOf (descrLayout d)) k
     plain-within z (plain ty) l = refl
     plain-within z (array n d) l = absurd (omega (arith, kind-is (array n d) l))
     plain-within z (record-of fs) l = absurd (omega (arith, kind-is (record-of fs) l))
 
     module _ (not-plain : x .kind ≡ 0 → ⊥) (not-array : x .kind ≡ 1 → ⊥) where
-      fields-listed : (d : Dtype) × Listed t e d → (fs : Fields) × (x .number ≡ fieldCount fs) × ListedIn t (e + 1) fs
+      fields-listed : (d : Dtype) × InTableAt t e d → (fs : Fields) × (x .number ≡ fieldCount fs) × FieldsInTableAt t (e + 1) fs
       fields-listed (plain ty, l) = absurd (not-plain (kind-is (plain ty) l))
       fields-listed (array n d, l) = absurd (not-array (kind-is (array n d) l))
       fields-listed (record-of fs, l) = (fs, ap (λ (a : Entry). a .number) (q ∙ listed-entry t e (record-of fs) l), listed-fields t e fs l)
 
-      pub record-none : k ≡ 0 → (d : Dtype) → Listed t e d → false ≡ within (valueOf (descrLayout d)) k
+      pub record-none : k ≡ 0 → (d : Dtype) → InTableAt t e d → false ≡ within (valueOf (descrLayout d)) k
       record-none z (plain ty) l = absurd (not-plain (kind-is (plain ty) l))
       record-none z (array n d) l = absurd (not-array (kind-is (array n d) l))
       record-none z (record-of fs) l = rw z
 
       pub record-within : (k ≡ 0 → ⊥) → (r : Bool)
-          → ((fs : Fields) → x .number ≡ fieldCount fs → ListedIn t (e + 1) fs → r ≡ allWithin (valuesOf (fieldRow fs)) (k - 1))
-          → (d : Dtype) → Listed t e d → r ≡ within (valueOf (descrLayout d)) k
+          → ((fs : Fields) → x .number ≡ fieldCount fs → FieldsInTableAt t (e + 1) fs → r ≡ allWithin (valuesOf (fieldRow fs)) (k - 1))
+          → (d : Dtype) → InTableAt t e d → r ≡ within (valueOf (descrLayout d)) k
       record-within z r h (plain ty) l = absurd (not-plain (kind-is (plain ty) l))
       record-within z r h (array n d) l = absurd (not-array (kind-is (array n d) l))
       record-within z r h (record-of fs) l =
@@ -55,16 +55,16 @@ module _ (t : List ℕ) (e : ℕ) where
           rw v (h fs (ap (λ (a : Entry). a .number) (q ∙ listed-entry t e (record-of fs) l)) (listed-fields t e fs l))
 
 -- ---- `within` where the type is under array levels: its entry is r
-module _ (t : List ℕ) (e r : ℕ) (under : (d : Dtype) → Listed t e d → Innermost t e d r) where
-  pub under-inside : (d : Dtype) → Listed t e d → (e ≤ r) × (r < length t)
+module _ (t : List ℕ) (e r : ℕ) (under : (d : Dtype) → InTableAt t e d → Innermost t e d r) where
+  pub under-inside : (d : Dtype) → InTableAt t e d → (e ≤ r) × (r < length t)
   under-inside d l = (omega (arith, under d l .passed), listed-inside t r (innermostOf d) (under d l .listed))
 
-  pub under-within : (k : ℕ) (a : Bool) → ((d : Dtype) → Listed t r d → a ≡ within (valueOf (descrLayout d)) k)
-      → (d : Dtype) → Listed t e d → a ≡ within (valueOf (descrLayout d)) k
+  pub under-within : (k : ℕ) (a : Bool) → ((d : Dtype) → InTableAt t r d → a ≡ within (valueOf (descrLayout d)) k)
+      → (d : Dtype) → InTableAt t e d → a ≡ within (valueOf (descrLayout d)) k
   under-within k a h d l = h (innermostOf d) (under d l .listed) ∙ ap (λ (y : Layout). within (valueOf y) k) (innermost-descr d)
 
   module _ (x : Entry) (q : x ≡ entryAt t r) (not-plain : x .kind ≡ 0 → ⊥) where
-    pub under-listed : (d : Dtype) × Listed t e d → (fs : Fields) × (x .number ≡ fieldCount fs) × ListedIn t (r + 1) fs
+    pub under-listed : (d : Dtype) × InTableAt t e d → (fs : Fields) × (x .number ≡ fieldCount fs) × FieldsInTableAt t (r + 1) fs
     under-listed (d, l) = fields-listed t r x q 0 not-plain (under-record t e r under x q d l) (innermostOf d, under d l .listed)
 
 -- ---- a field
@@ -115,12 +115,12 @@ field-as name (record-of fs) (suc k) h =
 -- ---- `fields_within`: what is left of the fields decides
 pub record Passing (t : List ℕ) (e k c left : ℕ) (fs : Fields) : Type 0 where
   pub still : Fields
-  pub listed : ListedIn t c still
+  pub listed : FieldsInTableAt t c still
   pub counted : left ≡ fieldCount still
   pub further : e ≤ c
   pub decides : allWithin (valuesOf (fieldRow fs)) k ≡ allWithin (valuesOf (fieldRow still)) k
 
-pub passing-start : (t : List ℕ) (e k count : ℕ) (fs : Fields) → count ≡ fieldCount fs → ListedIn t e fs → Passing t e k e count fs
+pub passing-start : (t : List ℕ) (e k count : ℕ) (fs : Fields) → count ≡ fieldCount fs → FieldsInTableAt t e fs → Passing t e k e count fs
 passing-start t e k count fs n l = record { still = fs; listed = l; counted = n; further = omega arith; decides = refl }
 
 pub passing-end : (t : List ℕ) (e k c left : ℕ) (fs : Fields) → Passing t e k c left fs → left ≤ 0 → true ≡ allWithin (valuesOf (fieldRow fs)) k
@@ -132,10 +132,10 @@ passing-end t e k c left fs g none = go (g .still) (g .counted) (g .decides)
 
 module _ (t : List ℕ) (e k c left : ℕ) (fs : Fields) (g : Passing t e k c left fs) (more : 0 < left) (x : Entry) (q : x ≡ entryAt t c) where
   -- the dtype of the next field lies in the table
-  pub passing-asks : (d : Dtype) × Listed t c d × (c + x .extent ≤ length t)
+  pub passing-asks : (d : Dtype) × InTableAt t c d × (c + x .extent ≤ length t)
   passing-asks = go (g .still) (g .counted) (g .listed)
     where
-      go : (gs : Fields) → left ≡ fieldCount gs → ListedIn t c gs → (d : Dtype) × Listed t c d × (c + x .extent ≤ length t)
+      go : (gs : Fields) → left ≡ fieldCount gs → FieldsInTableAt t c gs → (d : Dtype) × InTableAt t c d × (c + x .extent ≤ length t)
       go end-of-fields n l = absurd (omega arith)
       go (field-then name d gs) n l =
           let f = listed-first t c name d gs l in
@@ -145,15 +145,15 @@ module _ (t : List ℕ) (e k c left : ℕ) (fs : Fields) (g : Passing t e k c le
   pub passing-few : k < opens (x .kind) → false ≡ allWithin (valuesOf (fieldRow fs)) k
   passing-few h = go (g .still) (g .counted) (g .listed) (g .decides)
     where
-      go : (gs : Fields) → left ≡ fieldCount gs → ListedIn t c gs → allWithin (valuesOf (fieldRow fs)) k ≡ allWithin (valuesOf (fieldRow gs)) k
+      go : (gs : Fields) → left ≡ fieldCount gs → FieldsInTableAt t c gs → allWithin (valuesOf (fieldRow fs)) k ≡ allWithin (valuesOf (fieldRow gs)) k
           → false ≡ allWithin (valuesOf (fieldRow fs)) k
       go end-of-fields n l u = absurd (omega arith)
       go (field-then name d gs) n l u =
           let z : x .kind ≡ kindColumn d = ap (λ (a : Entry). a .kind) (q ∙ listed-entry t c d (listed-first t c name d gs l)) in
           sym (u ∙ ap (λ (b : Bool). b && allWithin (valuesOf (fieldRow gs)) k) (field-few name d k (rw z at h)))
 
-  module _ (enough : opens (x .kind) ≤ k) (r : Bool) (inner : (d : Dtype) → Listed t c d → r ≡ within (valueOf (descrLayout d)) (k - 1)) where
-    first-is : (name : List ℕ) (d : Dtype) (gs : Fields) → ListedIn t c (field-then name d gs) → within (fieldOf name d) k ≡ r
+  module _ (enough : opens (x .kind) ≤ k) (r : Bool) (inner : (d : Dtype) → InTableAt t c d → r ≡ within (valueOf (descrLayout d)) (k - 1)) where
+    first-is : (name : List ℕ) (d : Dtype) (gs : Fields) → FieldsInTableAt t c (field-then name d gs) → within (fieldOf name d) k ≡ r
     first-is name d gs l =
         let f = listed-first t c name d gs l in
         let z : x .kind ≡ kindColumn d = ap (λ (a : Entry). a .kind) (q ∙ listed-entry t c d f) in
@@ -162,7 +162,7 @@ module _ (t : List ℕ) (e k c left : ℕ) (fs : Fields) (g : Passing t e k c le
     pub passing-no : r ≡ false → false ≡ allWithin (valuesOf (fieldRow fs)) k
     passing-no is-no = go (g .still) (g .counted) (g .listed) (g .decides)
       where
-        go : (gs : Fields) → left ≡ fieldCount gs → ListedIn t c gs → allWithin (valuesOf (fieldRow fs)) k ≡ allWithin (valuesOf (fieldRow gs)) k
+        go : (gs : Fields) → left ≡ fieldCount gs → FieldsInTableAt t c gs → allWithin (valuesOf (fieldRow fs)) k ≡ allWithin (valuesOf (fieldRow gs)) k
             → false ≡ allWithin (valuesOf (fieldRow fs)) k
         go end-of-fields n l u = absurd (omega arith)
         go (field-then name d gs) n l u =
@@ -171,7 +171,7 @@ module _ (t : List ℕ) (e k c left : ℕ) (fs : Fields) (g : Passing t e k c le
     pub passing-more : r ≡ true → Passing t e k (c + x .extent) (left - 1) fs
     passing-more is-yes = go (g .still) (g .counted) (g .listed) (g .decides)
       where
-        go : (gs : Fields) → left ≡ fieldCount gs → ListedIn t c gs → allWithin (valuesOf (fieldRow fs)) k ≡ allWithin (valuesOf (fieldRow gs)) k
+        go : (gs : Fields) → left ≡ fieldCount gs → FieldsInTableAt t c gs → allWithin (valuesOf (fieldRow fs)) k ≡ allWithin (valuesOf (fieldRow gs)) k
             → Passing t e k (c + x .extent) (left - 1) fs
         go end-of-fields n l u = absurd (omega arith)
         go (field-then name d gs) n l u =

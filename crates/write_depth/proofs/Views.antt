@@ -18,14 +18,14 @@ use Rattle.check_record.specs.Answer.{summary}
 use Rattle.check_record.specs.declared.Summary.{Summary}
 use Rattle.check_record.specs.Valid.{made, Valid}
 use Rattle.check_record.proofs.Accepts.{accepts-valid}
-use Rattle.write_depth.specs.Listed.{Listed}
+use Rattle.write_depth.specs.Listed.{InTableAt}
 use Rattle.write_depth.specs.Printable.{printable}
 use Rattle.write_depth.proofs.Nesting.{shape-within}
 
 pub same-number : {A B : Type 0} (n m : ℕ) → _≡_ {A = Outcome A} (refused n) (refused m) → _≡_ {A = Outcome B} (refused n) (refused m)
 same-number n m e = let z : n ≡ m = cc in ap refused z
 
-pub valid-listed : (t ns s : List ℕ) (o : Order) (d : Dtype) → Valid t ns s o (made d s o) → Listed t 0 d
+pub valid-listed : (t ns s : List ℕ) (o : Order) (d : Dtype) → Valid t ns s o (made d s o) → InTableAt t 0 d
 valid-listed t ns s o d v = record { up = 0; name = 0; rest = []; is = v .table-is }
 
 -- the dict opens one bracket, and a shape one in it
@@ -62,22 +62,22 @@ module _ (t ns s : List ℕ) (o : Order) where
       go (too-deep x c w p) = gives-refused (sym (h ∙ ap (λ (y : Outcome Record). each summary y) c))
       go (shown x c w p) = gives-refused (sym (h ∙ ap (λ (y : Outcome Record). each summary y) c))
 
-  made-of : (x : Record) → checkedRecord t ns s o ≡ gives x → (d : Dtype) × (x ≡ made d s o) × Listed t 0 d
+  made-of : (x : Record) → checkedRecord t ns s o ≡ gives x → (d : Dtype) × (x ≡ made d s o) × InTableAt t 0 d
   made-of x c = let u = accepts-valid t ns s o x c in (u .0, u .1, valid-listed t ns s o (u .0) (u .2))
 
   module _ (f : Summary) (h : gives f ≡ each summary (checkedRecord t ns s o)) where
     not-refused : {A : Type 0} (k : ℕ) → checkedRecord t ns s o ≡ refused k → A
     not-refused k c = gives-refused (h ∙ ap (λ (y : Outcome Record). each summary y) c)
 
-    pub accepted-listed : (d : Dtype) × Listed t 0 d
+    pub accepted-listed : (d : Dtype) × InTableAt t 0 d
     accepted-listed = go view
       where
-        go : View t ns s o → (d : Dtype) × Listed t 0 d
+        go : View t ns s o → (d : Dtype) × InTableAt t 0 d
         go (unread k c p) = not-refused k c
         go (too-deep x c w p) = let u = made-of x c in (u .0, u .2)
         go (shown x c w p) = let u = made-of x c in (u .0, u .2)
 
-    module _ (r : Bool) (near : (d : Dtype) → Listed t 0 d → r ≡ within (valueOf (descrLayout d)) 31) where
+    module _ (r : Bool) (near : (d : Dtype) → InTableAt t 0 d → r ≡ within (valueOf (descrLayout d)) 31) where
       brackets-are : (x : Record) → checkedRecord t ns s o ≡ gives x → r ≡ within (valueOf (headerLayout x)) 32
       brackets-are x c =
           let u = made-of x c in

@@ -5,18 +5,18 @@ use mathlib.Core.Path.{_≡_}
 use mathlib.Core.List.{List}
 use lib.ListN.{drop}
 use Rattle.dtype.specs.Dtype.{Dtype, Fields}
-use Rattle.dtype.specs.Flat.{entry-width, flat, flats}
+use Rattle.dtype.specs.Record.{entry-width, flat, flats}
 use Rattle.dtype.specs.Agrees.{entryAt}
 
 -- d is listed in a table from entry e on
-pub record Listed (t : List ℕ) (e : ℕ) (d : Dtype) : Type 0 where
+pub record InTableAt (t : List ℕ) (e : ℕ) (d : Dtype) : Type 0 where
   pub up : ℕ
   pub name : ℕ
   pub rest : List ℕ
   pub is : drop (entry-width * e) t ≡ flat d e up name rest
 
 -- and so are fields
-pub record ListedIn (t : List ℕ) (e : ℕ) (fs : Fields) : Type 0 where
+pub record FieldsInTableAt (t : List ℕ) (e : ℕ) (fs : Fields) : Type 0 where
   pub up : ℕ
   pub rest : List ℕ
   pub is : drop (entry-width * e) t ≡ flats fs e up rest

@@ -15,11 +15,11 @@ ghost use Rattle.dtype.specs.Entries.{fieldCount};
 ghost use Rattle.record.specs.Layout.{descrLayout, fieldRow};
 ghost use Rattle.record.specs.Within.{within as isWithin, allWithin};
 ghost use Rattle.check_record.specs.Answer.{summary, answer};
-ghost use Rattle.write_depth.specs.Listed.{Listed, ListedIn, Under};
+ghost use Rattle.write_depth.specs.Listed.{InTableAt, FieldsInTableAt, Under};
 ghost use Rattle.write_depth.specs.Printable.{printable};
 
 // How many brackets may be open at once inside the dict's own.
-const IN_DICT: u64 = literal_grammar::OPEN as u64 - 1;
+const IN_DICT: u64 = literal_grammar::MOST_OPEN as u64 - 1;
 
 // The check of check_record, and then 7.
 pub fn check(table: &[u64], names: &[u8], shape: &[u64], order: Order) -> Checked
@@ -52,8 +52,8 @@ pub fn innermost(table: &[u64], e: usize) -> usize
 
 // Whether at most k brackets are open at once in the text of the dtype at entry e.
 fn within(table: &[u64], e: usize, k: u64) -> bool
-    requires { ⌜ ((d : Dtype) × Listed (now table) e d) ⌝ }
-    ensures { λ r. ⌜ ((d : Dtype) → Listed (now (table .entry)) e d → r ≡ isWithin (valueOf (descrLayout d)) k) ⌝ }
+    requires { ⌜ ((d : Dtype) × InTableAt (now table) e d) ⌝ }
+    ensures { λ r. ⌜ ((d : Dtype) → InTableAt (now (table .entry)) e d → r ≡ isWithin (valueOf (descrLayout d)) k) ⌝ }
 {
     let under = innermost(table, e);
     let entry = table_entry::entry_at(table, under);
@@ -68,8 +68,8 @@ fn within(table: &[u64], e: usize, k: u64) -> bool
 
 // The same for `count` fields, the first at entry e.
 fn fields_within(table: &[u64], count: u64, e: usize, k: u64) -> bool
-    requires { ⌜ ((fs : Fields) × (count ≡ fieldCount fs) × ListedIn (now table) e fs) ⌝ }
-    ensures { λ r. ⌜ ((fs : Fields) → count ≡ fieldCount fs → ListedIn (now (table .entry)) e fs → r ≡ allWithin (valuesOf (fieldRow fs)) k) ⌝ }
+    requires { ⌜ ((fs : Fields) × (count ≡ fieldCount fs) × FieldsInTableAt (now table) e fs) ⌝ }
+    ensures { λ r. ⌜ ((fs : Fields) → count ≡ fieldCount fs → FieldsInTableAt (now (table .entry)) e fs → r ≡ allWithin (valuesOf (fieldRow fs)) k) ⌝ }
 {
     let mut c = e;
     let mut left = count;

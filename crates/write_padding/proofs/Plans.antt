@@ -6,8 +6,7 @@ use mathlib.Core.Bool.{Bool, true, false}
 use borrow.Author.Tests.{le-leb, lt-leb, lt-ltb, le-ltb, ltb-true, ltb-false}
 use lib.Dec.{leb, ltb}
 use Rattle.counts.specs.Outcome.{gives, refused, unless}
-use Rattle.record.specs.Version.{Version, one-zero, two-zero, three-zero, lengthWidth, textStart}
-use Rattle.record.specs.Prefix.{most-text}
+use Rattle.record.specs.Prefix.{Version, one-zero, two-zero, three-zero, lengthWidth, textStart, most-text}
 use Rattle.record.specs.Padding.{padding-unit, spacesAfter, paddedLength, versionFor}
 use Rattle.header_prefix.specs.declared.Version.{Version as Chosen}
 use Rattle.header_prefix.specs.declared.Version.the-variants.{OneZero, TwoZero, ThreeZero}
@@ -69,18 +68,18 @@ module _ (ascii : Bool) (n : ℕ) (v : Chosen) (w k : ℕ) (a : v ≡ chosen (ve
       (8 + w + (n + (k + 1))) (textStart (versionFor ascii n) + paddedLength (versionFor ascii n) n) a spaces-are (omega (arith, spaces-are)) (omega (arith, spaces-are, width-is))))
 
 -- ---- what follows from an answer
-pub told-long : (ascii : Bool) (n k : ℕ) → refused k ≡ planned ascii n → (4 ≡ k) × (most-text < paddedLength (versionFor ascii n) n)
+pub planned-too-long : (ascii : Bool) (n k : ℕ) → refused k ≡ planned ascii n → (4 ≡ k) × (most-text < paddedLength (versionFor ascii n) n)
 unfolding planned
-told-long ascii n k e = go (ltb most-text (paddedLength (versionFor ascii n) n)) refl e
+planned-too-long ascii n k e = go (ltb most-text (paddedLength (versionFor ascii n) n)) refl e
   where
     go : (b : Bool) → ltb most-text (paddedLength (versionFor ascii n) n) ≡ b → refused k ≡ unless b 4 (gives (planWith (versionFor ascii n) n))
         → (4 ≡ k) × (most-text < paddedLength (versionFor ascii n) n)
     go true t e = (cc, ltb-true most-text (paddedLength (versionFor ascii n) n) t)
     go false t e = let z : _≡_ {A = ℕ} 0 1 = cc in absurd (omega arith)
 
-pub told-fits : (ascii : Bool) (n : ℕ) (p : PaddingPlan) → gives p ≡ planned ascii n → (p ≡ planWith (versionFor ascii n) n) × (paddedLength (versionFor ascii n) n ≤ most-text)
+pub planned-fits : (ascii : Bool) (n : ℕ) (p : PaddingPlan) → gives p ≡ planned ascii n → (p ≡ planWith (versionFor ascii n) n) × (paddedLength (versionFor ascii n) n ≤ most-text)
 unfolding planned
-told-fits ascii n p e = go (ltb most-text (paddedLength (versionFor ascii n) n)) refl e
+planned-fits ascii n p e = go (ltb most-text (paddedLength (versionFor ascii n) n)) refl e
   where
     go : (b : Bool) → ltb most-text (paddedLength (versionFor ascii n) n) ≡ b → gives p ≡ unless b 4 (gives (planWith (versionFor ascii n) n))
         → (p ≡ planWith (versionFor ascii n) n) × (paddedLength (versionFor ascii n) n ≤ most-text)

@@ -11,8 +11,7 @@ use Rattle.emit.proofs.Pieces.{emits-then, emits-same, emits-length}
 use Rattle.literal_grammar.specs.Print.{spaces}
 use Rattle.type_letters.specs.declared.Endianness.the-variants.{Little}
 use Rattle.number_bytes.specs.Numbers.{leastBytes, outOrder}
-use Rattle.record.specs.Version.{Version, one-zero, two-zero, three-zero, major, lengthWidth}
-use Rattle.record.specs.Prefix.{magic}
+use Rattle.record.specs.Prefix.{Version, one-zero, two-zero, three-zero, major, lengthWidth, magic}
 use Rattle.record.specs.File.{fileBy}
 use Rattle.header_prefix.specs.declared.Version.{Version as Chosen}
 use Rattle.header_prefix.specs.Answer.{versionIs}

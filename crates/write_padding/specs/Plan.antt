@@ -5,8 +5,7 @@ use Prim.Native.Nat.{ℕ, _+_}
 use mathlib.Core.Bool.{Bool}
 use lib.Dec.{ltb}
 use Rattle.counts.specs.Outcome.{Outcome, gives, refused, unless}
-use Rattle.record.specs.Version.{Version, one-zero, two-zero, three-zero, textStart}
-use Rattle.record.specs.Prefix.{most-text}
+use Rattle.record.specs.Prefix.{Version, one-zero, two-zero, three-zero, textStart, most-text}
 use Rattle.record.specs.Padding.{spacesAfter, paddedLength, versionFor}
 use Rattle.refusal.specs.Numbers.{numberOf}
 use Rattle.header_prefix.specs.declared.Version.{Version as Chosen}

@@ -18,6 +18,9 @@ ghost use Rattle.write_padding.specs.Plan.{chosen, planned, answer};
 // Prefix and text together are a multiple of this.
 const PADDING_UNIT: usize = 16;
 
+// The bytes before the text of (1,0).
+const SHORT_PREFIX: usize = 10;
+
 // The longest text that (1,0) has.
 const MOST_SHORT: usize = 65535;
 
@@ -46,14 +49,14 @@ fn spaces_after(n: usize) -> usize
 }
 
 // The version of a text of n bytes: whether (1,0) can hold it is asked with its own prefix of 10 bytes.
-fn version_for(ascii: bool, n: usize) -> Version
+fn chosen_version(ascii: bool, n: usize) -> Version
     requires { ⌜ n ≤ most-text ⌝ }
     ensures { λ r. ⌜ r ≡ chosen (versionFor ascii n) ⌝ }
 {
     if !ascii {
         return Version::ThreeZero;
     }
-    if n + (spaces_after(10 + n) + 1) <= MOST_SHORT {
+    if n + (spaces_after(SHORT_PREFIX + n) + 1) <= MOST_SHORT {
         Version::OneZero
     } else {
         Version::TwoZero
@@ -67,7 +70,7 @@ pub fn plan_for(ascii: bool, n: usize) -> Planned
     if LONGEST < n {
         return Planned::Refused(Refusal::LongText);
     }
-    let version = version_for(ascii, n);
+    let version = chosen_version(ascii, n);
     let start = 8 + version.length_width();
     let spaces = spaces_after(start + n);
     let text = n + (spaces + 1);

@@ -6,20 +6,20 @@ use mathlib.Core.List.{List, [], _∷_, _++_}
 use Rattle.decimal.specs.Decimal.{printed}
 use Rattle.emit.specs.Emits.{Emits}
 use Rattle.emit.proofs.Pieces.{emits-then, emits-same}
-use Rattle.literal_grammar.specs.Print.{escapeOf, spelled, print, printRow}
+use Rattle.literal_grammar.specs.Print.{escapeOf, spelledByte, print, printRow}
 use Rattle.record.specs.Layout.{dimensionRow, shapeLayout}
 use Rattle.write_pieces.specs.Pieces.{numbersBetween}
 
 pub spelled-raw : (b e : ℕ) (old : List ℕ) (at : ℕ) (out : List ℕ) (p : ℕ) → e ≡ escapeOf b → e ≡ 0 → Emits (λ x. b ∷ x) old at out p
-    → Emits (spelled (escapeOf b) b) old at out p
-spelled-raw b zero old at out p e z h = subst (λ (c : ℕ). Emits (spelled c b) old at out p) e h
+    → Emits (spelledByte (escapeOf b) b) old at out p
+spelled-raw b zero old at out p e z h = subst (λ (c : ℕ). Emits (spelledByte c b) old at out p) e h
 spelled-raw b (suc c) old at out p e z h = absurd (let y : _≡_ {A = ℕ} 0 1 = cc in omega arith)
 
 pub spelled-escape : (b e : ℕ) (old : List ℕ) (at : ℕ) (mid : List ℕ) (p : ℕ) (out : List ℕ) (q : ℕ) → e ≡ escapeOf b → (e ≡ 0 → ⊥)
-    → Emits (λ x. 92 ∷ x) old at mid p → Emits (λ x. e ∷ x) mid p out q → Emits (spelled (escapeOf b) b) old at out q
+    → Emits (λ x. 92 ∷ x) old at mid p → Emits (λ x. e ∷ x) mid p out q → Emits (spelledByte (escapeOf b) b) old at out q
 spelled-escape b zero old at mid p out q e n h k = absurd (n refl)
 spelled-escape b (suc c) old at mid p out q e n h k =
-    subst (λ (i : ℕ). Emits (spelled i b) old at out q) e (emits-then (λ x. 92 ∷ x) (λ x. suc c ∷ x) old at mid p out q h k)
+    subst (λ (i : ℕ). Emits (spelledByte i b) old at out q) e (emits-then (λ x. 92 ∷ x) (λ x. suc c ∷ x) old at mid p out q h k)
 
 -- a piece between two bytes
 pub between : (a b : ℕ) (f : List ℕ → List ℕ) (old : List ℕ) (at : ℕ) (m₁ : List ℕ) (p₁ : ℕ) (m₂ : List ℕ) (p₂ : ℕ) (out : List ℕ) (q : ℕ)
@@ -42,7 +42,7 @@ shape-emits s old at out p h = emits-same (λ x. 40 ∷ numbersBetween [] (44 �
 
 -- what the loops put for one byte and for one number
 abbrev pub spelled-as : ℕ → List ℕ → List ℕ
-spelled-as b x = spelled (escapeOf b) b x
+spelled-as b x = spelledByte (escapeOf b) b x
 
 abbrev pub one-between : (before after : List ℕ) → ℕ → List ℕ → List ℕ
 one-between before after n x = before ++ printed n (after ++ x)

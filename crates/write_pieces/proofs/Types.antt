@@ -15,12 +15,10 @@ use Rattle.type_letters.specs.declared.TypeChar.the-variants.{Bool as Boolean, 
 use Rattle.type_units.specs.declared.TimeUnits.{TimeUnits}
 use Rattle.type_units.specs.declared.TimeUnits.the-variants.{Absent, Year, Month, Week, Day, Hour, Minute, Second, Millisecond, Microsecond, Nanosecond, Picosecond, Femtosecond, Attosecond}
 use Rattle.type_str.specs.declared.TypeStr.{TypeStr}
-use Rattle.type_letters.specs.Orders.{orderByte}
-use Rattle.type_letters.specs.Letters.{letterByte}
+use Rattle.type_letters.specs.Letters.{orderByte, letterByte, isObject}
 use Rattle.type_units.specs.Units.{unitText}
-use Rattle.type_letters.specs.Classes.{isObject}
 use Rattle.type_str.specs.Text.{typeText}
-use Rattle.literal_grammar.specs.Print.{escapeOf, spelled, escapes, quote, print}
+use Rattle.literal_grammar.specs.Print.{escapeOf, spelledByte, escapes, quote, print}
 use Rattle.emit.specs.Emits.{Emits}
 use Rattle.emit.proofs.Pieces.{emits-none, emits-same}
 use Rattle.write_pieces.specs.Pieces.{typePiece}
@@ -68,7 +66,7 @@ units-plain Femtosecond r = refl
 units-plain Attosecond r = refl
 
 one-plain : (b : ℕ) (w r : List ℕ) → escapeOf b ≡ 0 → escapes (b ∷ w) r ≡ b ∷ escapes w r
-one-plain b w r e = ap (λ (c : ℕ). spelled c b (escapes w r)) e
+one-plain b w r e = ap (λ (c : ℕ). spelledByte c b (escapes w r)) e
 
 number-plain : (n : ℕ) (w r : List ℕ) → escapes (printed n w) r ≡ printed n (escapes w r)
 number-plain = by-tens (λ n. (w r : List ℕ) → escapes (printed n w) r ≡ printed n (escapes w r))

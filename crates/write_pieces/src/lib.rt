@@ -8,7 +8,7 @@ ghost use mathlib.Core.Path.{_≡_};
 ghost use mathlib.Core.List.{_∷_, _++_};
 ghost use Rattle.decimal.specs.Decimal.{printed};
 ghost use Rattle.emit.specs.Emits.{Emits};
-ghost use Rattle.literal_grammar.specs.Print.{escapeOf, spelled, escapes, quote, print, printRow, wordText};
+ghost use Rattle.literal_grammar.specs.Print.{escapeOf, spelledByte, escapes, quote, print, printRow, wordText};
 ghost use Rattle.record.specs.Layout.{dimensionRow, shapeLayout, isFortran};
 ghost use Rattle.table_entry.specs.EntryType.{typeOf};
 ghost use Rattle.write_pieces.specs.Pieces.{numbersBetween, typePiece, levelsAt, openText, closeText, restText};
@@ -28,7 +28,7 @@ fn escape_of(b: u8) -> u8
 
 // Puts one byte of a name.
 fn put_spelled(out: &mut [u8], at: usize, b: u8) -> usize
-    ensures { λ r. ⌜ Emits (spelled (escapeOf b) b) (now (out .entry)) at (now (out .exit)) r ⌝ }
+    ensures { λ r. ⌜ Emits (spelledByte (escapeOf b) b) (now (out .entry)) at (now (out .exit)) r ⌝ }
 {
     let letter = escape_of(b);
     if letter == 0 {

@@ -7,19 +7,19 @@ use lib.ListN.{length}
 use Rattle.dtype.specs.declared.Entry.{Entry}
 use Rattle.dtype.specs.Dtype.{Dtype, plain, array, record-of}
 use Rattle.dtype.specs.Entries.{entriesOf, levels}
-use Rattle.dtype.specs.Names.{namesOf, nameBytes}
+use Rattle.dtype.specs.Record.{namesOf, nameBytes}
 use Rattle.dtype.specs.Agrees.{entryAt}
 use Rattle.dtype.proofs.Flat.{some-entry}
 use Rattle.record.specs.Layout.{levelsOf}
 use Rattle.check_table.specs.Reading.{untyped}
-use Rattle.write_depth.specs.Listed.{Listed}
+use Rattle.write_depth.specs.Listed.{InTableAt}
 use Rattle.write_depth.proofs.UnderLevels.{innermostOf}
 use Rattle.write_depth.proofs.Listing.{listed-entry, listed-room, listed-inner, kind-at}
 use Rattle.write_pieces.specs.Pieces.{levelsFrom}
 use Rattle.write_pieces.proofs.Levels.{levels-more, levels-none}
 
 -- ---- the array levels in the table are the dtype's
-pub levels-listed : (k : ℕ) (t : List ℕ) (e : ℕ) (d : Dtype) → Listed t e d → length t ≤ k + e → levelsFrom k t e ≡ levelsOf d
+pub levels-listed : (k : ℕ) (t : List ℕ) (e : ℕ) (d : Dtype) → InTableAt t e d → length t ≤ k + e → levelsFrom k t e ≡ levelsOf d
 levels-listed k t e (plain ty) l h = levels-none t e k (λ z. omega (arith, kind-at t e (plain ty) l))
 levels-listed zero t e (array n d) l h = absurd (omega (arith, listed-room t e (array n d) l, some-entry (array n d)))
 levels-listed (suc k) t e (array n d) l h =

@@ -14,7 +14,7 @@ use Rattle.dtype.specs.Record.{Record}
 use Rattle.record.specs.Layout.{headerLayout}
 use Rattle.write_depth.specs.Printable.{printable}
 use Rattle.write_text.specs.declared.Printed.{Printed}
-use Rattle.write_text.specs.Prints.{answer, Prints}
+use Rattle.write_text.specs.Prints.{answer, PrintsText}
 
 same : (r : Printed) → answerFor Printed.End Printed.Refused (answer r) ≡ r
 same (Printed.End p) = refl
@@ -31,7 +31,7 @@ end-eq x y out out′ p q e f g = parts (ap (λ (r : List ℕ × ℕ). r .1) g) 
     parts a b = cc
 
 pub put-text-one : (t ns s : List ℕ) (o : Order) (old : List ℕ) (at : ℕ)
-    → OneOutcome {A = Printed × List ℕ} (λ r. Prints (printable t ns s o) old at (r .0) (r .1) × Small (r .0))
+    → OneOutcome {A = Printed × List ℕ} (λ r. PrintsText (printable t ns s o) old at (r .0) (r .1) × Small (r .0))
 put-text-one t ns s o old at x y (p, small) (q, small′) = go (printable t ns s o) refl
   where
     go : (c : Outcome Record) → printable t ns s o ≡ c → x ≡ y

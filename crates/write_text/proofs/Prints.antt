@@ -21,14 +21,14 @@ use Rattle.write_depth.specs.Printable.{printable}
 use Rattle.write_depth.proofs.Views.{same-number, valid-listed, View, unread, too-deep, shown, view}
 use Rattle.write_text.specs.declared.Printed.{Printed}
 use Rattle.write_text.specs.Walk.{ListedNamed}
-use Rattle.write_text.specs.Prints.{answer, Prints}
+use Rattle.write_text.specs.Prints.{answer, PrintsText}
 
 -- ---- an answer, once it is known what there is to print
 module _ (c : Outcome Record) (old : List ℕ) (at : ℕ) where
-  pub prints-refused : (w : Printed) (n : ℕ) → answer w ≡ refused n → c ≡ refused n → Prints c old at w old
+  pub prints-refused : (w : Printed) (n : ℕ) → answer w ≡ refused n → c ≡ refused n → PrintsText c old at w old
   prints-refused w n a e = record { printed = λ x g. gives-refused (sym g ∙ e); unprinted = λ m g. (a ∙ same-number n m (sym e ∙ g), refl) }
 
-  prints-gives : (x : Record) → c ≡ gives x → (out : List ℕ) (p : ℕ) → Emits (print (headerLayout x)) old at out p → Prints c old at (Printed.End p) out
+  prints-gives : (x : Record) → c ≡ gives x → (out : List ℕ) (p : ℕ) → Emits (print (headerLayout x)) old at out p → PrintsText c old at (Printed.End p) out
   prints-gives x e out p h =
       record {
         printed = λ y g. (p, refl, subst (λ (z : Record). Emits (print (headerLayout z)) old at out p) (gives-apart (sym e ∙ g)) h);
@@ -59,7 +59,7 @@ module _ (t ns s : List ℕ) (o : Order) where
       go (refused m) e = same-number m k (sym e)
 
   pub accepted-text : (f : Summary) → gives f ≡ each summary (printable t ns s o) → (old : List ℕ) (at : ℕ) (out : List ℕ) (p : ℕ)
-      → ((d : Dtype) → ListedNamed t ns 0 0 d → Emits (print (headerLayout (made d s o))) old at out p) → Prints (printable t ns s o) old at (Printed.End p) out
+      → ((d : Dtype) → ListedNamed t ns 0 0 d → Emits (print (headerLayout (made d s o))) old at out p) → PrintsText (printable t ns s o) old at (Printed.End p) out
   accepted-text f h old at out p e =
       let u = accepted f h in
       prints-gives (printable t ns s o) old at (made (u .0) s o) (u .1) out p (e (u .0) (u .2))
@@ -69,18 +69,18 @@ place-one : (p q : ℕ) → Printed.End p ≡ Printed.End q → p ≡ q
 place-one p q e = cc
 
 module _ (c : Outcome Record) (old : List ℕ) (at : ℕ) where
-  pub text-at : (x : Record) → c ≡ gives x → (r : Printed) (p : ℕ) → r ≡ Printed.End p → (out : List ℕ) → Prints c old at r out → Emits (print (headerLayout x)) old at out p
+  pub text-at : (x : Record) → c ≡ gives x → (r : Printed) (p : ℕ) → r ≡ Printed.End p → (out : List ℕ) → PrintsText c old at r out → Emits (print (headerLayout x)) old at out p
   text-at x e r p z out h = let u = h .printed x e in subst (λ (q : ℕ). Emits (print (headerLayout x)) old at out q) (place-one (u .0) p (sym (u .1) ∙ z)) (u .2)
 
-  pub told-end : (p : ℕ) (out : List ℕ) → Prints c old at (Printed.End p) out → (x : Record) × (c ≡ gives x) × Emits (print (headerLayout x)) old at out p
-  told-end p out h = go c refl
+  pub printed-end : (p : ℕ) (out : List ℕ) → PrintsText c old at (Printed.End p) out → (x : Record) × (c ≡ gives x) × Emits (print (headerLayout x)) old at out p
+  printed-end p out h = go c refl
     where
       go : (b : Outcome Record) → c ≡ b → (x : Record) × (c ≡ gives x) × Emits (print (headerLayout x)) old at out p
       go (gives x) e = (x, e, text-at x e (Printed.End p) p refl out h)
       go (refused n) e = gives-refused (h .unprinted n e .0)
 
-  pub told-refused : (w : Printed) (n : ℕ) (out : List ℕ) → answer w ≡ refused n → Prints c old at w out → c ≡ refused n
-  told-refused w n out a h = go c refl
+  pub unprinted-refused : (w : Printed) (n : ℕ) (out : List ℕ) → answer w ≡ refused n → PrintsText c old at w out → c ≡ refused n
+  unprinted-refused w n out a h = go c refl
     where
       go : (b : Outcome Record) → c ≡ b → c ≡ refused n
       go (gives x) e = let u = h .printed x e in gives-refused (sym (ap answer (u .1)) ∙ a)

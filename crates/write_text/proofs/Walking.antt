@@ -18,7 +18,7 @@ use Rattle.type_str.specs.Text.{isType}
 use Rattle.dtype.specs.declared.Entry.{Entry}
 use Rattle.dtype.specs.Dtype.{Dtype, Fields, plain, array, record-of, end-of-fields, field-then}
 use Rattle.dtype.specs.Entries.{fieldCount, entriesOf, entriesIn, someEntryIn, plainOnly}
-use Rattle.dtype.specs.Names.{namesOf, namesIn, nameBytes, nameBytesIn}
+use Rattle.dtype.specs.Record.{namesOf, namesIn, nameBytes, nameBytesIn}
 use Rattle.dtype.specs.EntryOf.{entryOf}
 use Rattle.dtype.specs.Agrees.{entryAt}
 use Rattle.dtype.proofs.Flat.{some-entry, names-drop, names-length}
@@ -28,7 +28,7 @@ use Rattle.check_table.specs.Reading.{untyped}
 use Rattle.table_entry.specs.EntryType.{typeOf}
 use Rattle.table_entry.proofs.Types.{type-of-written}
 use Rattle.write_text.specs.declared.inner.WalkEnd.{WalkEnd}
-use Rattle.write_depth.specs.Listed.{Listed}
+use Rattle.write_depth.specs.Listed.{InTableAt}
 use Rattle.write_depth.proofs.UnderLevels.{innermostOf, Innermost}
 use Rattle.write_depth.proofs.Listing.{listed-entry, listed-room, listed-fields, listed-first, listed-later, innermost-descr, under-record}
 use Rattle.write_pieces.specs.Pieces.{typePiece, levelsAt, subText}
@@ -37,8 +37,8 @@ use Rattle.write_text.proofs.Listing.{levels-listed, innermost-names, i
 
 -- ---- `put_descr`
 module _ (t ns : List ℕ) (e b : ℕ) where
-  stands-room : (d : Dtype) → ListedNamed t ns e b d → e < length t
-  stands-room d s = omega (arith, listed-room t e d (s .listed), some-entry d)
+  in-table-room : (d : Dtype) → ListedNamed t ns e b d → e < length t
+  in-table-room d s = omega (arith, listed-room t e d (s .listed), some-entry d)
 
   module _ (x : Entry) (q : x ≡ entryAt t e) where
     entry-is : (d : Dtype) (s : ListedNamed t ns e b d) → x ≡ entryOf d (s .listed .up) (s .listed .name)
@@ -94,9 +94,9 @@ module _ (t ns : List ℕ) (e b : ℕ) where
           }
 
 -- ---- `put_descr` where the type is under array levels: its entry is r
-module _ (t ns : List ℕ) (e b r : ℕ) (under : (d : Dtype) → Listed t e d → Innermost t e d r) where
-  under-stands : (d : Dtype) → ListedNamed t ns e b d → ListedNamed t ns r b (innermostOf d)
-  under-stands d s =
+module _ (t ns : List ℕ) (e b r : ℕ) (under : (d : Dtype) → InTableAt t e d → Innermost t e d r) where
+  under-there : (d : Dtype) → ListedNamed t ns e b d → ListedNamed t ns r b (innermostOf d)
+  under-there d s =
       record {
         listed = under d (s .listed) .listed;
         later = s .later;
@@ -106,13 +106,13 @@ module _ (t ns : List ℕ) (e b r : ℕ) (under : (d : Dtype) → Listed t e d �
       }
 
   pub under-room : (d : Dtype) → ListedNamed t ns e b d → (e ≤ r) × (r < length t)
-  under-room d s = (omega (arith, under d (s .listed) .passed), stands-room t ns r b (innermostOf d) (under-stands d s))
+  under-room d s = (omega (arith, under d (s .listed) .passed), in-table-room t ns r b (innermostOf d) (under-there d s))
 
   pub under-walked : (old : List ℕ) (at : ℕ) (out : List ℕ) (w : WalkEnd)
       → ((d : Dtype) → ListedNamed t ns r b d → Walked (print (descrLayout d)) (entriesOf d) (nameBytes d) old r b at out w)
       → (d : Dtype) → ListedNamed t ns e b d → Walked (print (descrLayout d)) (entriesOf d) (nameBytes d) old e b at out w
   under-walked old at out w h d s =
-      let v = h (innermostOf d) (under-stands d s) in
+      let v = h (innermostOf d) (under-there d s) in
       record {
         emits = subst (λ (l : Layout). Emits (print l) old at out (w .at)) (innermost-descr d) (v .emits);
         next = omega (arith, v .next, under d (s .listed) .passed, innermost-entries d);
@@ -121,7 +121,7 @@ module _ (t ns : List ℕ) (e b r : ℕ) (under : (d : Dtype) → Listed t e d �
 
   module _ (x : Entry) (q : x ≡ entryAt t r) (not-plain : x .kind ≡ 0 → ⊥) where
     pub under-asks : (d : Dtype) × ListedNamed t ns e b d → (fs : Fields) × (x .number ≡ fieldCount fs) × ListedNamedIn t ns (r + 1) b fs
-    under-asks (d, s) = fields-asks t ns r b x q not-plain (under-record t e r under x q d (s .listed)) (innermostOf d, under-stands d s)
+    under-asks (d, s) = fields-asks t ns r b x q not-plain (under-record t e r under x q d (s .listed)) (innermostOf d, under-there d s)
 
 -- ---- `put_fields`
 -- a field's text, in the pieces that the code writes
@@ -176,10 +176,10 @@ module _ (t ns : List ℕ) (c start : ℕ) (x : Entry) (q : x ≡ entryAt t c) w
             };
       }
 
-  later-stands : (name : List ℕ) (d : Dtype) (fs : Fields) → ListedNamedIn t ns c start (field-then name d fs) → (r : WalkEnd) → r .entry ≡ c + entriesOf d
+  later-there : (name : List ℕ) (d : Dtype) (fs : Fields) → ListedNamedIn t ns c start (field-then name d fs) → (r : WalkEnd) → r .entry ≡ c + entriesOf d
       → r .byte ≡ start + x .name + nameBytes d → ListedNamedIn t ns (r .entry) (r .byte) fs
   unfolding next-of
-  later-stands name d fs s r u v =
+  later-there name d fs s r u v =
       let i = next-of name d fs s .inner in
       let y = namesIn fs (s .later) in
       rw (u, v)
@@ -230,7 +230,7 @@ module _ (t ns : List ℕ) (c start : ℕ) (x : Entry) (q : x ≡ entryAt t c) w
               let m = name-length name d gs s in
               record {
                 still = gs;
-                there = later-stands name d gs s r (w .next) (w .next-name);
+                there = later-there name d gs s r (w .next) (w .next-name);
                 counted = omega arith;
                 further = omega (arith, w .next, g .further);
                 entries = omega (arith, w .next);

@@ -16,6 +16,6 @@ answer (Printed.End p) = gives p
 answer (Printed.Refused why) = refused (numberOf why)
 
 -- the text of the record that o gives, from `at` on and as far as there is room, and the place after it; or o's number, and the room as it was
-pub record Prints (o : Outcome Record) (old : List ℕ) (at : ℕ) (r : Printed) (out : List ℕ) : Type 0 where
+pub record PrintsText (o : Outcome Record) (old : List ℕ) (at : ℕ) (r : Printed) (out : List ℕ) : Type 0 where
   pub printed : (x : Record) → o ≡ gives x → (p : ℕ) × (r ≡ Printed.End p) × Emits (print (headerLayout x)) old at out p
   pub unprinted : (n : ℕ) → o ≡ refused n → (answer r ≡ refused n) × (out ≡ old)

@@ -9,21 +9,21 @@ use Rattle.emit.specs.Emits.{Emits}
 use Rattle.type_str.specs.Text.{isType}
 use Rattle.dtype.specs.Dtype.{Dtype, Fields}
 use Rattle.dtype.specs.Entries.{someEntryIn, plainOnly}
-use Rattle.dtype.specs.Names.{namesOf, namesIn}
+use Rattle.dtype.specs.Record.{namesOf, namesIn}
 use Rattle.check_table.specs.Reading.{untyped}
-use Rattle.write_depth.specs.Listed.{Listed, ListedIn}
+use Rattle.write_depth.specs.Listed.{InTableAt, FieldsInTableAt}
 use Rattle.write_text.specs.declared.inner.WalkEnd.{WalkEnd}
 
 -- d is listed from entry e on and its names from byte b on, and type strings give its types
 pub record ListedNamed (t ns : List ℕ) (e b : ℕ) (d : Dtype) : Type 0 where
-  pub listed : Listed t e d
+  pub listed : InTableAt t e d
   pub later : List ℕ
   pub named : drop b ns ≡ namesOf d later
   pub inside : b ≤ length ns
   pub typed : untyped d ≡ false
 
 pub record ListedNamedIn (t ns : List ℕ) (e b : ℕ) (fs : Fields) : Type 0 where
-  pub listed : ListedIn t e fs
+  pub listed : FieldsInTableAt t e fs
   pub later : List ℕ
   pub named : drop b ns ≡ namesIn fs later
   pub inside : b ≤ length ns

@@ -7,7 +7,7 @@ ghost use Rattle.emit.specs.Emits.{Emits};
 ghost use Rattle.literal_grammar.specs.Print.{print, printRow};
 ghost use Rattle.dtype.specs.Dtype.{Dtype, Fields};
 ghost use Rattle.dtype.specs.Entries.{entriesOf, entriesIn, fieldCount};
-ghost use Rattle.dtype.specs.Names.{nameBytes, nameBytesIn};
+ghost use Rattle.dtype.specs.Record.{nameBytes, nameBytesIn};
 ghost use Rattle.record.specs.Layout.{descrLayout, fieldRow, headerLayout};
 ghost use Rattle.check_record.specs.Valid.{made};
 ghost use Rattle.write_text.specs.Walk.{ListedNamed, ListedNamedIn, Walked};

@@ -6,7 +6,7 @@ use check_record::Checked;
 use dtype::Order;
 use refusal::Refusal;
 ghost use Rattle.write_depth.specs.Printable.{printable};
-ghost use Rattle.write_text.specs.Prints.{Prints};
+ghost use Rattle.write_text.specs.Prints.{PrintsText};
 
 // The place after the text; or 27, 13, 20, 21, 22, 7.
 pub enum Printed {
@@ -23,7 +23,7 @@ pub fn put_text(
     out: &mut [u8],
     at: usize,
 ) -> Printed
-    ensures { λ r. ⌜ Prints (printable (now (table .entry)) (now (names .entry)) (now (shape .entry)) order) (now (out .entry)) at r (now (out .exit)) ⌝ }
+    ensures { λ r. ⌜ PrintsText (printable (now (table .entry)) (now (names .entry)) (now (shape .entry)) order) (now (out .entry)) at r (now (out .exit)) ⌝ }
 {
     match write_depth::check(table, names, shape, order) {
         Checked::Accepted(found) => {

@@ -45,13 +45,13 @@ returns c =
 value-requires : tie.Need-value-requires
 value-requires c κs = search needs
 
-misfit-requires : tie.Need-misfit-requires
-misfit-requires c κs = search needs
+wrong-form-requires : tie.Need-wrong-form-requires
+wrong-form-requires c κs = search needs
 
 returns-2 : tie.Need-returns-2
 returns-2 c =
     let a = c .before .before .before .before .before .args in
-    (c .misfit .ensures .0 ∙ c .before .value .ensures, ap verdict (c .misfit .ensures .1) ∙ name-other (a .text .now) (a .at) (sym (c .before .before .before .string-at .ensures) ∙ c .before .before .if1 .left))
+    (c .wrong-form .ensures .0 ∙ c .before .value .ensures, ap verdict (c .wrong-form .ensures .1) ∙ name-other (a .text .now) (a .at) (sym (c .before .before .before .string-at .ensures) ∙ c .before .before .if1 .left))
 
 pub name-at-spec : {M : Type 1} → statement M
 name-at-spec =
@@ -64,5 +64,5 @@ name-at-spec =
     named-requires
     returns
     value-requires
-    misfit-requires
+    wrong-form-requires
     returns-2)

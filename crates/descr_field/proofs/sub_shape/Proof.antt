@@ -31,8 +31,8 @@ judge-requires c κs = search needs
 enum-known-end : tie.Need-enum-known-end
 enum-known-end c = search needs
 
-misfit-requires : tie.Need-misfit-requires
-misfit-requires c κs = search needs
+wrong-form-requires : tie.Need-wrong-form-requires
+wrong-form-requires c κs = search needs
 
 returns-2 : tie.Need-returns-2
 returns-2 c =
@@ -40,7 +40,7 @@ returns-2 c =
     let item = c .before .before .before .before .g .given .1 in
     let j = c .before .before .judge in
     let stop = stops (j .result .ended) (c .before .match2 .keys2) in
-    (c .misfit .ensures .0 ∙ ends-stop (a .room) (a .text .now) (a .close) (verdict (a .name)) (verdict (a .of)) (a .g) _ item (j .result) (j .ensures) stop, ap verdict (c .misfit .ensures .1) ∙ says-stop (a .room) (a .text .now) (a .close) (verdict (a .name)) (verdict (a .of)) (a .g) _ item (j .result) (j .ensures) stop)
+    (c .wrong-form .ensures .0 ∙ ends-stop (a .room) (a .text .now) (a .close) (verdict (a .name)) (verdict (a .of)) (a .g) _ item (j .result) (j .ensures) stop, ap verdict (c .wrong-form .ensures .1) ∙ says-stop (a .room) (a .text .now) (a .close) (verdict (a .name)) (verdict (a .of)) (a .g) _ item (j .result) (j .ensures) stop)
 
 then-at-requires : tie.Need-then-at-requires
 then-at-requires c κs = search needs
@@ -73,8 +73,8 @@ returns-3 c =
 rest-requires : tie.Need-rest-requires
 rest-requires c κs = search needs
 
-misfit-requires-2 : tie.Need-misfit-requires-2
-misfit-requires-2 c κs = search needs
+wrong-form-requires-2 : tie.Need-wrong-form-requires-2
+wrong-form-requires-2 c κs = search needs
 
 returns-4 : tie.Need-returns-4
 returns-4 c =
@@ -85,8 +85,8 @@ returns-4 c =
     let value = c .before .before .before .before .before .before .before .end .given .1 in
     let next = c .before .before .before .before .before .then-at in
     let more = c .before .before .before .next .given .1 in (
-      c .misfit2 .ensures .0 ∙ (c .before .rest .ensures ∙ ends-more (a .room) (a .text .now) (a .close) (verdict (a .name)) (verdict (a .of)) (a .g) _ item (j .result) (j .ensures) small _ value (next .result) (next .ensures) _ more),
-      ap verdict (c .misfit2 .ensures .1) ∙ says-more (a .room) (a .text .now) (a .close) (verdict (a .name)) (verdict (a .of)) (a .g) _ item (j .result) (j .ensures) small _ value (next .result) (next .ensures) _ more,
+      c .wrong-form2 .ensures .0 ∙ (c .before .rest .ensures ∙ ends-more (a .room) (a .text .now) (a .close) (verdict (a .name)) (verdict (a .of)) (a .g) _ item (j .result) (j .ensures) small _ value (next .result) (next .ensures) _ more),
+      ap verdict (c .wrong-form2 .ensures .1) ∙ says-more (a .room) (a .text .now) (a .close) (verdict (a .name)) (verdict (a .of)) (a .g) _ item (j .result) (j .ensures) small _ value (next .result) (next .ensures) _ more,
     )
 
 pub sub-shape-spec : {M : Type 1} → statement M
@@ -99,7 +99,7 @@ sub-shape-spec =
     returns
     judge-requires
     enum-known-end
-    misfit-requires
+    wrong-form-requires
     returns-2
     then-at-requires
     enum-known-next
@@ -108,5 +108,5 @@ sub-shape-spec =
     join-requires-2
     returns-3
     rest-requires
-    misfit-requires-2
+    wrong-form-requires-2
     returns-4)

@@ -1,6 +1,6 @@
 -- The prefix, and then the header after it.
 use mathlib.Core.Path.{sym}
-use Rattle.counts.proofs.OneOutcome.{told}
+use Rattle.counts.proofs.OneOutcome.{matched}
 use Rattle.header_prefix.specs.Answer.{answer}
 use Rattle.header_prefix.proofs.Outcomes.{prefix-short}
 use Rattle.header.specs.Reads.{lent}
@@ -16,7 +16,7 @@ enum-known-p : tie.Need-enum-known-p
 enum-known-p c = search needs
 
 read-after-prefix-requires : tie.Need-read-after-prefix-requires
-read-after-prefix-requires c κs = prefix-short (c .before .before .before .before .before .before .before .before .before .before .before .args .file .now) _ (sym (told answer (c .before .before .before .before .before .before .read .ensures) (c .before .before .before .before .p .given .1)))
+read-after-prefix-requires c κs = prefix-short (c .before .before .before .before .before .before .before .before .before .before .before .args .file .now) _ (sym (matched answer (c .before .before .before .before .before .before .read .ensures) (c .before .before .before .before .p .given .1)))
 
 enum-known-why : tie.Need-enum-known-why
 enum-known-why c = search needs
@@ -33,12 +33,12 @@ same-length-3 c = search needs
 returns : tie.Need-returns
 returns c =
     let a = c .before .before .before .before .before .before .before .before .before .before .before .before .before .before .before .before .before .before .args in
-    held-read (a .longer) (a .file .now) (lent (a .table .now) (a .names .now) (a .shape .now)) _ (c .before .before .before .before .before .before .read-after-prefix .result) _ (told answer (c .before .before .before .before .before .before .before .before .before .before .before .before .before .read .ensures) (c .before .before .before .before .before .before .before .before .before .before .before .p .given .1)) (c .before .before .before .before .before .before .read-after-prefix .ensures)
+    held-read (a .longer) (a .file .now) (lent (a .table .now) (a .names .now) (a .shape .now)) _ (c .before .before .before .before .before .before .read-after-prefix .result) _ (matched answer (c .before .before .before .before .before .before .before .before .before .before .before .before .before .read .ensures) (c .before .before .before .before .before .before .before .before .before .before .before .p .given .1)) (c .before .before .before .before .before .before .read-after-prefix .ensures)
 
 returns-2 : tie.Need-returns-2
 returns-2 c =
     let a = c .before .before .before .before .before .before .before .before .args in
-    held-refused (a .longer) (a .file .now) (lent (a .table .now) (a .names .now) (a .shape .now)) _ (told answer (c .before .before .before .read .ensures) (c .before .why .given .1))
+    held-refused (a .longer) (a .file .now) (lent (a .table .now) (a .names .now) (a .shape .now)) _ (matched answer (c .before .before .before .read .ensures) (c .before .why .given .1))
 
 pub read-held-spec : {M : Type 1} → statement M
 read-held-spec =

@@ -1,7 +1,7 @@
 -- Each test in its order.
 use mathlib.Core.Path.{sym, ap, _∙_}
 use Rattle.counts.specs.Outcome.{then}
-use Rattle.counts.proofs.OneOutcome.{told}
+use Rattle.counts.proofs.OneOutcome.{matched}
 use Rattle.record.specs.Prefix.{lengthRead}
 use Rattle.header_prefix.specs.Answer.{versionAnswer}
 use Rattle.header_prefix.proofs.Bytes.{short-is-1, other-is-1, then-version}
@@ -35,13 +35,13 @@ enum-told : tie.Need-enum-told
 enum-told c = search needs
 
 returns-3 : tie.Need-returns-3
-returns-3 c = sym (then-version _ (c .before .before .before .before .before .before .before .if1 .left) (sym (c .before .before .before .before .before .before .is-magic .ensures) ∙ not-false _ (c .before .before .before .before .before .if2 .left)) ∙ ap (λ v. then v (λ v. lengthRead v (c .before .before .before .before .before .before .before .before .before .args .file .now))) (sym (told versionAnswer (c .before .before .version-of .ensures) (c .enum-told .given .1))))
+returns-3 c = sym (then-version _ (c .before .before .before .before .before .before .before .if1 .left) (sym (c .before .before .before .before .before .before .is-magic .ensures) ∙ not-false _ (c .before .before .before .before .before .if2 .left)) ∙ ap (λ v. then v (λ v. lengthRead v (c .before .before .before .before .before .before .before .before .before .args .file .now))) (sym (matched versionAnswer (c .before .before .version-of .ensures) (c .enum-told .given .1))))
 
 text-length-requires : tie.Need-text-length-requires
 text-length-requires c κs = search needs
 
 returns-4 : tie.Need-returns-4
-returns-4 c = c .text-length .ensures ∙ sym (then-version _ (c .before .before .before .before .before .before .before .before .before .if1 .left) (sym (c .before .before .before .before .before .before .before .before .is-magic .ensures) ∙ not-false _ (c .before .before .before .before .before .before .before .if2 .left)) ∙ ap (λ v. then v (λ v. lengthRead v (c .before .before .before .before .before .before .before .before .before .before .before .args .file .now))) (sym (told versionAnswer (c .before .before .before .before .version-of .ensures) (c .before .before .v .given .1))))
+returns-4 c = c .text-length .ensures ∙ sym (then-version _ (c .before .before .before .before .before .before .before .before .before .if1 .left) (sym (c .before .before .before .before .before .before .before .before .is-magic .ensures) ∙ not-false _ (c .before .before .before .before .before .before .before .if2 .left)) ∙ ap (λ v. then v (λ v. lengthRead v (c .before .before .before .before .before .before .before .before .before .before .before .args .file .now))) (sym (matched versionAnswer (c .before .before .before .before .version-of .ensures) (c .before .before .v .given .1))))
 
 pub read-spec : {M : Type 1} → statement M
 read-spec =

@@ -1,6 +1,6 @@
 -- 5, then 6 or 7, then the value.
 use mathlib.Core.Path.{sym, _∙_}
-use Rattle.counts.proofs.OneOutcome.{told}
+use Rattle.counts.proofs.OneOutcome.{matched}
 use Rattle.refusal.specs.declared.Refusal.{Refusal}
 use Rattle.literal_bytes.specs.Text.{skip}
 use Rattle.utf8.specs.Answer.{answer}
@@ -22,7 +22,7 @@ enum-told-2 c = search needs
 returns : tie.Need-returns
 returns c =
     let s = c .before .before .before .before .args .text .now in
-    refused-by s (skip s 0) Refusal.NotUtf8 _ (ill-record s (told answer (c .before .before .check .ensures .answered) (c .enum-told2 .given .1)))
+    refused-by s (skip s 0) Refusal.NotUtf8 _ (ill-record s (matched answer (c .before .before .check .ensures .answered) (c .enum-told2 .given .1)))
 
 blanks-requires : tie.Need-blanks-requires
 blanks-requires c κs = search needs
@@ -48,7 +48,7 @@ enum-told-5 c = search needs
 returns-2 : tie.Need-returns-2
 returns-2 c =
     let s = c .before .before .before .before .before .before .before .before .before .before .args .text .now in
-    let well = told answer (c .before .before .before .before .before .before .before .before .check .ensures .answered) (c .before .before .before .before .before .before .enum-told .given .1) in
+    let well = matched answer (c .before .before .before .before .before .before .before .before .check .ensures .answered) (c .before .before .before .before .before .before .enum-told .given .1) in
     let at = c .before .before .before .before .before .blanks in
     let w = c .before .before .before .before .keys in
     let e = sym (c .before .enum-told3 .given .1) ∙ ended-so s well _ _ (at .result) (at .ensures) (w .ensures .ended) (c .before .before .before .whole .ensures) in
@@ -58,7 +58,7 @@ returns-2 c =
 returns-3 : tie.Need-returns-3
 returns-3 c =
     let s = c .before .before .before .before .before .before .before .before .before .args .text .now in
-    let well = told answer (c .before .before .before .before .before .before .before .check .ensures .answered) (c .before .before .before .before .before .enum-told .given .1) in
+    let well = matched answer (c .before .before .before .before .before .before .before .check .ensures .answered) (c .before .before .before .before .before .enum-told .given .1) in
     let at = c .before .before .before .before .blanks in
     let e = ended-so s well _ _ (at .result) (at .ensures) (c .before .before .before .keys .ensures .ended) (c .before .before .whole .ensures) in
     refused-by s (skip s 0) Refusal.Fault _ (fault-record s well _ (sym (c .enum-told4 .given .1) ∙ e))
@@ -66,7 +66,7 @@ returns-3 c =
 returns-4 : tie.Need-returns-4
 returns-4 c =
     let s = c .before .before .before .before .before .before .before .before .before .args .text .now in
-    let well = told answer (c .before .before .before .before .before .before .before .check .ensures .answered) (c .before .before .before .before .before .enum-told .given .1) in
+    let well = matched answer (c .before .before .before .before .before .before .before .check .ensures .answered) (c .before .before .before .before .before .enum-told .given .1) in
     let at = c .before .before .before .before .blanks in
     let e = ended-so s well _ _ (at .result) (at .ensures) (c .before .before .before .keys .ensures .ended) (c .before .before .whole .ensures) in
     refused-by s (skip s 0) Refusal.Depth _ (deep-record s well _ (sym (c .enum-told5 .given .1) ∙ e))

@@ -6,7 +6,7 @@ use mathlib.Core.Bool.{Bool, _&&_}
 use lib.ListN.{length, getD, take}
 use lib.Dec.{eqb}
 use borrow.Author.Needs.{needs}
-use Rattle.counts.specs.Same.{same}
+use Rattle.counts.specs.Lists.{same}
 use Rattle.judge_names.proofs.Same.{same-next, same-all, same-lengths}
 use Rattle.judge_names.proofs.same_bytes.Statement.{statement}
 use Rattle.judge_names.proofs.same_bytes.Tie as tie

@@ -1,14 +1,14 @@
 -- `list_file::report` meets its contract: what was read is listed, and of what was refused the number is put.
 use Prim.Native.Nat.{ℕ, _*_}
 use lib.ListN.{length-replicate}
-use Rattle.dtype.specs.Flat.{entry-width}
+use Rattle.dtype.specs.Record.{entry-width}
 use Rattle.list_file.proofs.Whole.{reports-listing, reports-refused}
 use borrow.Author.Needs.{needs}
 use Rattle.list_file.proofs.report.Statement.{statement}
 use Rattle.list_file.proofs.report.Tie as tie
 
-held-requires : tie.Need-held-requires
-held-requires c κs = search needs
+held-part-requires : tie.Need-held-part-requires
+held-part-requires c κs = search needs
 
 slice-aggregate-read-held : tie.Need-slice-aggregate-read-held
 slice-aggregate-read-held c = search needs
@@ -48,20 +48,20 @@ same-length c = search needs
 
 returns : tie.Need-returns
 returns c =
-    reports-listing _ _ _ _ _ _ (c .before .before .list-header .result) _ (c .before .before .before .before .before .before .before .before .before .before .before .before .before .before .before .before .before .held .ensures) (length-replicate {A = ℕ} (entry-width * 512) 0) (length-replicate {A = ℕ} 16384 0) (length-replicate {A = ℕ} 32 0) (c .before .before .before .before .before .before .before .before .before .before .before .before .before .read-held .ensures) _ (c .before .before .before .before .before .before .before .before .r .given .1) (c .before .before .list-header .ensures)
+    reports-listing _ _ _ _ _ _ (c .before .before .list-header .result) _ (c .before .before .before .before .before .before .before .before .before .before .before .before .before .before .before .before .before .held-part .ensures) (length-replicate {A = ℕ} (entry-width * 512) 0) (length-replicate {A = ℕ} 16384 0) (length-replicate {A = ℕ} 32 0) (c .before .before .before .before .before .before .before .before .before .before .before .before .before .read-held .ensures) _ (c .before .before .before .before .before .before .before .before .r .given .1) (c .before .before .list-header .ensures)
 
 same-length-2 : tie.Need-same-length-2
 same-length-2 c = search needs
 
 returns-2 : tie.Need-returns-2
 returns-2 c =
-    reports-refused _ _ _ _ _ _ (c .before .before .put-refused .result) _ (c .before .before .before .before .before .before .before .before .before .before .before .before .before .before .held .ensures) (length-replicate {A = ℕ} (entry-width * 512) 0) (length-replicate {A = ℕ} 16384 0) (length-replicate {A = ℕ} 32 0) (c .before .before .before .before .before .before .before .before .before .before .read-held .ensures) _ (c .before .before .before .before .before .r2 .given .1) (c .before .before .put-refused .ensures)
+    reports-refused _ _ _ _ _ _ (c .before .before .put-refused .result) _ (c .before .before .before .before .before .before .before .before .before .before .before .before .before .before .held-part .ensures) (length-replicate {A = ℕ} (entry-width * 512) 0) (length-replicate {A = ℕ} 16384 0) (length-replicate {A = ℕ} 32 0) (c .before .before .before .before .before .before .before .before .before .before .read-held .ensures) _ (c .before .before .before .before .before .r2 .given .1) (c .before .before .put-refused .ensures)
 
 pub report-spec : {M : Type 1} → statement M
 report-spec =
     tie.close
     (tie.spec
-    held-requires
+    held-part-requires
     slice-aggregate-read-held
     slice-aggregate-read-held-2
     slice-aggregate-read-held-3

@@ -4,7 +4,7 @@ use native.Mathlib.Omega.{arith}
 use mathlib.Core.Path.{sym}
 use lib.Seq.{take-all, length-take-le}
 use borrow.Author.Needs.{needs}
-use Rattle.dtype.specs.Flat.{entry-width}
+use Rattle.dtype.specs.Record.{entry-width}
 use Rattle.list_file.proofs.table_of.Statement.{statement}
 use Rattle.list_file.proofs.table_of.Tie as tie
 

@@ -3,7 +3,7 @@ use borrow.Author.Needs.{needs}
 use Prim.Native.Nat.{_-_, _/_}
 use mathlib.Core.Path.{_≡_, refl}
 use lib.ListN.{length}
-use Rattle.dtype.specs.Flat.{entry-width}
+use Rattle.dtype.specs.Record.{entry-width}
 use Rattle.list_text.proofs.Lines.{Going, going-start, going-more, going-end, lines-known, past-ahead, past-inside}
 use Rattle.list_record.proofs.put_entries.Statement.{statement}
 use Rattle.list_record.proofs.put_entries.Tie as tie

@@ -12,10 +12,10 @@ use Rattle.literal_tokens.proofs.word.Statement.{statement}
 use Rattle.literal_tokens.proofs.word.Tie as tie
 
 abbrev Inv-loop : tie.InvT-loop
-Inv-loop text from known at₀ i₀ at i = (i ≤ length known) × (wordAt known text from ≡ wordAt (drop i known) text at)
+Inv-loop text from expected at₀ i₀ at i = (i ≤ length expected) × (wordAt expected text from ≡ wordAt (drop i expected) text at)
 
 abbrev μ-loop : tie.MeasureT-loop
-μ-loop text from known at₀ i₀ at i = length known - i
+μ-loop text from expected at₀ i₀ at i = length expected - i
 
 loop-holds : tie.Need-loop-holds Inv-loop μ-loop
 loop-holds c = (search needs, refl)
@@ -32,7 +32,7 @@ cast-if1 c = omega (arith, c .shared-slice-known3 .given (c .before .before .bef
 returns : tie.Need-returns Inv-loop μ-loop
 returns c =
     let s = c .before .before .before .before .before .before .before .args .text .now in
-    let w = c .before .before .before .before .before .before .before .args .known .now in
+    let w = c .before .before .before .before .before .before .before .args .expected .now in
     let at = c .before .before .before .before .loop .at in
     let i = c .before .before .before .before .loop .i in
     sym (c .before .before .before .before .loop .inv .1 ∙ word-fault w s i at (c .before .before .before .loop-test .taken) (λ e. c .if1 .taken (c .before .before .peek .ensures ∙ e)))
@@ -40,7 +40,7 @@ returns c =
 add-at : tie.Need-add-at Inv-loop μ-loop
 add-at c =
     let s = c .before .before .before .before .before .before .before .args .text .now in
-    let w = c .before .before .before .before .before .before .before .args .known .now in
+    let w = c .before .before .before .before .before .before .before .args .expected .now in
     let at = c .before .before .before .before .loop .at in
     let i = c .before .before .before .before .loop .i in
     let h : byteAt s at ≡ getD w i 0 = sym (c .before .before .peek .ensures) ∙ c .if1 .left in
@@ -56,7 +56,7 @@ loop-less c = omega arith
 loop-again : tie.Need-loop-again Inv-loop μ-loop
 loop-again c =
     let s = c .before .before .before .before .before .before .before .args .text .now in
-    let w = c .before .before .before .before .before .before .before .args .known .now in
+    let w = c .before .before .before .before .before .before .before .args .expected .now in
     let at = c .before .before .before .before .loop .at in
     let i = c .before .before .before .before .loop .i in
     let h : byteAt s at ≡ getD w i 0 = sym (c .before .before .peek .ensures) ∙ c .if1 .left in
@@ -64,7 +64,7 @@ loop-again c =
     (omega arith, c .before .before .before .before .loop .inv .1 ∙ word-more w s i at (c .before .before .before .loop-test .taken) h)
 
 returns-2 : tie.Need-returns-2 Inv-loop μ-loop
-returns-2 c = sym (c .before .loop .inv .1 ∙ word-end (c .before .before .before .before .args .known .now) (c .before .before .before .before .args .text .now) (c .before .loop .i) (c .before .loop .at) (c .loop-test .left))
+returns-2 c = sym (c .before .loop .inv .1 ∙ word-end (c .before .before .before .before .args .expected .now) (c .before .before .before .before .args .text .now) (c .before .loop .i) (c .before .loop .at) (c .loop-test .left))
 
 pub word-spec : {M : Type 1} → statement M
 word-spec =

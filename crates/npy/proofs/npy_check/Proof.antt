@@ -2,9 +2,9 @@
 use Rattle.counts.specs.Outcome.{each}
 use Rattle.check_record.specs.Answer.{summary}
 use Rattle.check_record.specs.Checked.{checkedRecord}
-use Rattle.counts.proofs.OneOutcome.{told}
+use Rattle.counts.proofs.OneOutcome.{matched}
 use Rattle.npy_codes.specs.Given.{orderGiven}
-use Rattle.npy_codes.proofs.Named.{retold, then-told, none-told}
+use Rattle.npy_codes.proofs.Then.{returns-same, then-returned, none-returned}
 use borrow.Author.Needs.{needs}
 use Rattle.npy.proofs.npy_check.Statement.{statement}
 use Rattle.npy.proofs.npy_check.Tie as tie
@@ -30,12 +30,12 @@ number-requires c κs = search needs
 returns : tie.Need-returns
 returns c =
     let a = c .before .before .before .before .before .before .before .before .before .before .args in
-    then-told (λ o. each summary (checkedRecord (a .table .now) (a .names .now) (a .shape .now) o)) (told orderGiven (c .before .before .before .before .before .before .order-for .ensures) (c .before .before .before .before .o .given .1)) (retold (c .before .before .check .ensures) (c .return-checked .ensures))
+    then-returned (λ o. each summary (checkedRecord (a .table .now) (a .names .now) (a .shape .now) o)) (matched orderGiven (c .before .before .before .before .before .before .order-for .ensures) (c .before .before .before .before .o .given .1)) (returns-same (c .before .before .check .ensures) (c .return-checked .ensures))
 
 returns-2 : tie.Need-returns-2
 returns-2 c =
     let a = c .before .before .before .before .before .before .before .before .args in
-    none-told (λ o. each summary (checkedRecord (a .table .now) (a .names .now) (a .shape .now) o)) (told orderGiven (c .before .before .before .before .order-for .ensures) (c .before .before .why .given .1)) (c .number .ensures)
+    none-returned (λ o. each summary (checkedRecord (a .table .now) (a .names .now) (a .shape .now) o)) (matched orderGiven (c .before .before .before .before .order-for .ensures) (c .before .before .why .given .1)) (c .number .ensures)
 
 pub npy-check-spec : {M : Type 1} → statement M
 npy-check-spec =

@@ -1,6 +1,6 @@
 -- The order, and then the answer of it; a number that names no order is its refusal's number.
 use Rattle.element.specs.Element.{elementBytes}
-use Rattle.counts.proofs.OneOutcome.{told}
+use Rattle.counts.proofs.OneOutcome.{matched}
 use Rattle.npy_codes.specs.Given.{orderGiven}
 use Rattle.npy.proofs.Putting.{then-put, none-put}
 use borrow.Author.Needs.{needs}
@@ -31,12 +31,12 @@ same-length c = search needs
 returns : tie.Need-returns
 returns c =
     let a = c .before .before .before .before .before .before .before .before .before .before .before .before .before .before .before .before .before .args in
-    then-put (λ o. elementBytes (a .file .now) (a .start) (a .table .now) (a .names .now) (a .shape .now) o (a .index .now) (a .path .now) (a .out .now)) (told orderGiven (c .before .before .before .before .before .before .before .before .before .order-for .ensures) (c .before .before .before .before .before .before .before .o .given .1)) (c .before .before .before .before .read-bytes .ensures) (c .return-bytes .ensures)
+    then-put (λ o. elementBytes (a .file .now) (a .start) (a .table .now) (a .names .now) (a .shape .now) o (a .index .now) (a .path .now) (a .out .now)) (matched orderGiven (c .before .before .before .before .before .before .before .before .before .order-for .ensures) (c .before .before .before .before .before .before .before .o .given .1)) (c .before .before .before .before .read-bytes .ensures) (c .return-bytes .ensures)
 
 returns-2 : tie.Need-returns-2
 returns-2 c =
     let a = c .before .before .before .before .before .before .before .before .before .before .before .before .args in
-    none-put (λ o. elementBytes (a .file .now) (a .start) (a .table .now) (a .names .now) (a .shape .now) o (a .index .now) (a .path .now) (a .out .now)) (told orderGiven (c .before .before .before .before .order-for .ensures) (c .before .before .why .given .1)) (c .number .ensures)
+    none-put (λ o. elementBytes (a .file .now) (a .start) (a .table .now) (a .names .now) (a .shape .now) o (a .index .now) (a .path .now) (a .out .now)) (matched orderGiven (c .before .before .before .before .order-for .ensures) (c .before .before .why .given .1)) (c .number .ensures)
 
 pub npy-element-bytes-spec : {M : Type 1} → statement M
 npy-element-bytes-spec =

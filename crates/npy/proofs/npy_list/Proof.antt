@@ -1,8 +1,8 @@
 -- The version, and then the listing as it.
 use Rattle.counts.specs.Outcome.{then}
-use Rattle.counts.proofs.OneOutcome.{told}
+use Rattle.counts.proofs.OneOutcome.{matched}
 use Rattle.list_record.specs.Answer.{listed}
-use Rattle.npy_codes.specs.Numbers.{orderFor}
+use Rattle.npy_codes.specs.Codes.{orderFor}
 use Rattle.npy_codes.specs.Given.{versionGiven}
 use Rattle.npy.proofs.Putting.{then-puts, none-put}
 use borrow.Author.Needs.{needs}
@@ -30,13 +30,13 @@ same-length c = search needs
 returns : tie.Need-returns
 returns c =
     let a = c .before .before .before .before .before .before .before .before .before .before .before .before .before .args in
-    let is = told versionGiven (c .before .before .before .before .before .before .before .before .version-for .ensures) (c .before .before .before .before .before .before .v .given .1) in
+    let is = matched versionGiven (c .before .before .before .before .before .before .before .before .version-for .ensures) (c .before .before .before .before .before .before .v .given .1) in
     then-puts (λ v. then (orderFor (a .order)) (λ o. listed v (a .start) (a .table .now) (a .names .now) (a .shape .now) o (a .out .now))) is (c .before .before .list-as .ensures)
 
 returns-2 : tie.Need-returns-2
 returns-2 c =
     let a = c .before .before .before .before .before .before .before .before .before .args in
-    let none = told versionGiven (c .before .before .before .before .version-for .ensures) (c .before .before .why .given .1) in
+    let none = matched versionGiven (c .before .before .before .before .version-for .ensures) (c .before .before .why .given .1) in
     none-put (λ v. then (orderFor (a .order)) (λ o. listed v (a .start) (a .table .now) (a .names .now) (a .shape .now) o (a .out .now))) none (c .number .ensures)
 
 pub npy-list-spec : {M : Type 1} → statement M

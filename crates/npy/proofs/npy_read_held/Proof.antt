@@ -1,5 +1,5 @@
 -- The answer as C gets it, and the rooms as the reader left them.
-use Rattle.npy_codes.proofs.Named.{retold}
+use Rattle.npy_codes.proofs.Then.{returns-same}
 use borrow.Author.Needs.{needs}
 use Rattle.npy.proofs.npy_read_held.Statement.{statement}
 use Rattle.npy.proofs.npy_read_held.Tie as tie
@@ -20,7 +20,7 @@ same-length-3 : tie.Need-same-length-3
 same-length-3 c = search needs
 
 returns : tie.Need-returns
-returns c = record { answered = retold (c .before .before .before .before .before .before .before .before .read-held .ensures .answered) (c .return-header .ensures); rooms = c .before .before .before .before .before .before .before .before .read-held .ensures .after }
+returns c = record { answered = returns-same (c .before .before .before .before .before .before .before .before .read-held .ensures .answered) (c .return-header .ensures); rooms = c .before .before .before .before .before .before .before .before .read-held .ensures .after }
 
 pub npy-read-held-spec : {M : Type 1} → statement M
 npy-read-held-spec =

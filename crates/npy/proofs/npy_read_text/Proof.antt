@@ -1,6 +1,6 @@
 -- The answer as C gets it, and the rooms as the reader left them.
-use Rattle.counts.proofs.OneOutcome.{told}
-use Rattle.npy_codes.proofs.Named.{retold}
+use Rattle.counts.proofs.OneOutcome.{matched}
+use Rattle.npy_codes.proofs.Then.{returns-same}
 use borrow.Author.Needs.{needs}
 use Rattle.npy.proofs.npy_read_text.Statement.{statement}
 use Rattle.npy.proofs.npy_read_text.Tie as tie
@@ -22,7 +22,7 @@ same-length-3 c = search needs
 
 returns : tie.Need-returns
 returns c =
-    record { answered = retold (c .before .before .before .before .before .before .before .before .read-text .ensures .answered) (c .return-text .ensures); rooms = c .before .before .before .before .before .before .before .before .read-text .ensures .after }
+    record { answered = returns-same (c .before .before .before .before .before .before .before .before .read-text .ensures .answered) (c .return-text .ensures); rooms = c .before .before .before .before .before .before .before .before .read-text .ensures .after }
 
 pub npy-read-text-spec : {M : Type 1} → statement M
 npy-read-text-spec =

@@ -1,6 +1,6 @@
 -- The type, and then the answer of it; numbers that no type has are the refusal's number.
 use Rattle.type_str.specs.Text.{typePrinted}
-use Rattle.counts.proofs.OneOutcome.{told}
+use Rattle.counts.proofs.OneOutcome.{matched}
 use Rattle.type_str.specs.Answer as typed
 use Rattle.npy.proofs.Putting.{then-put, none-put}
 use borrow.Author.Needs.{needs}
@@ -31,13 +31,13 @@ same-length c = search needs
 returns : tie.Need-returns
 returns c =
     let a = c .before .before .before .before .before .before .before .before .before .before .before .args in
-    let is = told typed.answer (c .before .before .before .before .before .before .before .before .before .type-for .ensures) (c .before .before .before .before .before .before .before .t .given .1) in
+    let is = matched typed.answer (c .before .before .before .before .before .before .before .before .before .type-for .ensures) (c .before .before .before .before .before .before .before .t .given .1) in
     then-put (λ t. typePrinted t (a .out .now)) is (c .before .before .before .before .print .ensures) (c .return-bytes .ensures)
 
 returns-2 : tie.Need-returns-2
 returns-2 c =
     let a = c .before .before .before .before .before .before .args in
-    let none = told typed.answer (c .before .before .before .before .type-for .ensures) (c .before .before .why .given .1) in
+    let none = matched typed.answer (c .before .before .before .before .type-for .ensures) (c .before .before .why .given .1) in
     none-put (λ t. typePrinted t (a .out .now)) none (c .number .ensures)
 
 pub npy-type-print-spec : {M : Type 1} → statement M

@@ -1,5 +1,5 @@
 -- The answer of `type_read::parse`, as C gets it.
-use Rattle.npy_codes.proofs.Named.{retold}
+use Rattle.npy_codes.proofs.Then.{returns-same}
 use borrow.Author.Needs.{needs}
 use Rattle.npy.proofs.npy_type_read.Statement.{statement}
 use Rattle.npy.proofs.npy_type_read.Tie as tie
@@ -11,7 +11,7 @@ return-type-requires : tie.Need-return-type-requires
 return-type-requires c κs = search needs
 
 returns : tie.Need-returns
-returns c = retold (c .before .before .parse .ensures) (c .return-type .ensures)
+returns c = returns-same (c .before .before .parse .ensures) (c .return-type .ensures)
 
 pub npy-type-read-spec : {M : Type 1} → statement M
 npy-type-read-spec = tie.close (tie.spec parse-requires return-type-requires returns)

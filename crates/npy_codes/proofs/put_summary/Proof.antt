@@ -1,5 +1,5 @@
 -- The five values are those of the summary: a size is 1 and its bytes, and no size is 0 and 0.
-use Rattle.npy_codes.proofs.Told.{size-numbers}
+use Rattle.npy_codes.proofs.Returned.{size-numbers}
 use borrow.Author.Needs.{needs}
 use Rattle.npy_codes.proofs.put_summary.Statement.{statement}
 use Rattle.npy_codes.proofs.put_summary.Tie as tie

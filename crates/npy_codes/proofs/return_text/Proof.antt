@@ -3,8 +3,8 @@ use Rattle.header.specs.Reads.{textAnswer}
 use Prim.Native.Nat.{ℕ}
 use mathlib.Core.Path.{_≡_, refl, ap}
 use mathlib.Core.List.{List, _∷_}
-use Rattle.npy_codes.specs.Numbers.{textValues}
-use Rattle.npy_codes.proofs.Told.{gives-told, refuses-told}
+use Rattle.npy_codes.specs.Codes.{textValues}
+use Rattle.npy_codes.proofs.Returned.{gives-returned, refuses-returned}
 use borrow.Author.Needs.{needs}
 use Rattle.npy_codes.proofs.return_text.Statement.{statement}
 use Rattle.npy_codes.proofs.return_text.Tie as tie
@@ -25,10 +25,10 @@ number-requires : tie.Need-number-requires
 number-requires c κs = search needs
 
 returns : tie.Need-returns
-returns c = gives-told textValues textAnswer (c .before .before .before .a .given .1) refl (first-is (c .before .order-number .ensures))
+returns c = gives-returned textValues textAnswer (c .before .before .before .a .given .1) refl (first-is (c .before .order-number .ensures))
 
 returns-2 : tie.Need-returns-2
-returns-2 c = refuses-told textValues textAnswer (c .before .before .a2 .given .1) refl (c .number .ensures)
+returns-2 c = refuses-returned textValues textAnswer (c .before .before .a2 .given .1) refl (c .number .ensures)
 
 pub return-text-spec : {M : Type 1} → statement M
 return-text-spec =

@@ -1,5 +1,5 @@
 -- The type of the entry with these numbers, or 27: as `table_entry::type_of` says.
-use Rattle.counts.proofs.OneOutcome.{told}
+use Rattle.counts.proofs.OneOutcome.{matched}
 use Rattle.table_entry.specs.Answer.{typeAnswer}
 use borrow.Author.Needs.{needs}
 use Rattle.npy_codes.proofs.type_for.Statement.{statement}
@@ -15,10 +15,10 @@ enum-told : tie.Need-enum-told
 enum-told c = search needs
 
 returns : tie.Need-returns
-returns c = told typeAnswer (c .before .before .before .type-of .ensures) (c .before .found .given .1)
+returns c = matched typeAnswer (c .before .before .before .type-of .ensures) (c .before .found .given .1)
 
 returns-2 : tie.Need-returns-2
-returns-2 c = told typeAnswer (c .before .before .type-of .ensures) (c .enum-told .given .1)
+returns-2 c = matched typeAnswer (c .before .before .type-of .ensures) (c .enum-told .given .1)
 
 pub type-for-spec : {M : Type 1} → statement M
 type-for-spec = tie.close (tie.spec type-of-requires enum-known-found enum-told returns returns-2)

@@ -25,8 +25,8 @@ sub-k c = omega arith
 byte-in-requires : tie.Need-byte-in-requires Inv-loop μ-loop
 byte-in-requires c κs = search needs
 
-wide-requires : tie.Need-wide-requires Inv-loop μ-loop
-wide-requires c κs = search needs
+as-u64-requires : tie.Need-as-u64-requires Inv-loop μ-loop
+as-u64-requires c κs = search needs
 
 mul-n : tie.Need-mul-n Inv-loop μ-loop
 mul-n c = search needs
@@ -38,7 +38,7 @@ loop-less : tie.Need-loop-less Inv-loop μ-loop
 loop-less c = omega arith
 
 loop-again : tie.Need-loop-again Inv-loop μ-loop
-loop-again c = reading-more _ _ _ _ (c .before .before .before .loop-test .taken) (c .before .before .before .before .loop .inv) (c .wide .ensures ∙ c .before .byte-in .ensures) (omega arith)
+loop-again c = reading-more _ _ _ _ (c .before .before .before .loop-test .taken) (c .before .before .before .before .loop .inv) (c .as-u64 .ensures ∙ c .before .byte-in .ensures) (omega arith)
 
 returns-2 : tie.Need-returns-2 Inv-loop μ-loop
 returns-2 c = judged _ _ (reading-end _ _ _ (c .loop-test .left) (c .before .loop .inv))
@@ -53,7 +53,7 @@ read-spec =
     returns
     sub-k
     byte-in-requires
-    wide-requires
+    as-u64-requires
     mul-n
     add-n
     loop-less

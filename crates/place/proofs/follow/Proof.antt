@@ -2,7 +2,7 @@
 -- from there (`Walking`), so that these bytes are not over; the measure is what is left of the path.
 use Rattle.place.proofs.Walks.{Walking, walking-start, step-asks, walking-nowhere, walking-over, walking-next, ends-nowhere, ends-at}
 use Rattle.table_entry.specs.Answer.{typeAnswer}
-use Rattle.counts.proofs.OneOutcome.{told}
+use Rattle.counts.proofs.OneOutcome.{matched}
 use mathlib.Core.Path.{sym, _∙_}
 use lib.ListN.{length}
 use Prim.Native.Nat.{_-_}
@@ -75,10 +75,10 @@ enum-told-3 : tie.Need-enum-told-3 Inv-loop μ-loop
 enum-told-3 c = search needs
 
 returns-3 : tie.Need-returns-3 Inv-loop μ-loop
-returns-3 c = let l = c .before .before .before .before .before .loop in λ d h s u. ends-nowhere _ _ (l .e) (l .before .0) (l .k) (l .inv) (c .before .before .before .before .loop-test .left) _ (c .before .before .before .entry-at .ensures) d h s u (told typeAnswer (c .before .before .type-of .ensures) (c .enum-told3 .given .1))
+returns-3 c = let l = c .before .before .before .before .before .loop in λ d h s u. ends-nowhere _ _ (l .e) (l .before .0) (l .k) (l .inv) (c .before .before .before .before .loop-test .left) _ (c .before .before .before .entry-at .ensures) d h s u (matched typeAnswer (c .before .before .type-of .ensures) (c .enum-told3 .given .1))
 
 returns-4 : tie.Need-returns-4 Inv-loop μ-loop
-returns-4 c = let l = c .before .before .before .before .before .before .loop in λ d h s u. ends-at _ _ (l .e) (l .before .0) (l .k) (l .inv) (c .before .before .before .before .before .loop-test .left) _ (c .before .before .before .before .entry-at .ensures) d h s u _ (told typeAnswer (c .before .before .before .type-of .ensures) (c .before .kind .given .1))
+returns-4 c = let l = c .before .before .before .before .before .before .loop in λ d h s u. ends-at _ _ (l .e) (l .before .0) (l .k) (l .inv) (c .before .before .before .before .before .loop-test .left) _ (c .before .before .before .before .entry-at .ensures) d h s u _ (matched typeAnswer (c .before .before .before .type-of .ensures) (c .before .kind .given .1))
 
 pub follow-spec : {M : Type 1} → statement M
 follow-spec =

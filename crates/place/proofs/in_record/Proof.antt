@@ -8,7 +8,7 @@ use Rattle.place.specs.Walk.{Finds, Accepted}
 use Rattle.place.proofs.Placing.{answer-refused, follow-asks, answer-path, answer-over, answer-at}
 use Rattle.dtype.specs.Dtype.{Dtype}
 use Rattle.counts.specs.Outcome.{gives}
-use Rattle.counts.proofs.OneOutcome.{told}
+use Rattle.counts.proofs.OneOutcome.{matched}
 use native.Mathlib.Omega.{arith}
 use mathlib.Core.List.{List}
 use mathlib.Core.Path.{_≡_, ap, sym, _∙_}
@@ -31,7 +31,7 @@ enum-known-item c = search needs
 item-here : (c : tie.After-known-told)
     → let a = c .before .before .before .before .before .before .before .before .args in
     gives (c .before .item2 .given .0 .0) ≡ indexed (a .file .0) (a .start .0) (a .size) (a .count .0) (a .order) (a .shape .now) (a .index .now)
-item-here c = told answer (c .before .before .before .item .ensures) (c .before .item2 .given .1)
+item-here c = matched answer (c .before .before .before .item .ensures) (c .before .item2 .given .1)
 
 follow-requires : tie.Need-follow-requires
 follow-requires c κs =
@@ -83,7 +83,7 @@ returns-3 c = λ ns d a.
     (sym (c .before .before .before .first .given .1) ∙ c .before .before .before .before .before .first-byte .ensures)
 
 returns-4 : tie.Need-returns-4
-returns-4 c = λ ns d a. answer-refused _ ns _ _ d _ _ a _ _ _ _ _ (told answer (c .before .before .before .item .ensures) (c .before .why .given .1))
+returns-4 c = λ ns d a. answer-refused _ ns _ _ d _ _ a _ _ _ _ _ (matched answer (c .before .before .before .item .ensures) (c .before .why .given .1))
 
 pub in-record-spec : {M : Type 1} → statement M
 in-record-spec =

@@ -1,5 +1,5 @@
 -- `place::step` meets its contract, by the entry's kind.
-use Rattle.place.proofs.Walks.{stands-room, at-plain, past, into, into-over, skip-asks, to-field}
+use Rattle.place.proofs.Walks.{in-table-room, at-plain, past, into, into-over, field-asks, to-field}
 use mathlib.Core.Path.{sym, _∙_}
 use native.Mathlib.Omega.{arith}
 use borrow.Author.Needs.{needs}
@@ -16,7 +16,7 @@ returns-2 : tie.Need-returns-2
 returns-2 c = past _ _ _ _ (c .before .before .before .before .entry-at .ensures) (c .if2 .taken)
 
 add-c : tie.Need-add-c
-add-c c = omega (arith, stands-room _ _ _ (c .before .before .before .before .before .before .before .before .pre .1))
+add-c c = omega (arith, in-table-room _ _ _ (c .before .before .before .before .before .before .before .before .pre .1))
 
 entry-at-requires-2 : tie.Need-entry-at-requires-2
 entry-at-requires-2 c κs = search needs
@@ -36,11 +36,11 @@ returns-3 c = into-over _ _ _ _ (c .before .before .before .before .before .befo
 returns-4 : tie.Need-returns-4
 returns-4 c = into _ _ _ _ (c .before .before .before .before .before .before .before .before .before .before .before .entry-at .ensures) (c .before .before .before .before .before .before .before .if2 .left) (c .before .before .before .before .before .if3 .taken) _ (c .before .before .before .before .entry-at2 .ensures) _ (sym (c .before .before2 .given .1) ∙ c .before .before .before .of-size .ensures)
 
-skip-requires : tie.Need-skip-requires
-skip-requires c κs = skip-asks _ _ _ _ (c .before .before .before .before .before .before .entry-at .ensures) (c .before .before .if2 .left) (c .before .before .before .before .if1 .left) (c .if3 .left) (c .before .before .before .before .before .before .before .before .pre)
+field-at-requires : tie.Need-field-at-requires
+field-at-requires c κs = field-asks _ _ _ _ (c .before .before .before .before .before .before .entry-at .ensures) (c .before .before .if2 .left) (c .before .before .before .before .if1 .left) (c .if3 .left) (c .before .before .before .before .before .before .before .before .pre)
 
 returns-5 : tie.Need-returns-5
-returns-5 c = to-field _ _ _ _ (c .before .before .before .before .before .before .before .entry-at .ensures) (c .before .before .before .if2 .left) (c .before .before .before .before .before .if1 .left) (c .before .if3 .left) _ (c .skip .ensures)
+returns-5 c = to-field _ _ _ _ (c .before .before .before .before .before .before .before .entry-at .ensures) (c .before .before .before .if2 .left) (c .before .before .before .before .before .if1 .left) (c .before .if3 .left) _ (c .field-at .ensures)
 
 pub step-spec : {M : Type 1} → statement M
 step-spec =
@@ -56,5 +56,5 @@ step-spec =
     enum-told
     returns-3
     returns-4
-    skip-requires
+    field-at-requires
     returns-5)

@@ -1,6 +1,6 @@
 -- `place_area::item` meets its contract: each answer by the tests that led there.
 use Rattle.place_area.proofs.Answers.{answer-24, answer-25, answer-item}
-use Rattle.counts.proofs.OneOutcome.{told}
+use Rattle.counts.proofs.OneOutcome.{matched}
 use Rattle.refusal.specs.Answers.{itemsAnswer}
 use mathlib.Core.Path.{sym, _∙_}
 use borrow.Author.Needs.{needs}
@@ -35,13 +35,13 @@ returns-3 : tie.Need-returns-3
 returns-3 c =
     let at-number = c .before .before .before in
     answer-item _ _ _ _ _ _ _ _ (at-number .before .before .before .before .size .given .1) (sym (at-number .before .before .is-short .ensures) ∙ at-number .before .if1 .left)
-    _ (told itemsAnswer (at-number .item-number .ensures) (c .before .which .given .1))
+    _ (matched itemsAnswer (at-number .item-number .ensures) (c .before .which .given .1))
 
 returns-4 : tie.Need-returns-4
 returns-4 c =
     let at-number = c .before .before .before in
     answer-item _ _ _ _ _ _ _ _ (at-number .before .before .before .before .size .given .1) (sym (at-number .before .before .is-short .ensures) ∙ at-number .before .if1 .left)
-    _ (told itemsAnswer (at-number .item-number .ensures) (c .before .why .given .1))
+    _ (matched itemsAnswer (at-number .item-number .ensures) (c .before .why .given .1))
 
 pub item-spec : {M : Type 1} → statement M
 item-spec =

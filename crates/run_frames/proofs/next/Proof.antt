@@ -15,17 +15,17 @@ read-full-requires c κs = search needs
 returns : tie.Need-returns
 returns c = search needs
 
-array-read-wide : tie.Need-array-read-wide
-array-read-wide c = search needs
+array-read-as-usize : tie.Need-array-read-as-usize
+array-read-as-usize c = search needs
 
-wide-requires : tie.Need-wide-requires
-wide-requires c κs = search needs
+as-usize-requires : tie.Need-as-usize-requires
+as-usize-requires c κs = search needs
 
-array-read-wide-2 : tie.Need-array-read-wide-2
-array-read-wide-2 c = search needs
+array-read-as-usize-2 : tie.Need-array-read-as-usize-2
+array-read-as-usize-2 c = search needs
 
-wide-requires-2 : tie.Need-wide-requires-2
-wide-requires-2 c κs = search needs
+as-usize-requires-2 : tie.Need-as-usize-requires-2
+as-usize-requires-2 c κs = search needs
 
 mul-n : tie.Need-mul-n
 mul-n c = search needs
@@ -33,11 +33,11 @@ mul-n c = search needs
 add-n : tie.Need-add-n
 add-n c = search needs
 
-array-read-wide-3 : tie.Need-array-read-wide-3
-array-read-wide-3 c = search needs
+array-read-as-usize-3 : tie.Need-array-read-as-usize-3
+array-read-as-usize-3 c = search needs
 
-wide-requires-3 : tie.Need-wide-requires-3
-wide-requires-3 c κs = search needs
+as-usize-requires-3 : tie.Need-as-usize-requires-3
+as-usize-requires-3 c κs = search needs
 
 mul-n-2 : tie.Need-mul-n-2
 mul-n-2 c = search needs
@@ -45,11 +45,11 @@ mul-n-2 c = search needs
 add-n-2 : tie.Need-add-n-2
 add-n-2 c = search needs
 
-array-read-wide-4 : tie.Need-array-read-wide-4
-array-read-wide-4 c = search needs
+array-read-as-usize-4 : tie.Need-array-read-as-usize-4
+array-read-as-usize-4 c = search needs
 
-wide-requires-4 : tie.Need-wide-requires-4
-wide-requires-4 c κs = search needs
+as-usize-requires-4 : tie.Need-as-usize-requires-4
+as-usize-requires-4 c κs = search needs
 
 mul-n-3 : tie.Need-mul-n-3
 mul-n-3 c = search needs
@@ -88,18 +88,18 @@ next-spec =
     slice-aggregate-read-full
     read-full-requires
     returns
-    array-read-wide
-    wide-requires
-    array-read-wide-2
-    wide-requires-2
+    array-read-as-usize
+    as-usize-requires
+    array-read-as-usize-2
+    as-usize-requires-2
     mul-n
     add-n
-    array-read-wide-3
-    wide-requires-3
+    array-read-as-usize-3
+    as-usize-requires-3
     mul-n-2
     add-n-2
-    array-read-wide-4
-    wide-requires-4
+    array-read-as-usize-4
+    as-usize-requires-4
     mul-n-3
     add-n-3
     returns-2

@@ -1,7 +1,7 @@
 -- `shape::strides` meets its contract: what `count` refuses is refused (22), then the room is tested, then `fill` writes all strides.
 use mathlib.Core.Path.{_≡_}
 use Rattle.counts.specs.Outcome.{gives}
-use Rattle.counts.proofs.OneOutcome.{told}
+use Rattle.counts.proofs.OneOutcome.{matched}
 use Rattle.refusal.specs.Answers.{itemsAnswer}
 use Rattle.shape.specs.Count.{itemCount}
 use Rattle.shape.proofs.Turns.{counted-fits, writes-refused, writes-room, writes-all}
@@ -20,10 +20,10 @@ enum-told c = search needs
 
 -- what is known once the count is taken out of its answer
 counted-here : (c : tie.After-known-told) → gives (c .before .counted .given .0 .0 .0) ≡ itemCount (c .before .before .before .before .before .before .args .order) (c .before .before .before .before .before .before .args .shape .now)
-counted-here c = told itemsAnswer (c .before .before .before .count .ensures) (c .before .counted .given .1)
+counted-here c = matched itemsAnswer (c .before .before .before .count .ensures) (c .before .counted .given .1)
 
 returns : tie.Need-returns
-returns c = rw (c .enum-told .given .1) (writes-refused _ _ _ _ (told itemsAnswer (c .before .before .count .ensures) (c .enum-told .given .1)))
+returns c = rw (c .enum-told .given .1) (writes-refused _ _ _ _ (matched itemsAnswer (c .before .before .count .ensures) (c .enum-told .given .1)))
 
 returns-2 : tie.Need-returns-2
 returns-2 c = writes-room _ _ _ _ (counted-here (c .before)) (c .if1 .taken)

@@ -1,8 +1,8 @@
 -- Digits end somewhere exactly where there is one, and then they are the integer there.
 use mathlib.Core.Path.{refl, sym, _∙_}
 use Rattle.literal_bytes.specs.declared.ValueKind.the-variants.{Digit}
-use Rattle.shape_verdict.specs.Answer.{sized}
-use Rattle.shape_text.proofs.Numbers.{token-value, numeral-ends, numeral-number, numeral-stands, no-numeral, dimension-digit, member-digit}
+use Rattle.shape_verdict.specs.Answer.{memberAnswer}
+use Rattle.shape_text.proofs.Numbers.{token-value, numeral-ends, numeral-number, numeral-there, no-numeral, dimension-digit, member-digit}
 use borrow.Author.Needs.{needs}
 use Rattle.shape_text.proofs.member_at.Statement.{statement}
 use Rattle.shape_text.proofs.member_at.Tie as tie
@@ -28,10 +28,10 @@ returns-2 c =
     let s = a .text .now in
     let r = c .before .before .before .before .numeral-at .result in
     let hr = c .before .before .before .before .numeral-at .ensures in
-    let hk = numeral-stands s (a .at) r hr _ (c .before .before .ended .given .1) in (
+    let hk = numeral-there s (a .at) r hr _ (c .before .before .ended .given .1) in (
       sym (c .before .before .ended .given .1) ∙ numeral-ends s (a .at) r hr ∙ token-value (a .room) s (a .at) Digit hk refl,
       (
-        λ k n e h. dimension-digit k s (a .at) e n h (sized (c .positive .result)) hk (λ e he. c .positive .ensures .0 _ (numeral-number s (a .at) r hr e he)),
+        λ k n e h. dimension-digit k s (a .at) e n h (memberAnswer (c .positive .result)) hk (λ e he. c .positive .ensures .0 _ (numeral-number s (a .at) r hr e he)),
         member-digit s (a .at) (c .positive .result) r hr _ (c .before .before .ended .given .1) (c .positive .ensures .1),
       ),
     )

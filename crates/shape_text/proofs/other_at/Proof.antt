@@ -8,7 +8,7 @@ use Rattle.literal_bytes.specs.declared.ValueKind.the-variants.{Minus}
 use Rattle.literal_bytes.proofs.Positions.{byte-in}
 use Rattle.refusal.specs.declared.Refusal.{Refusal}
 use Rattle.shape_verdict.specs.declared.Member.{Member}
-use Rattle.shape_verdict.specs.Answer.{sized}
+use Rattle.shape_verdict.specs.Answer.{memberAnswer}
 use Rattle.shape_text.proofs.Numbers.{token-value, minus-kind, numeral-ends, numeral-number, dimension-minus, dimension-other, member-minus, member-none}
 use borrow.Author.Needs.{needs}
 use Rattle.shape_text.proofs.other_at.Statement.{statement}
@@ -44,7 +44,7 @@ returns-2 c =
     let hk = minus-kind (byteAt s (a .at)) (sym (c .before .before .before .peek .ensures) ∙ c .before .before .if1 .left) in (
       numeral-ends s (a .at + 1) (c .before .numeral-at .result) (c .before .numeral-at .ensures) ∙ token-value (a .room) s (a .at) Minus hk refl,
       (
-        λ k n e h. dimension-minus k s (a .at) e n h (sized (c .negative .result)) hk (λ e he. c .negative .ensures .0 _ (numeral-number s (a .at + 1) (c .before .numeral-at .result) (c .before .numeral-at .ensures) e he)),
+        λ k n e h. dimension-minus k s (a .at) e n h (memberAnswer (c .negative .result)) hk (λ e he. c .negative .ensures .0 _ (numeral-number s (a .at + 1) (c .before .numeral-at .result) (c .before .numeral-at .ensures) e he)),
         member-minus s (a .at) (c .negative .result) (c .before .before .before .before .before .pre) (c .before .numeral-at .result) (c .before .numeral-at .ensures) (sym (c .before .before .before .peek .ensures) ∙ c .before .before .if1 .left) (c .negative .ensures .1),
       ),
     )

@@ -9,12 +9,12 @@ returns : tie.Need-returns
 unfolding largestIn
 returns c = rw (eq-eqb _ _ (c .if1 .taken))
 
-sized-requires : tie.Need-sized-requires
-sized-requires c κs = search needs
+bytes-of-items-requires : tie.Need-bytes-of-items-requires
+bytes-of-items-requires c κs = search needs
 
 returns-2 : tie.Need-returns-2
 unfolding largestIn
-returns-2 c = rw (ne-eqb _ _ (c .before .if1 .left)) (c .sized .ensures)
+returns-2 c = rw (ne-eqb _ _ (c .before .if1 .left)) (c .bytes-of-items .ensures)
 
 pub largest-spec : {M : Type 1} → statement M
-largest-spec = tie.close (tie.spec returns sized-requires returns-2)
+largest-spec = tie.close (tie.spec returns bytes-of-items-requires returns-2)

@@ -3,7 +3,7 @@ use Prim.Native.Nat.{_-_}
 use mathlib.Core.Path.{refl, sym, _∙_}
 use native.Mathlib.Omega.{arith}
 use borrow.Author.Needs.{needs}
-use Rattle.counts.proofs.OneOutcome.{told}
+use Rattle.counts.proofs.OneOutcome.{matched}
 use Rattle.counts.proofs.Apart.{gives-refused, gives-apart}
 use Rattle.string_value.specs.Elements.{points, found}
 use Rattle.string_value.proofs.Places.{Copying, copying-start, copying-more, copying-end, four-at}
@@ -33,7 +33,7 @@ same-length : tie.Need-same-length Inv-loop μ-loop
 same-length c = c .before .before .before .before .loop .inv .same
 
 returns : tie.Need-returns Inv-loop μ-loop
-returns c = gives-refused (sym ((four-at (c .before .before .before .before .before .before .before .args .order) (c .before .before .before .before .before .before .before .args .run .now) _ _ (c .before .before .before .before .loop .inv) (c .before .before .before .loop-test .taken) (c .before .before .before .before .before .before .before .pre .0)) .is) ∙ sym (told pointAnswer (c .before .before .point-at .ensures) (c .enum-told .given .1)))
+returns c = gives-refused (sym ((four-at (c .before .before .before .before .before .before .before .args .order) (c .before .before .before .before .before .before .before .args .run .now) _ _ (c .before .before .before .before .loop .inv) (c .before .before .before .loop-test .taken) (c .before .before .before .before .before .before .before .pre .0)) .is) ∙ sym (matched pointAnswer (c .before .before .point-at .ensures) (c .enum-told .given .1)))
 
 mul-out : tie.Need-mul-out Inv-loop μ-loop
 mul-out c = search needs
@@ -51,7 +51,7 @@ loop-less : tie.Need-loop-less Inv-loop μ-loop
 loop-less c = omega arith
 
 loop-again : tie.Need-loop-again Inv-loop μ-loop
-loop-again c = copying-more _ _ _ _ _ _ _ (c .before .before .before .before .before .loop .inv) (c .before .before .before .before .loop-test .taken) (c .before .before .before .before .before .before .before .before .pre .0) (c .before .before .before .before .before .before .before .before .pre .1) (gives-apart ((told pointAnswer (c .before .before .before .point-at .ensures) (c .before .p .given .1)) ∙ (four-at (c .before .before .before .before .before .before .before .before .args .order) (c .before .before .before .before .before .before .before .before .args .run .now) _ _ (c .before .before .before .before .before .loop .inv) (c .before .before .before .before .loop-test .taken) (c .before .before .before .before .before .before .before .before .pre .0)) .is))
+loop-again c = copying-more _ _ _ _ _ _ _ (c .before .before .before .before .before .loop .inv) (c .before .before .before .before .loop-test .taken) (c .before .before .before .before .before .before .before .before .pre .0) (c .before .before .before .before .before .before .before .before .pre .1) (gives-apart ((matched pointAnswer (c .before .before .before .point-at .ensures) (c .before .p .given .1)) ∙ (four-at (c .before .before .before .before .before .before .before .before .args .order) (c .before .before .before .before .before .before .before .before .args .run .now) _ _ (c .before .before .before .before .before .loop .inv) (c .before .before .before .before .loop-test .taken) (c .before .before .before .before .before .before .before .before .pre .0)) .is))
 
 same-length-2 : tie.Need-same-length-2 Inv-loop μ-loop
 same-length-2 c = c .before .loop .inv .same

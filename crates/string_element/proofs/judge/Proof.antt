@@ -4,7 +4,7 @@ use mathlib.Core.Path.{sym}
 use native.Mathlib.Omega.{arith}
 use borrow.Author.Needs.{needs}
 use lib.ListN.{length}
-use Rattle.counts.proofs.OneOutcome.{told}
+use Rattle.counts.proofs.OneOutcome.{matched}
 use Rattle.string_element.specs.Answer.{pointAnswer}
 use Rattle.string_value.proofs.Scalars.{Judging, judging-start, judging-inside, judging-some, judging-zero, judging-bad, judging-end}
 use Rattle.string_element.proofs.judge.Statement.{statement}
@@ -29,25 +29,25 @@ enum-told : tie.Need-enum-told Inv-loop μ-loop
 enum-told c = search needs
 
 returns : tie.Need-returns Inv-loop μ-loop
-returns c = judging-bad _ _ _ _ _ (c .before .before .before .before .loop .inv) (c .before .before .before .loop-test .taken) (sym (told pointAnswer (c .before .before .point-at .ensures) (c .enum-told .given .1)))
+returns c = judging-bad _ _ _ _ _ (c .before .before .before .before .loop .inv) (c .before .before .before .loop-test .taken) (sym (matched pointAnswer (c .before .before .point-at .ensures) (c .enum-told .given .1)))
 
 add-at : tie.Need-add-at Inv-loop μ-loop
-add-at c = omega (arith, judging-inside _ _ _ _ _ _ (c .before .before .before .before .before .loop .inv) (sym (told pointAnswer (c .before .before .before .point-at .ensures) (c .before .p .given .1))))
+add-at c = omega (arith, judging-inside _ _ _ _ _ _ (c .before .before .before .before .before .loop .inv) (sym (matched pointAnswer (c .before .before .before .point-at .ensures) (c .before .p .given .1))))
 
 add-t11 : tie.Need-add-t11 Inv-loop μ-loop
 add-t11 c = omega (arith, c .before .before .before .before .before .before .loop .inv .four)
 
 loop-less : tie.Need-loop-less Inv-loop μ-loop
-loop-less c = omega (arith, judging-inside _ _ _ _ _ _ (c .before .before .before .before .before .before .before .loop .inv) (sym (told pointAnswer (c .before .before .before .before .before .point-at .ensures) (c .before .before .before .p .given .1))))
+loop-less c = omega (arith, judging-inside _ _ _ _ _ _ (c .before .before .before .before .before .before .before .loop .inv) (sym (matched pointAnswer (c .before .before .before .before .before .point-at .ensures) (c .before .before .before .p .given .1))))
 
 loop-again : tie.Need-loop-again Inv-loop μ-loop
-loop-again c = judging-some _ _ _ _ _ _ (c .before .before .before .before .before .before .before .loop .inv) (sym (told pointAnswer (c .before .before .before .before .before .point-at .ensures) (c .before .before .before .p .given .1))) (c .if1 .taken)
+loop-again c = judging-some _ _ _ _ _ _ (c .before .before .before .before .before .before .before .loop .inv) (sym (matched pointAnswer (c .before .before .before .before .before .point-at .ensures) (c .before .before .before .p .given .1))) (c .if1 .taken)
 
 loop-less-2 : tie.Need-loop-less-2 Inv-loop μ-loop
-loop-less-2 c = omega (arith, judging-inside _ _ _ _ _ _ (c .before .before .before .before .before .before .before .loop .inv) (sym (told pointAnswer (c .before .before .before .before .before .point-at .ensures) (c .before .before .before .p .given .1))))
+loop-less-2 c = omega (arith, judging-inside _ _ _ _ _ _ (c .before .before .before .before .before .before .before .loop .inv) (sym (matched pointAnswer (c .before .before .before .before .before .point-at .ensures) (c .before .before .before .p .given .1))))
 
 loop-again-2 : tie.Need-loop-again-2 Inv-loop μ-loop
-loop-again-2 c = judging-zero _ _ _ _ _ _ (c .before .before .before .before .before .before .before .loop .inv) (sym (told pointAnswer (c .before .before .before .before .before .point-at .ensures) (c .before .before .before .p .given .1))) (c .if1 .left)
+loop-again-2 c = judging-zero _ _ _ _ _ _ (c .before .before .before .before .before .before .before .loop .inv) (sym (matched pointAnswer (c .before .before .before .before .before .point-at .ensures) (c .before .before .before .p .given .1))) (c .if1 .left)
 
 returns-2 : tie.Need-returns-2 Inv-loop μ-loop
 returns-2 c = judging-end _ _ _ _ _ (c .before .loop .inv) (c .loop-test .left)

@@ -8,7 +8,7 @@ use lib.ListN.{take}
 use lib.Seq.{length-take-le}
 use borrow.Author.Tests.{not-true, not-false}
 use Rattle.counts.proofs.Owes.{owes-refused, owes-same}
-use Rattle.type_letters.specs.Classes.{isBytes, isRaw}
+use Rattle.type_letters.specs.Letters.{isBytes, isRaw}
 use Rattle.type_letters.proofs.Tags.{no-letter}
 use Rattle.type_str.specs.Text.{isType}
 use Rattle.string_value.proofs.Trims.{trim-take, trim-length}

@@ -2,9 +2,9 @@
 use mathlib.Core.Path.{_≡_, sym, _∙_}
 use mathlib.Core.Bool.{true}
 use borrow.Author.Tests.{not-true, not-false}
-use Rattle.counts.proofs.OneOutcome.{told}
+use Rattle.counts.proofs.OneOutcome.{matched}
 use Rattle.refusal.specs.Answers.{pointsAnswer}
-use Rattle.type_letters.specs.Classes.{isUnicode}
+use Rattle.type_letters.specs.Letters.{isUnicode}
 use Rattle.type_str.specs.Text.{isType}
 use Rattle.counts.proofs.Owes.{owes-refused, owes-same}
 use Rattle.string_value.proofs.Ways.{read-points-none, read-points-other, read-points-bad, read-points-short, read-points-inside, read-points-whole}
@@ -43,18 +43,18 @@ enum-told c = search needs
 returns-3 : tie.Need-returns-3
 returns-3 c =
     rw (c .enum-told .given .1)
-    (owes-same _ _ _ _ _ (read-points-bad _ _ _ (typed (c .before .before .before)) (unicode (c .before .before .before)) _ (told pointsAnswer (c .before .before .judge .ensures) (c .enum-told .given .1))) (owes-refused _ _))
+    (owes-same _ _ _ _ _ (read-points-bad _ _ _ (typed (c .before .before .before)) (unicode (c .before .before .before)) _ (matched pointsAnswer (c .before .before .judge .ensures) (c .enum-told .given .1))) (owes-refused _ _))
 
 returns-4 : tie.Need-returns-4
 returns-4 c =
     read-points-short _ _ _ (typed (c .before .before .before .before .before .before)) (unicode (c .before .before .before .before .before .before)) _
-    (told pointsAnswer (c .before .before .before .before .before .judge .ensures) (c .before .before .before .judged .given .1)) (c .if3 .taken)
+    (matched pointsAnswer (c .before .before .before .before .before .judge .ensures) (c .before .before .before .judged .given .1)) (c .if3 .taken)
 
 copy-points-requires : tie.Need-copy-points-requires
 copy-points-requires c κs =
     let a = c .before .before .before .before .before .before .before .before .before .before .before .before .before .args in (
       read-points-inside _ (a .run .now) (a .out .now) (typed (c .before .before .before .before .before .before .before)) (unicode (c .before .before .before .before .before .before .before)) _
-          (told pointsAnswer (c .before .before .before .before .before .before .judge .ensures) (c .before .before .before .before .judged .given .1)),
+          (matched pointsAnswer (c .before .before .before .before .before .before .judge .ensures) (c .before .before .before .before .judged .given .1)),
       c .before .if3 .left,
     )
 
@@ -64,7 +64,7 @@ same-length c = search needs
 returns-5 : tie.Need-returns-5
 returns-5 c =
     read-points-whole _ _ _ (typed (c .before .before .before .before .before .before .before .before .before .before)) (unicode (c .before .before .before .before .before .before .before .before .before .before)) _
-    (told pointsAnswer (c .before .before .before .before .before .before .before .before .before .judge .ensures) (c .before .before .before .before .before .before .before .judged .given .1)) _ _
+    (matched pointsAnswer (c .before .before .before .before .before .before .before .before .before .judge .ensures) (c .before .before .before .before .before .before .before .judged .given .1)) _ _
     (c .before .before .before .before .if3 .left) (c .before .before .copy-points .ensures .0) (c .before .before .copy-points .ensures .1)
 
 pub read-points-spec : {M : Type 1} → statement M

@@ -4,7 +4,7 @@ use mathlib.Core.Bool.{true}
 use mathlib.Core.List.{[], _∷_}
 use borrow.Author.Tests.{not-true, not-false}
 use Rattle.counts.proofs.Owes.{owes-refused, owes-same}
-use Rattle.type_letters.specs.Classes.{isBytes, isRaw}
+use Rattle.type_letters.specs.Letters.{isBytes, isRaw}
 use Rattle.type_letters.proofs.Tags.{no-letter}
 use Rattle.type_str.specs.Text.{isType}
 use Rattle.string_value.proofs.Ways.{write-bytes-none, write-bytes-by, bytes-none, bytes-long, bytes-fit, raw-other, raw-fit}

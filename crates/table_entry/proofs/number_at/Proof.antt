@@ -4,7 +4,7 @@ use Rattle.table_entry.proofs.Entry.{past-end}
 use native.Mathlib.Omega.{arith}
 use lib.Seq.{getD-drop}
 use borrow.Author.Needs.{needs}
-use Rattle.dtype.specs.Flat.{entry-width}
+use Rattle.dtype.specs.Record.{entry-width}
 use Rattle.table_entry.proofs.number_at.Statement.{statement}
 use Rattle.table_entry.proofs.number_at.Tie as tie
 

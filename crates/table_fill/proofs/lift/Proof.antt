@@ -3,7 +3,7 @@ use Prim.Native.Nat.{_+_, _*_}
 use native.Mathlib.Omega.{arith}
 use mathlib.Core.Path.{ap, _∙_}
 use lib.ListN.{length}
-use Rattle.dtype.specs.Flat.{entry-width}
+use Rattle.dtype.specs.Record.{entry-width}
 use Rattle.table_fill.proofs.Lifts.{moved-on-length, lifted-none, lifted-by}
 use borrow.Author.Needs.{needs}
 use Rattle.table_fill.proofs.lift.Statement.{statement}

@@ -2,7 +2,7 @@
 use mathlib.Core.Path.{sym, ap, _∙_}
 use Rattle.counts.proofs.Apart.{gives-refused}
 use Rattle.write_text.specs.Prints.{answer}
-use Rattle.write_text.proofs.Prints.{text-at, told-refused}
+use Rattle.write_text.proofs.Prints.{text-at, unprinted-refused}
 use borrow.Author.Needs.{needs}
 use Rattle.write.proofs.put_text.Statement.{statement}
 use Rattle.write.proofs.put_text.Tie as tie
@@ -20,7 +20,7 @@ same-length : tie.Need-same-length
 same-length c = search needs
 
 returns : tie.Need-returns
-returns c = λ x e. gives-refused (sym e ∙ told-refused _ _ _ _ _ _ (ap answer (c .enum-told .given .1)) (c .before .before .before .before .put-text .ensures))
+returns c = λ x e. gives-refused (sym e ∙ unprinted-refused _ _ _ _ _ _ (ap answer (c .enum-told .given .1)) (c .before .before .before .before .put-text .ensures))
 
 same-length-2 : tie.Need-same-length-2
 same-length-2 c = search needs

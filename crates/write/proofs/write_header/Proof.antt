@@ -2,7 +2,7 @@
 use native.Mathlib.Omega.{arith}
 use mathlib.Core.Path.{ap}
 use Rattle.write_text.specs.Prints.{answer}
-use Rattle.write_text.proofs.Prints.{told-refused}
+use Rattle.write_text.proofs.Prints.{unprinted-refused}
 use Rattle.write.proofs.Answers.{header-refused, header-measured}
 use borrow.Author.Needs.{needs}
 use Rattle.write.proofs.write_header.Statement.{statement}
@@ -30,7 +30,7 @@ returns : tie.Need-returns
 returns c = header-measured _ _ _ _ _ _ (omega arith) _ _ _ (c .before .before .before .before .before .bare .given .1) (c .before .before .before .before .before .before .before .before .put-text .ensures) (c .before .before .write-record .result) _ (c .before .before .write-record .ensures)
 
 returns-2 : tie.Need-returns-2
-returns-2 c = header-refused _ _ _ _ _ (c .before .why .given .0 .0) (told-refused _ _ _ _ _ _ (ap answer (c .before .why .given .1)) (c .before .before .before .before .put-text .ensures))
+returns-2 c = header-refused _ _ _ _ _ (c .before .why .given .0 .0) (unprinted-refused _ _ _ _ _ _ (ap answer (c .before .why .given .1)) (c .before .before .before .before .put-text .ensures))
 
 pub write-header-spec : {M : Type 1} → statement M
 write-header-spec =

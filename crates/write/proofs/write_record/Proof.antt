@@ -1,5 +1,5 @@
 -- `write::write_record` meets its contract: each answer by the tests that led there.
-use Rattle.counts.proofs.OneOutcome.{told}
+use Rattle.counts.proofs.OneOutcome.{matched}
 use Rattle.write_padding.specs.Plan.{answer}
 use Rattle.write.proofs.Answers.{record-4, record-28, record-written}
 use borrow.Author.Needs.{needs}
@@ -16,7 +16,7 @@ enum-known-plan : tie.Need-enum-known-plan
 enum-known-plan c = search needs
 
 returns : tie.Need-returns
-returns c = λ x e m. record-28 _ _ _ _ x e _ _ m _ (c .before .before .before .before .before .is-ascii .ensures) _ (told answer (c .before .before .before .before .plan-for .ensures) (c .before .before .plan .given .1)) (c .if1 .taken)
+returns c = λ x e m. record-28 _ _ _ _ x e _ _ m _ (c .before .before .before .before .before .is-ascii .ensures) _ (matched answer (c .before .before .before .before .plan-for .ensures) (c .before .before .plan .given .1)) (c .if1 .taken)
 
 put-header-requires : tie.Need-put-header-requires
 put-header-requires c κs = search needs
@@ -28,10 +28,10 @@ same-length : tie.Need-same-length
 same-length c = search needs
 
 returns-2 : tie.Need-returns-2
-returns-2 c = λ x e m. record-written _ _ _ _ x e _ _ m _ (c .before .before .before .before .before .before .before .before .before .is-ascii .ensures) _ (told answer (c .before .before .before .before .before .before .before .before .plan-for .ensures) (c .before .before .before .before .before .before .plan .given .1)) (c .before .before .before .before .if1 .left) _ _ (c .before .before .put-header .ensures)
+returns-2 c = λ x e m. record-written _ _ _ _ x e _ _ m _ (c .before .before .before .before .before .before .before .before .before .is-ascii .ensures) _ (matched answer (c .before .before .before .before .before .before .before .before .plan-for .ensures) (c .before .before .before .before .before .before .plan .given .1)) (c .before .before .before .before .if1 .left) _ _ (c .before .before .put-header .ensures)
 
 returns-3 : tie.Need-returns-3
-returns-3 c = λ x e m. record-4 _ _ _ _ x e _ _ m _ (c .before .before .before .before .is-ascii .ensures) (c .before .why .given .0 .0) (told answer (c .before .before .before .plan-for .ensures) (c .before .why .given .1))
+returns-3 c = λ x e m. record-4 _ _ _ _ x e _ _ m _ (c .before .before .before .before .is-ascii .ensures) (c .before .why .given .0 .0) (matched answer (c .before .before .before .plan-for .ensures) (c .before .why .given .1))
 
 pub write-record-spec : {M : Type 1} → statement M
 write-record-spec =

@@ -8,7 +8,7 @@ use borrow.Author.Needs.{needs}
 use borrow.Author.Tests.{not-true, not-false}
 use Rattle.dtype.specs.Dtype.{Fields}
 use Rattle.dtype.specs.Entries.{fieldCount}
-use Rattle.write_depth.specs.Listed.{ListedIn}
+use Rattle.write_depth.specs.Listed.{FieldsInTableAt}
 use Rattle.write_depth.proofs.Listing.{under-innermost, under-record}
 use Rattle.write_depth.proofs.Nesting.{plain-within, record-none, record-within, under-inside, under-within, under-listed, brackets-some, Passing, passing-start, passing-asks, passing-few, passing-no, passing-more, passing-end}
 use Prim.Native.Nat.{ℕ, _<_}
@@ -51,7 +51,7 @@ abbrev within-below : ℕ → In 1 within-kinds.ps
 within-below t = and 1 within-kinds.ps (falls 1 within-kinds.ps _<_ μ-within t) within.Pre
 
 abbrev fields-within-Inv-loop : fields-within-lts.InvT-loop
-fields-within-Inv-loop table count e k c₀ left₀ c left = (fs : Fields) → count ≡ fieldCount fs → ListedIn table e fs → Passing table e k c left fs
+fields-within-Inv-loop table count e k c₀ left₀ c left = (fs : Fields) → count ≡ fieldCount fs → FieldsInTableAt table e fs → Passing table e k c left fs
 
 abbrev fields-within-μ-loop : fields-within-lts.MeasureT-loop
 fields-within-μ-loop table count e k c₀ left₀ c left = left

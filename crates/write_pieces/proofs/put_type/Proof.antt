@@ -1,5 +1,5 @@
 -- `write_pieces::put_type` meets its contract: the type between two quotes, as none of its bytes is escaped.
-use Rattle.counts.proofs.OneOutcome.{told}
+use Rattle.counts.proofs.OneOutcome.{matched}
 use Rattle.table_entry.specs.Answer.{typeAnswer}
 use Rattle.write_pieces.proofs.Quoted.{between}
 use Rattle.write_pieces.proofs.Types.{type-quoted, no-type}
@@ -17,7 +17,7 @@ enum-told : tie.Need-enum-told
 enum-told c = search needs
 
 returns : tie.Need-returns
-returns c = no-type _ _ _ (told typeAnswer (c .before .before .type-of .ensures) (c .enum-told .given .1))
+returns c = no-type _ _ _ (matched typeAnswer (c .before .before .type-of .ensures) (c .enum-told .given .1))
 
 put-requires : tie.Need-put-requires
 put-requires c κs = search needs
@@ -32,7 +32,7 @@ same-length : tie.Need-same-length
 same-length c = search needs
 
 returns-2 : tie.Need-returns-2
-returns-2 c = type-quoted _ _ _ _ _ _ (told typeAnswer (c .before .before .before .before .before .before .before .before .before .before .before .before .before .before .before .type-of .ensures) (c .before .before .before .before .before .before .before .before .before .before .before .before .before .t .given .1)) (between _ _ _ _ _ _ _ _ _ _ _ (c .before .before .before .before .before .before .before .before .before .before .put .ensures) (c .before .before .before .before .before .before .put2 .ensures) (c .before .before .put3 .ensures))
+returns-2 c = type-quoted _ _ _ _ _ _ (matched typeAnswer (c .before .before .before .before .before .before .before .before .before .before .before .before .before .before .before .type-of .ensures) (c .before .before .before .before .before .before .before .before .before .before .before .before .before .t .given .1)) (between _ _ _ _ _ _ _ _ _ _ _ (c .before .before .before .before .before .before .before .before .before .before .put .ensures) (c .before .before .before .before .before .before .put2 .ensures) (c .before .before .put3 .ensures))
 
 pub put-type-spec : {M : Type 1} → statement M
 put-type-spec =

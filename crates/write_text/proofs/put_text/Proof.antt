@@ -1,6 +1,6 @@
 -- `write_text::put_text` meets its contract: the refusals of write_depth first, and then the text.
 use mathlib.Core.Path.{refl}
-use Rattle.counts.proofs.OneOutcome.{told}
+use Rattle.counts.proofs.OneOutcome.{matched}
 use Rattle.check_record.specs.Answer.{answer}
 use Rattle.write_text.proofs.Prints.{prints-refused, accepted, unaccepted, accepted-text}
 use borrow.Author.Needs.{needs}
@@ -14,7 +14,7 @@ enum-known-found : tie.Need-enum-known-found
 enum-known-found c = search needs
 
 put-dict-requires : tie.Need-put-dict-requires
-put-dict-requires c κs = let u = accepted _ _ _ _ _ (told answer (c .before .before .before .before .check .ensures) (c .before .before .found .given .1)) in (u .0, u .2)
+put-dict-requires c κs = let u = accepted _ _ _ _ _ (matched answer (c .before .before .before .before .check .ensures) (c .before .before .found .given .1)) in (u .0, u .2)
 
 enum-known-why : tie.Need-enum-known-why
 enum-known-why c = search needs
@@ -23,10 +23,10 @@ same-length : tie.Need-same-length
 same-length c = search needs
 
 returns : tie.Need-returns
-returns c = accepted-text _ _ _ _ _ (told answer (c .before .before .before .before .before .before .before .check .ensures) (c .before .before .before .before .before .found .given .1)) _ _ _ _ (c .before .before .put-dict .ensures)
+returns c = accepted-text _ _ _ _ _ (matched answer (c .before .before .before .before .before .before .before .check .ensures) (c .before .before .before .before .before .found .given .1)) _ _ _ _ (c .before .before .put-dict .ensures)
 
 returns-2 : tie.Need-returns-2
-returns-2 c = prints-refused _ _ _ _ _ refl (unaccepted _ _ _ _ _ (told answer (c .before .before .before .check .ensures) (c .before .why .given .1)))
+returns-2 c = prints-refused _ _ _ _ _ refl (unaccepted _ _ _ _ _ (matched answer (c .before .before .before .check .ensures) (c .before .why .given .1)))
 
 pub put-text-spec : {M : Type 1} → statement M
 put-text-spec =

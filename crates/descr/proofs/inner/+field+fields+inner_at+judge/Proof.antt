@@ -13,7 +13,7 @@ use Rattle.descr_field.proofs.Begins.{string-in}
 use Rattle.descr_totals.specs.Verdict.{verdict}
 use Rattle.descr.proofs.Adds.{fieldBy, descrBy}
 use Rattle.descr.proofs.Along.{Turn, turn-start, turn-stop, turn-more, turn-end}
-use Rattle.descr.proofs.Nodes.{type-judged, descr-misfit, field-misfit, bracket-in, bracket-small, too-deep, field-judged, record-judged}
+use Rattle.descr.proofs.Nodes.{type-judged, descr-no-form, field-no-form, bracket-in, bracket-small, too-deep, field-judged, record-judged}
 use Rattle.descr.proofs.Items.{items-empty, items-unread, items-alone, items-broken, items-whole}
 use borrow.Author.Needs.{needs}
 use borrow.Fn.Kinds.{In}
@@ -30,7 +30,7 @@ use Rattle.descr.proofs.inner.+field+fields+inner_at+judge.Lts-inner_at
 use Rattle.descr.proofs.inner.judge.Reads as judge
 use Rattle.descr.proofs.inner.judge.Kinds as judge-kinds
 use Rattle.descr.proofs.inner.+field+fields+inner_at+judge.Lts-judge as judge-lts
-use Rattle.descr_field.proofs.misfit.Reads as misfit-reads
+use Rattle.descr_field.proofs.wrong_form.Reads as wrong-form-reads
 use Rattle.descr_field.proofs.name_at.Reads as name-at-reads
 use Rattle.descr.proofs.inner.plain_at.Reads as plain-at-reads
 use Rattle.descr_field.proofs.second_at.Reads as second-at-reads
@@ -82,16 +82,16 @@ abbrev judge-below : ℕ → In 1 judge-kinds.ps
 judge-below t = and 1 judge-kinds.ps (falls 1 judge-kinds.ps _<_ μ-judge t) judge.Pre
 
 abbrev field-told : ℕ → field-lts.Claims
-field-told t = (closing-at-reads.Asked, closing-at-reads.Learnt, value-reads.Asked, value-reads.Learnt, misfit-reads.Asked, misfit-reads.Learnt, gap-at-reads.Asked, gap-at-reads.Learnt, ended-reads.Asked, ended-reads.Learnt, name-at-reads.Asked, name-at-reads.Learnt, second-at-reads.Asked, second-at-reads.Learnt, inner-at-below t, inner-at.Post, then-at-reads.Asked, then-at-reads.Learnt, sub-shape-reads.Asked, sub-shape-reads.Learnt)
+field-told t = (closing-at-reads.Asked, closing-at-reads.Learnt, value-reads.Asked, value-reads.Learnt, wrong-form-reads.Asked, wrong-form-reads.Learnt, gap-at-reads.Asked, gap-at-reads.Learnt, ended-reads.Asked, ended-reads.Learnt, name-at-reads.Asked, name-at-reads.Learnt, second-at-reads.Asked, second-at-reads.Learnt, inner-at-below t, inner-at.Post, then-at-reads.Asked, then-at-reads.Learnt, sub-shape-reads.Asked, sub-shape-reads.Learnt)
 
 abbrev fields-told : ℕ → fields-lts.Claims
-fields-told t = (gap-at-reads.Asked, gap-at-reads.Learnt, ended-reads.Asked, ended-reads.Learnt, field-below t, field.Post, misfit-reads.Asked, misfit-reads.Learnt, join-reads.Asked, join-reads.Learnt, then-at-reads.Asked, then-at-reads.Learnt)
+fields-told t = (gap-at-reads.Asked, gap-at-reads.Learnt, ended-reads.Asked, ended-reads.Learnt, field-below t, field.Post, wrong-form-reads.Asked, wrong-form-reads.Learnt, join-reads.Asked, join-reads.Learnt, then-at-reads.Asked, then-at-reads.Learnt)
 
 abbrev inner-at-told : ℕ → inner-at-lts.Claims
 inner-at-told t = (string-at-reads.Asked, string-at-reads.Learnt, plain-at-reads.Asked, plain-at-reads.Learnt, judge-below t, judge.Post)
 
 abbrev judge-told : ℕ → judge-lts.Claims
-judge-told t = (string-at-reads.Asked, string-at-reads.Learnt, plain-at-reads.Asked, plain-at-reads.Learnt, closing-at-reads.Asked, closing-at-reads.Learnt, value-reads.Asked, value-reads.Learnt, misfit-reads.Asked, misfit-reads.Learnt, fields-below t, fields.Post, join-reads.Asked, join-reads.Learnt)
+judge-told t = (string-at-reads.Asked, string-at-reads.Learnt, plain-at-reads.Asked, plain-at-reads.Learnt, closing-at-reads.Asked, closing-at-reads.Learnt, value-reads.Asked, value-reads.Learnt, wrong-form-reads.Asked, wrong-form-reads.Learnt, fields-below t, fields.Post, join-reads.Asked, join-reads.Learnt)
 
 abbrev fields-Inv-loop : fields-lts.InvT-loop
 fields-Inv-loop text from room g₀ verdict₀ g verdict = Turn room text from g verdict
@@ -105,21 +105,21 @@ field-closing-at-requires t c κs = search needs
 field-value-requires : (t : ℕ) → field-lts.Need-value-requires (field-told t) (field-at t) field.Post
 field-value-requires t c κs = search needs
 
-field-misfit-requires : (t : ℕ) → field-lts.Need-misfit-requires (field-told t) (field-at t) field.Post
-field-misfit-requires t c κs = search needs
+field-wrong-form-requires : (t : ℕ) → field-lts.Need-wrong-form-requires (field-told t) (field-at t) field.Post
+field-wrong-form-requires t c κs = search needs
 
 field-returns : (t : ℕ) → field-lts.Need-returns (field-told t) (field-at t) field.Post
 field-returns t c =
     let a = c .before .before .before .before .before .args in
-    field-misfit (a .room) (a .text .now) (a .at) (c .misfit .result) (c .misfit .ensures .0 ∙ c .before .value .ensures) (ap verdict (c .misfit .ensures .1)) (sym (c .before .before .before .closing-at .ensures) ∙ c .before .before .if1 .taken)
+    field-no-form (a .room) (a .text .now) (a .at) (c .wrong-form .result) (c .wrong-form .ensures .0 ∙ c .before .value .ensures) (ap verdict (c .wrong-form .ensures .1)) (sym (c .before .before .before .closing-at .ensures) ∙ c .before .before .if1 .taken)
 
-field-misfit-requires-2 : (t : ℕ) → field-lts.Need-misfit-requires-2 (field-told t) (field-at t) field.Post
-field-misfit-requires-2 t c κs = search needs
+field-wrong-form-requires-2 : (t : ℕ) → field-lts.Need-wrong-form-requires-2 (field-told t) (field-at t) field.Post
+field-wrong-form-requires-2 t c κs = search needs
 
 field-returns-2 : (t : ℕ) → field-lts.Need-returns-2 (field-told t) (field-at t) field.Post
 field-returns-2 t c =
     let a = c .before .before .before .before .before .args in
-    too-deep (a .room) (a .text .now) (a .at) (c .before .before .before .closing-at .result) (c .before .before .before .closing-at .ensures) (c .before .before .if1 .left) fieldBy (c .misfit2 .result) (c .before .if2 .taken) (c .misfit2 .ensures .0)
+    too-deep (a .room) (a .text .now) (a .at) (c .before .before .before .closing-at .result) (c .before .before .before .closing-at .ensures) (c .before .before .if1 .left) fieldBy (c .wrong-form2 .result) (c .before .if2 .taken) (c .wrong-form2 .ensures .0)
 
 field-sub-left : (t : ℕ) → field-lts.Need-sub-left (field-told t) (field-at t) field.Post
 field-sub-left t c = search needs
@@ -139,8 +139,8 @@ field-enum-known-g1 t c = search needs
 field-ended-requires : (t : ℕ) → field-lts.Need-ended-requires (field-told t) (field-at t) field.Post
 field-ended-requires t c κs = search needs
 
-field-misfit-requires-3 : (t : ℕ) → field-lts.Need-misfit-requires-3 (field-told t) (field-at t) field.Post
-field-misfit-requires-3 t c κs = search needs
+field-wrong-form-requires-3 : (t : ℕ) → field-lts.Need-wrong-form-requires-3 (field-told t) (field-at t) field.Post
+field-wrong-form-requires-3 t c κs = search needs
 
 field-returns-3 : (t : ℕ) → field-lts.Need-returns-3 (field-told t) (field-at t) field.Post
 field-returns-3 t c =
@@ -148,7 +148,7 @@ field-returns-3 t c =
     let a = o .before .before .before .before .args in
     let b = o .before .before .closing-at in
     field-judged (a .room) (a .text .now) (a .at) (b .result) (b .ensures) (o .before .if1 .left) (o .if2 .left) _
-    (items-empty (a .room - 1) (a .text .now) (a .at + 1) (b .result) (c .before .before .before .gap-at .result) (c .before .before .before .gap-at .ensures) (c .misfit3 .result) (c .before .before .match .keys2) (c .misfit3 .ensures .0 ∙ c .before .ended .ensures) (ap verdict (c .misfit3 .ensures .1)))
+    (items-empty (a .room - 1) (a .text .now) (a .at + 1) (b .result) (c .before .before .before .gap-at .result) (c .before .before .before .gap-at .ensures) (c .wrong-form3 .result) (c .before .before .match .keys2) (c .wrong-form3 .ensures .0 ∙ c .before .ended .ensures) (ap verdict (c .wrong-form3 .ensures .1)))
 
 field-name-at-requires : (t : ℕ) → field-lts.Need-name-at-requires (field-told t) (field-at t) field.Post
 field-name-at-requires t c κs = search needs
@@ -156,8 +156,8 @@ field-name-at-requires t c κs = search needs
 field-enum-known-e1 : (t : ℕ) → field-lts.Need-enum-known-e1 (field-told t) (field-at t) field.Post
 field-enum-known-e1 t c = search needs
 
-field-misfit-requires-4 : (t : ℕ) → field-lts.Need-misfit-requires-4 (field-told t) (field-at t) field.Post
-field-misfit-requires-4 t c κs = search needs
+field-wrong-form-requires-4 : (t : ℕ) → field-lts.Need-wrong-form-requires-4 (field-told t) (field-at t) field.Post
+field-wrong-form-requires-4 t c κs = search needs
 
 field-returns-4 : (t : ℕ) → field-lts.Need-returns-4 (field-told t) (field-at t) field.Post
 field-returns-4 t c =
@@ -165,7 +165,7 @@ field-returns-4 t c =
     let a = o .before .before .before .before .args in
     let b = o .before .before .closing-at in
     field-judged (a .room) (a .text .now) (a .at) (b .result) (b .ensures) (o .before .if1 .left) (o .if2 .left) _
-    (items-unread (a .room - 1) (a .text .now) (a .at + 1) (b .result) (c .before .before .before .before .before .before .gap-at .result) (c .before .before .before .before .before .before .gap-at .ensures) _ (c .before .before .before .before .g1 .given .1) (c .before .before .name-at .result) (c .before .before .name-at .ensures) (c .misfit4 .result) (stops (c .before .before .name-at .result .ended) (c .before .match2 .keys2)) (c .misfit4 .ensures .0))
+    (items-unread (a .room - 1) (a .text .now) (a .at + 1) (b .result) (c .before .before .before .before .before .before .gap-at .result) (c .before .before .before .before .before .before .gap-at .ensures) _ (c .before .before .before .before .g1 .given .1) (c .before .before .name-at .result) (c .before .before .name-at .ensures) (c .wrong-form4 .result) (stops (c .before .before .name-at .result .ended) (c .before .match2 .keys2)) (c .wrong-form4 .ensures .0))
 
 field-second-at-requires : (t : ℕ) → field-lts.Need-second-at-requires (field-told t) (field-at t) field.Post
 field-second-at-requires t c κs = search needs
@@ -176,8 +176,8 @@ field-enum-known-g2 t c = search needs
 field-ended-requires-2 : (t : ℕ) → field-lts.Need-ended-requires-2 (field-told t) (field-at t) field.Post
 field-ended-requires-2 t c κs = search needs
 
-field-misfit-requires-5 : (t : ℕ) → field-lts.Need-misfit-requires-5 (field-told t) (field-at t) field.Post
-field-misfit-requires-5 t c κs = search needs
+field-wrong-form-requires-5 : (t : ℕ) → field-lts.Need-wrong-form-requires-5 (field-told t) (field-at t) field.Post
+field-wrong-form-requires-5 t c κs = search needs
 
 field-returns-5 : (t : ℕ) → field-lts.Need-returns-5 (field-told t) (field-at t) field.Post
 field-returns-5 t c =
@@ -185,7 +185,7 @@ field-returns-5 t c =
     let a = o .before .before .before .before .args in
     let b = o .before .before .closing-at in
     field-judged (a .room) (a .text .now) (a .at) (b .result) (b .ensures) (o .before .if1 .left) (o .if2 .left) _
-    (items-alone (a .room - 1) (a .text .now) (a .at + 1) (b .result) (c .before .before .before .before .before .before .before .before .before .before .before .gap-at .result) (c .before .before .before .before .before .before .before .before .before .before .before .gap-at .ensures) _ (c .before .before .before .before .before .before .before .before .before .g1 .given .1) (c .before .before .before .before .before .before .before .name-at .result) (c .before .before .before .before .before .before .before .name-at .ensures) (bracket-small (a .room) (a .text .now) (a .at) (b .result) (b .ensures) (o .before .if1 .left)) _ (c .before .before .before .before .before .e1 .given .1) (c .before .before .before .second-at .result) (c .before .before .before .second-at .ensures) (c .misfit5 .result) (c .before .before .match3 .keys2) (c .misfit5 .ensures .0 ∙ c .before .ended2 .ensures) (ap verdict (c .misfit5 .ensures .1)))
+    (items-alone (a .room - 1) (a .text .now) (a .at + 1) (b .result) (c .before .before .before .before .before .before .before .before .before .before .before .gap-at .result) (c .before .before .before .before .before .before .before .before .before .before .before .gap-at .ensures) _ (c .before .before .before .before .before .before .before .before .before .g1 .given .1) (c .before .before .before .before .before .before .before .name-at .result) (c .before .before .before .before .before .before .before .name-at .ensures) (bracket-small (a .room) (a .text .now) (a .at) (b .result) (b .ensures) (o .before .if1 .left)) _ (c .before .before .before .before .before .e1 .given .1) (c .before .before .before .second-at .result) (c .before .before .before .second-at .ensures) (c .wrong-form5 .result) (c .before .before .match3 .keys2) (c .wrong-form5 .ensures .0 ∙ c .before .ended2 .ensures) (ap verdict (c .wrong-form5 .ensures .1)))
 
 field-inner-at-requires : (t : ℕ) → field-lts.Need-inner-at-requires (field-told t) (field-at t) field.Post
 field-inner-at-requires t c κs = omega arith
@@ -193,8 +193,8 @@ field-inner-at-requires t c κs = omega arith
 field-enum-known-e2 : (t : ℕ) → field-lts.Need-enum-known-e2 (field-told t) (field-at t) field.Post
 field-enum-known-e2 t c = search needs
 
-field-misfit-requires-6 : (t : ℕ) → field-lts.Need-misfit-requires-6 (field-told t) (field-at t) field.Post
-field-misfit-requires-6 t c κs = search needs
+field-wrong-form-requires-6 : (t : ℕ) → field-lts.Need-wrong-form-requires-6 (field-told t) (field-at t) field.Post
+field-wrong-form-requires-6 t c κs = search needs
 
 field-returns-6 : (t : ℕ) → field-lts.Need-returns-6 (field-told t) (field-at t) field.Post
 field-returns-6 t c =
@@ -202,7 +202,7 @@ field-returns-6 t c =
     let a = o .before .before .before .before .args in
     let b = o .before .before .closing-at in
     field-judged (a .room) (a .text .now) (a .at) (b .result) (b .ensures) (o .before .if1 .left) (o .if2 .left) _
-    (items-broken (a .room - 1) (a .text .now) (a .at + 1) (b .result) (c .before .before .before .before .before .before .before .before .before .before .before .before .before .before .gap-at .result) (c .before .before .before .before .before .before .before .before .before .before .before .before .before .before .gap-at .ensures) _ (c .before .before .before .before .before .before .before .before .before .before .before .before .g1 .given .1) (c .before .before .before .before .before .before .before .before .before .before .name-at .result) (c .before .before .before .before .before .before .before .before .before .before .name-at .ensures) (bracket-small (a .room) (a .text .now) (a .at) (b .result) (b .ensures) (o .before .if1 .left)) _ (c .before .before .before .before .before .before .before .before .e1 .given .1) (c .before .before .before .before .before .before .second-at .result) (c .before .before .before .before .before .before .second-at .ensures) _ (c .before .before .before .before .g2 .given .1) (c .before .before .inner-at .result) (c .before .before .inner-at .ensures) (c .misfit6 .result) (stops (c .before .before .inner-at .result .ended) (c .before .match4 .keys2)) (c .misfit6 .ensures .0))
+    (items-broken (a .room - 1) (a .text .now) (a .at + 1) (b .result) (c .before .before .before .before .before .before .before .before .before .before .before .before .before .before .gap-at .result) (c .before .before .before .before .before .before .before .before .before .before .before .before .before .before .gap-at .ensures) _ (c .before .before .before .before .before .before .before .before .before .before .before .before .g1 .given .1) (c .before .before .before .before .before .before .before .before .before .before .name-at .result) (c .before .before .before .before .before .before .before .before .before .before .name-at .ensures) (bracket-small (a .room) (a .text .now) (a .at) (b .result) (b .ensures) (o .before .if1 .left)) _ (c .before .before .before .before .before .before .before .before .e1 .given .1) (c .before .before .before .before .before .before .second-at .result) (c .before .before .before .before .before .before .second-at .ensures) _ (c .before .before .before .before .g2 .given .1) (c .before .before .inner-at .result) (c .before .before .inner-at .ensures) (c .wrong-form6 .result) (stops (c .before .before .inner-at .result .ended) (c .before .match4 .keys2)) (c .wrong-form6 .ensures .0))
 
 field-then-at-requires : (t : ℕ) → field-lts.Need-then-at-requires (field-told t) (field-at t) field.Post
 field-then-at-requires t c κs = search needs
@@ -242,14 +242,14 @@ fields-field-requires t c κs = omega arith
 fields-enum-known-end : (t : ℕ) → fields-lts.Need-enum-known-end (fields-told t) (fields-at t) fields.Post fields-Inv-loop fields-μ-loop
 fields-enum-known-end t c = search needs
 
-fields-misfit-requires : (t : ℕ) → fields-lts.Need-misfit-requires (fields-told t) (fields-at t) fields.Post fields-Inv-loop fields-μ-loop
-fields-misfit-requires t c κs = search needs
+fields-wrong-form-requires : (t : ℕ) → fields-lts.Need-wrong-form-requires (fields-told t) (fields-at t) fields.Post fields-Inv-loop fields-μ-loop
+fields-wrong-form-requires t c κs = search needs
 
 fields-returns-2 : (t : ℕ) → fields-lts.Need-returns-2 (fields-told t) (fields-at t) fields.Post fields-Inv-loop fields-μ-loop
 fields-returns-2 t c =
     let a = c .before .before .before .before .before .before .before .before .before .args in
     let l = c .before .before .before .before .before .before .loop in
-    turn-stop (a .room) (a .text .now) (a .from) (l .g) (l .verdict) _ (l .inv) (c .before .before .before .before .g .given .1) (c .before .before .field .result) (c .before .before .field .ensures) (c .misfit .result) (stops (c .before .before .field .result .ended) (c .before .match2 .keys2)) (c .misfit .ensures .0)
+    turn-stop (a .room) (a .text .now) (a .from) (l .g) (l .verdict) _ (l .inv) (c .before .before .before .before .g .given .1) (c .before .before .field .result) (c .before .before .field .ensures) (c .wrong-form .result) (stops (c .before .before .field .result .ended) (c .before .match2 .keys2)) (c .wrong-form .ensures .0)
 
 fields-join-requires : (t : ℕ) → fields-lts.Need-join-requires (fields-told t) (fields-at t) fields.Post fields-Inv-loop fields-μ-loop
 fields-join-requires t c κs = search needs
@@ -302,21 +302,21 @@ judge-closing-at-requires t c κs = search needs
 judge-value-requires : (t : ℕ) → judge-lts.Need-value-requires (judge-told t) (judge-at t) judge.Post
 judge-value-requires t c κs = search needs
 
-judge-misfit-requires : (t : ℕ) → judge-lts.Need-misfit-requires (judge-told t) (judge-at t) judge.Post
-judge-misfit-requires t c κs = search needs
+judge-wrong-form-requires : (t : ℕ) → judge-lts.Need-wrong-form-requires (judge-told t) (judge-at t) judge.Post
+judge-wrong-form-requires t c κs = search needs
 
 judge-returns-2 : (t : ℕ) → judge-lts.Need-returns-2 (judge-told t) (judge-at t) judge.Post
 judge-returns-2 t c =
     let a = c .before .before .before .before .before .before .before .args in
-    descr-misfit (a .room) (a .text .now) (a .at) (c .misfit .result) (c .misfit .ensures .0 ∙ c .before .value .ensures) (ap verdict (c .misfit .ensures .1)) (sym (c .before .before .before .before .before .string-at .ensures) ∙ c .before .before .before .before .if1 .left) (λ z. c .before .before .if2 .taken (c .before .before .before .closing-at .ensures ∙ z))
+    descr-no-form (a .room) (a .text .now) (a .at) (c .wrong-form .result) (c .wrong-form .ensures .0 ∙ c .before .value .ensures) (ap verdict (c .wrong-form .ensures .1)) (sym (c .before .before .before .before .before .string-at .ensures) ∙ c .before .before .before .before .if1 .left) (λ z. c .before .before .if2 .taken (c .before .before .before .closing-at .ensures ∙ z))
 
-judge-misfit-requires-2 : (t : ℕ) → judge-lts.Need-misfit-requires-2 (judge-told t) (judge-at t) judge.Post
-judge-misfit-requires-2 t c κs = search needs
+judge-wrong-form-requires-2 : (t : ℕ) → judge-lts.Need-wrong-form-requires-2 (judge-told t) (judge-at t) judge.Post
+judge-wrong-form-requires-2 t c κs = search needs
 
 judge-returns-3 : (t : ℕ) → judge-lts.Need-returns-3 (judge-told t) (judge-at t) judge.Post
 judge-returns-3 t c =
     let a = c .before .before .before .before .before .before .before .args in
-    too-deep (a .room) (a .text .now) (a .at) (c .before .before .before .closing-at .result) (c .before .before .before .closing-at .ensures) (λ z. absurd (omega (arith, c .before .before .if2 .left))) descrBy (c .misfit2 .result) (c .before .if3 .taken) (c .misfit2 .ensures .0)
+    too-deep (a .room) (a .text .now) (a .at) (c .before .before .before .closing-at .result) (c .before .before .before .closing-at .ensures) (λ z. absurd (omega (arith, c .before .before .if2 .left))) descrBy (c .wrong-form2 .result) (c .before .if3 .taken) (c .wrong-form2 .ensures .0)
 
 judge-add-fields : (t : ℕ) → judge-lts.Need-add-fields (judge-told t) (judge-at t) judge.Post
 judge-add-fields t c =
@@ -341,7 +341,7 @@ judge-returns-4 t c =
 pub +field+fields+inner-at+judge-spec : {M : Type 1} → statement M
 +field+fields+inner-at+judge-spec =
     close μ-field μ-fields μ-inner-at μ-judge
-    (λ t. field-lts.spec (field-told t) (field-at t) field.Post (field-closing-at-requires t) (field-value-requires t) (field-misfit-requires t) (field-returns t) (field-misfit-requires-2 t) (field-returns-2 t) (field-sub-left t) (field-add-gap-at t) (field-gap-at-requires t) (field-enum-known-g1 t) (field-ended-requires t) (field-misfit-requires-3 t) (field-returns-3 t) (field-name-at-requires t) (field-enum-known-e1 t) (field-misfit-requires-4 t) (field-returns-4 t) (field-second-at-requires t) (field-enum-known-g2 t) (field-ended-requires-2 t) (field-misfit-requires-5 t) (field-returns-5 t) (field-inner-at-requires t) (field-enum-known-e2 t) (field-misfit-requires-6 t) (field-returns-6 t) (field-then-at-requires t) (field-sub-shape-requires t) (field-returns-7 t))
-    (λ t. fields-lts.spec (fields-told t) (fields-at t) fields.Post fields-Inv-loop fields-μ-loop (fields-gap-at-requires t) (fields-loop-holds t) (fields-enum-known-g t) (fields-ended-requires t) (fields-returns t) (fields-field-requires t) (fields-enum-known-end t) (fields-misfit-requires t) (fields-returns-2 t) (fields-join-requires t) (fields-then-at-requires t) (fields-loop-less t) (fields-loop-again t))
+    (λ t. field-lts.spec (field-told t) (field-at t) field.Post (field-closing-at-requires t) (field-value-requires t) (field-wrong-form-requires t) (field-returns t) (field-wrong-form-requires-2 t) (field-returns-2 t) (field-sub-left t) (field-add-gap-at t) (field-gap-at-requires t) (field-enum-known-g1 t) (field-ended-requires t) (field-wrong-form-requires-3 t) (field-returns-3 t) (field-name-at-requires t) (field-enum-known-e1 t) (field-wrong-form-requires-4 t) (field-returns-4 t) (field-second-at-requires t) (field-enum-known-g2 t) (field-ended-requires-2 t) (field-wrong-form-requires-5 t) (field-returns-5 t) (field-inner-at-requires t) (field-enum-known-e2 t) (field-wrong-form-requires-6 t) (field-returns-6 t) (field-then-at-requires t) (field-sub-shape-requires t) (field-returns-7 t))
+    (λ t. fields-lts.spec (fields-told t) (fields-at t) fields.Post fields-Inv-loop fields-μ-loop (fields-gap-at-requires t) (fields-loop-holds t) (fields-enum-known-g t) (fields-ended-requires t) (fields-returns t) (fields-field-requires t) (fields-enum-known-end t) (fields-wrong-form-requires t) (fields-returns-2 t) (fields-join-requires t) (fields-then-at-requires t) (fields-loop-less t) (fields-loop-again t))
     (λ t. inner-at-lts.spec (inner-at-told t) (inner-at-at t) inner-at.Post (inner-at-string-at-requires t) (inner-at-plain-at-requires t) (inner-at-returns t) (inner-at-judge-requires t) (inner-at-returns-2 t))
-    (λ t. judge-lts.spec (judge-told t) (judge-at t) judge.Post (judge-string-at-requires t) (judge-plain-at-requires t) (judge-returns t) (judge-closing-at-requires t) (judge-value-requires t) (judge-misfit-requires t) (judge-returns-2 t) (judge-misfit-requires-2 t) (judge-returns-3 t) (judge-add-fields t) (judge-sub-fields t) (judge-fields-requires t) (judge-join-requires t) (judge-returns-4 t))
+    (λ t. judge-lts.spec (judge-told t) (judge-at t) judge.Post (judge-string-at-requires t) (judge-plain-at-requires t) (judge-returns t) (judge-closing-at-requires t) (judge-value-requires t) (judge-wrong-form-requires t) (judge-returns-2 t) (judge-wrong-form-requires-2 t) (judge-returns-3 t) (judge-add-fields t) (judge-sub-fields t) (judge-fields-requires t) (judge-join-requires t) (judge-returns-4 t))

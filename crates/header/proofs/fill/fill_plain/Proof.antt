@@ -22,8 +22,8 @@ shared-slice-read-typed-at c =
 typed-at-requires : tie.Need-typed-at-requires
 typed-at-requires c κs = search needs
 
-type-of-requires : tie.Need-type-of-requires
-type-of-requires c κs = search needs
+type-in-requires : tie.Need-type-in-requires
+type-in-requires c κs = search needs
 
 put-plain-requires : tie.Need-put-plain-requires
 put-plain-requires c κs = search needs
@@ -41,7 +41,7 @@ returns : tie.Need-returns
 returns c =
     let a = c .before .before .before .before .before .before .before .before .before .before .args in
     λ k names n e d h.
-    text-whole k (a .text .now) (a .at) (a .entry) (a .up) (a .name) (a .byte) (a .table .now) names n e d h (c .before .before .before .before .before .before .before .before .before .before .pre .0) (c .before .before .before .before .before .before .typed-at .result) (c .before .before .before .before .before .before .typed-at .ensures) (c .before .before .before .before .type-of .result) (c .before .before .before .before .type-of .ensures) (c .end-place .result) (c .end-place .ensures) (c .before .before .before .put-plain .result) (c .before .before .before .put-plain .ensures .0) _ (c .before .before .before .put-plain .ensures .1)
+    text-whole k (a .text .now) (a .at) (a .entry) (a .up) (a .name) (a .byte) (a .table .now) names n e d h (c .before .before .before .before .before .before .before .before .before .before .pre .0) (c .before .before .before .before .before .before .typed-at .result) (c .before .before .before .before .before .before .typed-at .ensures) (c .before .before .before .before .type-in .result) (c .before .before .before .before .type-in .ensures) (c .end-place .result) (c .end-place .ensures) (c .before .before .before .put-plain .result) (c .before .before .before .put-plain .ensures .0) _ (c .before .before .before .put-plain .ensures .1)
 
 pub fill-plain-spec : {M : Type 1} → statement M
 fill-plain-spec =
@@ -50,7 +50,7 @@ fill-plain-spec =
     add-typed-at
     shared-slice-read-typed-at
     typed-at-requires
-    type-of-requires
+    type-in-requires
     put-plain-requires
     end-place-requires
     add-t18

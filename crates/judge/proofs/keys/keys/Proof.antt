@@ -3,7 +3,7 @@ use Prim.Native.Nat.{_-_}
 use native.Mathlib.Omega.{arith}
 use mathlib.Core.Path.{refl, sym, _∙_}
 use borrow.Author.Needs.{needs}
-use Rattle.literal_grammar.specs.Nesting.{most-open}
+use Rattle.literal_grammar.specs.Value.{most-open}
 use Rattle.literal_bytes.proofs.Positions.{kind-in}
 use Rattle.judge.proofs.Seek.{dict-keys, dict-walked, no-dict}
 use Rattle.judge.proofs.keys.keys.Statement.{statement}

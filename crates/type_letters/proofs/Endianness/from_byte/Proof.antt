@@ -1,6 +1,6 @@
 -- `Endianness::from_byte` meets its contract: in each arm the byte is known, and in the last it is none of the table.
 use borrow.Author.Tests.{ne-eqb}
-use Rattle.type_letters.specs.Orders.{orderOf}
+use Rattle.type_letters.specs.Letters.{orderOf}
 use Rattle.type_letters.proofs.Endianness.from_byte.Statement.{statement}
 use Rattle.type_letters.proofs.Endianness.from_byte.Tie as tie
 

@@ -1,7 +1,7 @@
 -- `TypeChar::is_object` meets its contract: `O`, or one of the ten other letters.
 use mathlib.Core.Path.{refl}
 use mathlib.Core.List.{[], _∷_}
-use Rattle.type_letters.specs.Classes.{isObject}
+use Rattle.type_letters.specs.Letters.{isObject}
 use Rattle.type_letters.proofs.Tags.{no-letter}
 use borrow.Author.Needs.{needs}
 use Rattle.type_letters.proofs.TypeChar.is_object.Statement.{statement}

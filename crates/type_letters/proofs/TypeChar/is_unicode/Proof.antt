@@ -1,7 +1,7 @@
 -- `TypeChar::is_unicode` meets its contract: `U`, or one of the ten other letters.
 use mathlib.Core.Path.{refl}
 use mathlib.Core.List.{[], _∷_}
-use Rattle.type_letters.specs.Classes.{isUnicode}
+use Rattle.type_letters.specs.Letters.{isUnicode}
 use Rattle.type_letters.proofs.Tags.{no-letter}
 use borrow.Author.Needs.{needs}
 use Rattle.type_letters.proofs.TypeChar.is_unicode.Statement.{statement}

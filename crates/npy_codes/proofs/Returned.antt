@@ -8,25 +8,24 @@ use Rattle.type_str.specs.declared.TypeStr.{TypeStr}
 use Rattle.dtype.specs.declared.Entry.{Entry}
 use Rattle.dtype.specs.Dtype.{plain}
 use Rattle.dtype.specs.EntryOf.{entryOf}
-use Rattle.npy_codes.specs.Codes.{code, Returns}
+use Rattle.npy_codes.specs.Codes.{code, Returns, typeValues, sizeValues, summaryValues, runValues}
 use Rattle.check_record.specs.declared.ItemSize.{ItemSize}
 use Rattle.check_record.specs.declared.Summary.{Summary}
 use Rattle.place_area.specs.declared.Run.{Run}
-use Rattle.npy_codes.specs.Numbers.{typeValues, sizeValues, summaryValues, runValues}
 
 module _ {A : Type 0} (values : A → List ℕ) where
-  value-told : {o : Outcome A} {a : A} {room room′ : List ℕ} → o ≡ gives a → room′ ≡ values a → Returns values o room 0 room′
-  value-told {room = room} is put = record { answered = sym (ap code is); after = put ∙ sym (ap (λ x. afterwards (λ a old. values a) x room) is) }
+  value-returned : {o : Outcome A} {a : A} {room room′ : List ℕ} → o ≡ gives a → room′ ≡ values a → Returns values o room 0 room′
+  value-returned {room = room} is put = record { answered = sym (ap code is); after = put ∙ sym (ap (λ x. afterwards (λ a old. values a) x room) is) }
 
-  number-told : {o : Outcome A} {n r : ℕ} {room : List ℕ} → o ≡ refused n → r ≡ n → Returns values o room r room
-  number-told {room = room} is number = record { answered = number ∙ sym (ap code is); after = sym (ap (λ x. afterwards (λ a old. values a) x room) is) }
+  number-returned : {o : Outcome A} {n r : ℕ} {room : List ℕ} → o ≡ refused n → r ≡ n → Returns values o room r room
+  number-returned {room = room} is number = record { answered = number ∙ sym (ap code is); after = sym (ap (λ x. afterwards (λ a old. values a) x room) is) }
 
   -- the answer x that a pattern found
-  pub gives-told : {X : Type 0} (answer : X → Outcome A) {x y : X} {a : A} {room room′ : List ℕ} → x ≡ y → answer y ≡ gives a → room′ ≡ values a → Returns values (answer x) room 0 room′
-  gives-told answer found is put = value-told (ap answer found ∙ is) put
+  pub gives-returned : {X : Type 0} (answer : X → Outcome A) {x y : X} {a : A} {room room′ : List ℕ} → x ≡ y → answer y ≡ gives a → room′ ≡ values a → Returns values (answer x) room 0 room′
+  gives-returned answer found is put = value-returned (ap answer found ∙ is) put
 
-  pub refuses-told : {X : Type 0} (answer : X → Outcome A) {x y : X} {n r : ℕ} {room : List ℕ} → x ≡ y → answer y ≡ refused n → r ≡ n → Returns values (answer x) room r room
-  refuses-told answer found is number = number-told (ap answer found ∙ is) number
+  pub refuses-returned : {X : Type 0} (answer : X → Outcome A) {x y : X} {n r : ℕ} {room : List ℕ} → x ≡ y → answer y ≡ refused n → r ≡ n → Returns values (answer x) room r room
+  refuses-returned answer found is number = number-returned (ap answer found ∙ is) number
 
 -- a type's four numbers are those of its entry
 pub type-numbers : (t : TypeStr) (e : Entry) → e ≡ entryOf (plain t) 0 0 → _≡_ {A = List ℕ} (e .order ∷ e .letter ∷ e .number ∷ e .units ∷ []) (typeValues t)

@@ -2,8 +2,8 @@
 use Rattle.counts.proofs.Counted.{bytes-eq}
 use Rattle.table_fill.proofs.LevelLifts.{over-none, over-some}
 use borrow.Author.Needs.{needs}
-use Rattle.table_fill.proofs.put_over.Statement.{statement}
-use Rattle.table_fill.proofs.put_over.Tie as tie
+use Rattle.table_fill.proofs.put_sub_shape.Statement.{statement}
+use Rattle.table_fill.proofs.put_sub_shape.Tie as tie
 
 returns : tie.Need-returns
 returns c = let a = c .before .before .before .args in
@@ -32,5 +32,5 @@ returns-2 c =
       over-some (a .shape .now) (a .entry) (a .up) (a .name) (a .stop) (a .size .0) (a .table .now) (c .before .before .before .before .before .before .before .before .before .before .if1 .left) (c .before .before .before .before .before .before .before .before .before .entries-between .result) (c .before .before .before .before .before .before .before .before .capped-sum .result) _ _ (c .before .before .before .before .before .before .before .before .before .entries-between .ensures) (c .before .before .before .before .before .before .before .before .capped-sum .ensures) (c .before .before .before .before .before .before .lift .ensures) (c .before .before .put-levels .ensures .1),
     )
 
-pub put-over-spec : {M : Type 1} → statement M
-put-over-spec = tie.close (tie.spec returns entries-between-requires capped-sum-requires lift-requires put-levels-requires same-length returns-2)
+pub put-sub-shape-spec : {M : Type 1} → statement M
+put-sub-shape-spec = tie.close (tie.spec returns entries-between-requires capped-sum-requires lift-requires put-levels-requires same-length returns-2)

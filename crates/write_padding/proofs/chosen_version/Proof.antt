@@ -1,11 +1,11 @@
--- `write_padding::version_for` meets its contract, by its two tests.
+-- `write_padding::chosen_version` meets its contract, by its two tests.
 use Prim.Native.Nat.{_+_}
 use native.Mathlib.Omega.{arith}
 use borrow.Author.Tests.{not-true, not-false}
 use Rattle.write_padding.proofs.Plans.{spaces-few, version-three, version-one, version-two}
 use borrow.Author.Needs.{needs}
-use Rattle.write_padding.proofs.version_for.Statement.{statement}
-use Rattle.write_padding.proofs.version_for.Tie as tie
+use Rattle.write_padding.proofs.chosen_version.Statement.{statement}
+use Rattle.write_padding.proofs.chosen_version.Tie as tie
 
 returns : tie.Need-returns
 returns c = version-three _ _ (not-true _ (c .if1 .taken))
@@ -28,8 +28,8 @@ returns-2 c = version-one _ _ _ (not-false _ (c .before .before .if1 .left)) (c 
 returns-3 : tie.Need-returns-3
 returns-3 c = version-two _ _ _ (not-false _ (c .before .before .if1 .left)) (c .before .spaces-after .ensures) (c .if2 .left)
 
-pub version-for-spec : {M : Type 1} → statement M
-version-for-spec =
+pub chosen-version-spec : {M : Type 1} → statement M
+chosen-version-spec =
     tie.close
     (tie.spec
     returns

@@ -6,18 +6,18 @@ use Rattle.counts.specs.Outcome.{Outcome, gives, refused, then, afterwards}
 use Rattle.npy_codes.specs.Codes.{code, Returns}
 
 -- the same for an equal outcome
-pub retold : {A : Type 0} {values : A → List ℕ} {o p : Outcome A} {room room′ : List ℕ} {r : ℕ} → o ≡ p → Returns values o room r room′ → Returns values p room r room′
-retold {values = values} {room = room} is t = record { answered = t .answered ∙ ap code is; after = t .after ∙ ap (λ x. afterwards (λ a old. values a) x room) is }
+pub returns-same : {A : Type 0} {values : A → List ℕ} {o p : Outcome A} {room room′ : List ℕ} {r : ℕ} → o ≡ p → Returns values o room r room′ → Returns values p room r room′
+returns-same {values = values} {room = room} is t = record { answered = t .answered ∙ ap code is; after = t .after ∙ ap (λ x. afterwards (λ a old. values a) x room) is }
 
 module _ {A B : Type 0} {given : Outcome A} (next : A → Outcome B) where
   then-is : {a : A} → gives a ≡ given → next a ≡ then given next
   then-is is = ap (λ g. then g next) is
 
-  pub then-told : {values : B → List ℕ} {a : A} {room room′ : List ℕ} {r : ℕ} → gives a ≡ given → Returns values (next a) room r room′ → Returns values (then given next) room r room′
-  then-told is t = retold (then-is is) t
+  pub then-returned : {values : B → List ℕ} {a : A} {room room′ : List ℕ} {r : ℕ} → gives a ≡ given → Returns values (next a) room r room′ → Returns values (then given next) room r room′
+  then-returned is t = returns-same (then-is is) t
 
-  pub none-told : {values : B → List ℕ} {n r : ℕ} {room : List ℕ} → refused n ≡ given → r ≡ n → Returns values (then given next) room r room
-  none-told {values = values} {room = room} is number =
+  pub none-returned : {values : B → List ℕ} {n r : ℕ} {room : List ℕ} → refused n ≡ given → r ≡ n → Returns values (then given next) room r room
+  none-returned {values = values} {room = room} is number =
       record {
         answered = number ∙ ap (λ (g : Outcome A). code (then g next)) is;
         after = ap (λ (g : Outcome A). afterwards (λ a old. values a) (then g next) room) is;
