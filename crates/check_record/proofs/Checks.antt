@@ -11,10 +11,10 @@ use Rattle.dtype.specs.Dtype.{Dtype}
 use Rattle.dtype.specs.Entries.{entriesOf}
 use Rattle.dtype.specs.Shape.{product}
 use Rattle.dtype.specs.Record.{entry-width, Record}
-use Rattle.dtype.specs.Limits.{overDimensions, overLevels, overEntries, overSize, overShape, limited}
+use Rattle.dtype.specs.Limits.{overDimensions, overLevels, overEntries, overSize, overShape, unlessOver, limited}
 use Rattle.shape.specs.Count.{itemCount}
 use Rattle.check_table.specs.Reading.{readDtype}
-use Rattle.check_record.specs.Limited.{dtypeLimited, limitedDtype}
+use Rattle.check_record.specs.Limited.{limitedDtype}
 use Rattle.check_record.specs.declared.ItemSize.{ItemSize}
 use Rattle.check_record.proofs.DtypeChecks.{limited-read, entries-are}
 use Rattle.check_record.specs.Checked.{checkedRecord}
@@ -25,7 +25,7 @@ use Rattle.check_record.specs.Answer.{itemSize, summaryOf, summary}
 abbrev counting : List ℕ → Order → Dtype → Outcome Record
 counting s o d = unless (overShape o s) 22 (gives (made d s o))
 
-limited-then : (d : Dtype) (s : List ℕ) (o : Order) → limited (made d s o) ≡ then (dtypeLimited d s) (counting s o)
+limited-then : (d : Dtype) (s : List ℕ) (o : Order) → limited (made d s o) ≡ then (unlessOver d s (gives d)) (counting s o)
 unfolding limited
 limited-then d s o = go (overDimensions s || overLevels d) (overEntries d) (overSize d)
   where
@@ -40,7 +40,7 @@ checked-then : (t ns s : List ℕ) (o : Order) → checkedRecord t ns s o ≡ th
 unfolding checkedRecord limitedDtype
 checked-then t ns s o = go (readDtype t ns)
   where
-    go : (r : Outcome Dtype) → then r (λ d. limited (made d s o)) ≡ then (then r (λ d. dtypeLimited d s)) (counting s o)
+    go : (r : Outcome Dtype) → then r (λ d. limited (made d s o)) ≡ then (then r (λ d. unlessOver d s (gives d))) (counting s o)
     go (gives d) = limited-then d s o
     go (refused n) = refl
 

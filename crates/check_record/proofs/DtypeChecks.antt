@@ -10,14 +10,14 @@ use Rattle.counts.specs.Outcome.{Outcome, gives, refused, then, each, unless}
 use Rattle.dtype.specs.Dtype.{Dtype, sizeOf}
 use Rattle.dtype.specs.Entries.{entriesOf, hasObject}
 use Rattle.dtype.specs.Record.{nameBytes, entry-width, table, names}
-use Rattle.dtype.specs.Limits.{overDimensions, overLevels, overEntries, someOver, overSize}
+use Rattle.dtype.specs.Limits.{overDimensions, overLevels, overEntries, someOver, overSize, unlessOver}
 use Rattle.dtype.specs.Agrees.{entryAt, Agrees}
 use Rattle.dtype.specs.Seen.{someFrom, objectAt, overAt}
 use Rattle.dtype.proofs.Seen.{object-seen, levels-seen, over-seen, bytes-exact, table-length, all-names-length}
 use Rattle.dtype.proofs.Whole.{lists-whole}
 use Rattle.check_table.specs.Reading.{readDtype}
 use Rattle.check_record.specs.Answer.{itemSize}
-use Rattle.check_record.specs.Limited.{dtypeLimited, limitedDtype}
+use Rattle.check_record.specs.Limited.{limitedDtype}
 use Rattle.check_record.specs.declared.ItemSize.{ItemSize}
 use Rattle.check_record.specs.declared.ItemSize.the-variants.{Sized, Unsized}
 use Rattle.check_scan.proofs.Levels.{deepAt}
@@ -29,7 +29,7 @@ check-27 t ns s h = simp h
 
 -- the dtype by the three tests
 by-limits : (d : Dtype) (s : List ℕ) (a b c : Bool) → (overDimensions s || overLevels d) ≡ a → overEntries d ≡ b → overSize d ≡ c
-    → dtypeLimited d s ≡ unless a 13 (unless b 20 (unless c 21 (gives d)))
+    → unlessOver d s (gives d) ≡ unless a 13 (unless b 20 (unless c 21 (gives d)))
 by-limits d s a b c p q r = rw (p, q, r)
 
 module _ (t ns s : List ℕ) (d : Dtype) (h : readDtype t ns ≡ gives d) (n : ℕ) (n-is : n ≡ length t / entry-width) where
@@ -119,6 +119,6 @@ limited-read t ns s d h = go (readDtype t ns) h
     by-tests u false false true e = let z : _≡_ {A = ℕ} 0 1 = cc in absurd (omega arith)
     by-tests u false false false e = e
 
-    go : (r : Outcome Dtype) → then r (λ u. dtypeLimited u s) ≡ gives d → r ≡ gives d
+    go : (r : Outcome Dtype) → then r (λ u. unlessOver u s (gives u)) ≡ gives d → r ≡ gives d
     go (gives u) e = by-tests u (overDimensions s || overLevels u) (overEntries u) (overSize u) e
     go (refused n) e = let z : _≡_ {A = ℕ} 0 1 = cc in absurd (omega arith)

@@ -7,10 +7,6 @@ use Rattle.dtype.specs.Dtype.{Dtype}
 use Rattle.dtype.specs.Limits.{unlessOver}
 use Rattle.check_table.specs.Reading.{readDtype}
 
--- a dtype beside a shape, or the first of 13, 20, 21 that applies
-abbrev pub dtypeLimited : Dtype → (shape : List ℕ) → Outcome Dtype
-dtypeLimited d s = unlessOver d s (gives d)
-
 -- the dtype of a table and its names beside a shape, or the first of 27, 13, 20, 21 that applies
 unfoldable pub limitedDtype : (table names shape : List ℕ) → Outcome Dtype
-limitedDtype t ns s = then (readDtype t ns) (λ d. dtypeLimited d s)
+limitedDtype t ns s = then (readDtype t ns) (λ d. unlessOver d s (gives d))

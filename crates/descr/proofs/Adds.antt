@@ -219,12 +219,12 @@ three-by (gives w) (refused m) sh h = refl
 three-by (refused n) o sh h = refl
 
 -- items as a field's: their count first
-abbrev pub itemsBy : Values → Outcome Totals
-itemsBy vs = each fieldTotals (unless (not (twoOrThree vs)) 14 (namedOf vs))
+abbrev pub fieldOfItems : Values → Outcome Totals
+fieldOfItems vs = each fieldTotals (unless (not (twoOrThree vs)) 14 (namedOf vs))
 
-pub two-items : (a b : Value) → both (nameBy a) (descrBy b) ≡ itemsBy (value-then a (value-then b end-of-values))
+pub two-items : (a b : Value) → both (nameBy a) (descrBy b) ≡ fieldOfItems (value-then a (value-then b end-of-values))
 two-items a b = two-by (stringOr 14 a) (descrOf b)
 
 pub three-items : (a b c : Value)
-    → both (nameBy a) (then (descrBy b) (λ t. each (λ u. arrayed u t) (each outlineOf (subShape c)))) ≡ itemsBy (value-then a (value-then b (value-then c end-of-values)))
+    → both (nameBy a) (then (descrBy b) (λ t. each (λ u. arrayed u t) (each outlineOf (subShape c)))) ≡ fieldOfItems (value-then a (value-then b (value-then c end-of-values)))
 three-items a b c = three-by (stringOr 14 a) (descrOf b) (subShape c) (flat b)

@@ -30,7 +30,7 @@ use Rattle.descr_field.specs.After.{itemsFrom}
 use Rattle.descr_field.specs.Parts.{levelsOver}
 use Rattle.descr.specs.Judges.{JudgesDescr, JudgesFrom}
 use Rattle.descr_totals.proofs.Sums.{both-assoc, both-nothing, nothing}
-use Rattle.descr.proofs.Adds.{fieldsBy, fieldBy, nameBy, descrBy, afterInnerBy, itemsBy, fields-step, fields-start, two-items, three-items}
+use Rattle.descr.proofs.Adds.{fieldsBy, fieldBy, nameBy, descrBy, afterInnerBy, fieldOfItems, fields-step, fields-start, two-items, three-items}
 use Rattle.descr_field.proofs.Reach.{inside, from-end, from-stop, from-more, row-over, row-after, row-stops}
 
 abbrev pub valuesOf : List Node → Values
@@ -100,33 +100,33 @@ module _ (k : ℕ) (s : List ℕ) (from : ℕ) where
 -- the statement on those that begin at `from`, after the opening bracket
 pub record JudgesInside (k : ℕ) (s : List ℕ) (from close : ℕ) (r : DescrJudged) : Type 0 where
   pub ends : r .ended ≡ pos (inside k s from close)
-  pub of-row : (ns : List Node) (e : ℕ) → RowOf (value k s) s close ns (gapAt s from close) e → verdict (r .verdict) ≡ itemsBy (valuesOf ns)
+  pub of-row : (ns : List Node) (e : ℕ) → RowOf (value k s) s close ns (gapAt s from close) e → verdict (r .verdict) ≡ fieldOfItems (valuesOf ns)
 
-pub items-none : refused 14 ≡ itemsBy (valuesOf [])
+pub items-none : refused 14 ≡ fieldOfItems (valuesOf [])
 unfolding forgetAll
 items-none = refl
 
-pub items-one : (a : Node) → refused 14 ≡ itemsBy (valuesOf (a ∷ []))
+pub items-one : (a : Node) → refused 14 ≡ fieldOfItems (valuesOf (a ∷ []))
 unfolding forgetAll
 items-one a = refl
 
-pub items-many : (a b c d : Node) (ns : List Node) → refused 14 ≡ itemsBy (valuesOf (a ∷ b ∷ c ∷ d ∷ ns))
+pub items-many : (a b c d : Node) (ns : List Node) → refused 14 ≡ fieldOfItems (valuesOf (a ∷ b ∷ c ∷ d ∷ ns))
 unfolding forgetAll
 items-many a b c d ns = refl
 
-pub items-two : (a b : Node) (x y : Outcome Totals) → x ≡ nameBy (forget a) → y ≡ descrBy (forget b) → both x y ≡ itemsBy (valuesOf (a ∷ b ∷ []))
+pub items-two : (a b : Node) (x y : Outcome Totals) → x ≡ nameBy (forget a) → y ≡ descrBy (forget b) → both x y ≡ fieldOfItems (valuesOf (a ∷ b ∷ []))
 unfolding forgetAll
 items-two a b x y hx hy = ap (λ (z : Outcome Totals). both z y) hx ∙ (ap (λ (z : Outcome Totals). both (nameBy (forget a)) z) hy ∙ two-items (forget a) (forget b))
 
 pub items-three : (a b c : Node) (x y w : Outcome Totals) (z : Outcome Outline) → x ≡ nameBy (forget a) → y ≡ descrBy (forget b) → z ≡ each outlineOf (subShape (forget c)) → w ≡ levelsOver y z
-    → both x w ≡ itemsBy (valuesOf (a ∷ b ∷ c ∷ []))
+    → both x w ≡ fieldOfItems (valuesOf (a ∷ b ∷ c ∷ []))
 unfolding forgetAll
 items-three a b c x y w z hx hy hz hw =
     let e : w ≡ levelsOver (descrBy (forget b)) (each outlineOf (subShape (forget c))) = hw ∙ (ap (λ (u : Outcome Totals). levelsOver u z) hy ∙ ap (λ (u : Outcome Outline). levelsOver (descrBy (forget b)) u) hz) in
     ap (λ (u : Outcome Totals). both u w) hx ∙ (ap (λ (u : Outcome Totals). both (nameBy (forget a)) u) e ∙ three-items (forget a) (forget b) (forget c))
 
 -- what is after a field's name and inner descr
-pub items-after : (a b : Node) (ns : List Node) (x y : Outcome Totals) → x ≡ nameBy (forget a) → y ≡ descrBy (forget b) → afterInnerBy x y (valuesOf ns) ≡ itemsBy (valuesOf (a ∷ b ∷ ns))
+pub items-after : (a b : Node) (ns : List Node) (x y : Outcome Totals) → x ≡ nameBy (forget a) → y ≡ descrBy (forget b) → afterInnerBy x y (valuesOf ns) ≡ fieldOfItems (valuesOf (a ∷ b ∷ ns))
 unfolding forgetAll
 items-after a b [] x y hx hy = items-two a b x y hx hy
 items-after a b (c ∷ []) x y hx hy = items-three a b c x y (levelsOver y (each outlineOf (subShape (forget c)))) (each outlineOf (subShape (forget c))) hx hy refl refl

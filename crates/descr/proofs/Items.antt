@@ -26,7 +26,7 @@ use Rattle.descr_field.specs.After.{itemsFrom, secondAt}
 use Rattle.descr_field.specs.Parts.{nameVerdict, levelsOver, lastBy, shapeBy, afterInnerAt}
 use Rattle.descr_field.specs.declared.DescrJudged.{DescrJudged}
 use Rattle.descr.specs.Judges.{JudgesDescr}
-use Rattle.descr.proofs.Adds.{descrBy, afterInnerBy, itemsBy}
+use Rattle.descr.proofs.Adds.{descrBy, afterInnerBy, fieldOfItems}
 use Rattle.descr_field.proofs.Reach.{inside, from-end, from-stop, from-more, inside-end, inside-stop, inside-more, row-over, row-next, row-after, row-stops, second-over, second-item}
 use Rattle.descr.proofs.Along.{JudgesInside, valuesOf, items-none, items-one, items-after}
 use Rattle.descr.proofs.Nodes.{name-says}
@@ -58,7 +58,7 @@ module _ (k : ℕ) (s : List ℕ) (from close : ℕ) (g1 : Gap) (h1 : g1 ≡ gap
   items-empty r o he hv =
       record {
         ends = he ∙ inside-end k s from close g1 h1 o;
-        of-row = λ ns e h. hv ∙ (items-none ∙ sym (ap (λ (l : List Node). itemsBy (valuesOf l)) (row-over k s close ns g1 e o (row-first ns e h))));
+        of-row = λ ns e h. hv ∙ (items-none ∙ sym (ap (λ (l : List Node). fieldOfItems (valuesOf l)) (row-over k s close ns g1 e o (row-first ns e h))));
       }
 
   module _ (p1 : ℕ) (i1 : g1 ≡ Item p1) (name : DescrJudged) (hn : (name .ended ≡ pos (value k s p1)) × (verdict (name .verdict) ≡ nameVerdict s p1)) where
@@ -86,7 +86,7 @@ module _ (k : ℕ) (s : List ℕ) (from close : ℕ) (g1 : Gap) (h1 : g1 ≡ gap
             of-row = λ ns e h.
                 let w = first ns e h in
                 let z = second-over k s close q1 g2 h2 (w .1) e o (w .4) in
-                hv ∙ (items-one (w .0) ∙ sym (ap (λ (l : List Node). itemsBy (valuesOf l)) (w .2 ∙ ap (λ (l : List Node). w .0 ∷ l) z)));
+                hv ∙ (items-one (w .0) ∙ sym (ap (λ (l : List Node). fieldOfItems (valuesOf l)) (w .2 ∙ ap (λ (l : List Node). w .0 ∷ l) z)));
           }
 
       module _ (p2 : ℕ) (i2 : g2 ≡ Item p2) (inner : DescrJudged) (hj : JudgesDescr k s p2 descrBy inner) where
@@ -111,5 +111,5 @@ module _ (k : ℕ) (s : List ℕ) (from close : ℕ) (g1 : Gap) (h1 : g1 ≡ gap
                   let w = first ns e h in
                   let v = row-after k s close (w .1) g2 p2 q2 e (inner .ended) i2 e2 (hj .ends) (second (w .1) e (w .4)) in
                   let o = b .1 ∙ after-row k s close (verdict (name .verdict)) (verdict (inner .verdict)) (v .1) g3 e (subst (λ (x : Gap). RowOf (value k s) s close (v .1) x e) (sym h3) (v .4)) in
-                  o ∙ (items-after (w .0) (v .0) (v .1) (verdict (name .verdict)) (verdict (inner .verdict)) (hn .1 ∙ name-says s p1 k (w .0) q1 (w .3)) (hj .of-value (v .0) q2 (v .3)) ∙ sym (ap (λ (l : List Node). itemsBy (valuesOf l)) (w .2 ∙ ap (λ (l : List Node). w .0 ∷ l) (v .2))));
+                  o ∙ (items-after (w .0) (v .0) (v .1) (verdict (name .verdict)) (verdict (inner .verdict)) (hn .1 ∙ name-says s p1 k (w .0) q1 (w .3)) (hj .of-value (v .0) q2 (v .3)) ∙ sym (ap (λ (l : List Node). fieldOfItems (valuesOf l)) (w .2 ∙ ap (λ (l : List Node). w .0 ∷ l) (v .2))));
             }

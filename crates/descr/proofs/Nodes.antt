@@ -41,7 +41,7 @@ use Rattle.descr_field.specs.Parts.{nameVerdict}
 use Rattle.descr_field.proofs.Names.{string-ends}
 use Rattle.descr_field.specs.declared.DescrJudged.{DescrJudged}
 use Rattle.descr.specs.Judges.{JudgesDescr, JudgesFrom, typedAt}
-use Rattle.descr.proofs.Adds.{fieldsBy, fieldBy, nameBy, descrBy, itemsBy, record-step}
+use Rattle.descr.proofs.Adds.{fieldsBy, fieldBy, nameBy, descrBy, fieldOfItems, record-step}
 use Rattle.descr_field.proofs.Reach.{inside, list-from}
 use Rattle.descr.proofs.Along.{JudgesInside, valuesOf}
 
@@ -134,12 +134,12 @@ module _ (s : List ℕ) (at : ℕ) where
 
     -- a list or a tuple, and what is in it
     field-is : (closingOf (kindOf (byteAt s at)) ≡ 0 → ⊥) → (close : ℕ) → close ≡ closingOf (kindOf (byteAt s at))
-        → (0 < k) × (ns : List Node) × (fieldBy (forget n) ≡ itemsBy (valuesOf ns)) × RowOf (valueOf (k - 1) s) s close ns (gapAt s (at + 1) close) e
+        → (0 < k) × (ns : List Node) × (fieldBy (forget n) ≡ fieldOfItems (valuesOf ns)) × RowOf (valueOf (k - 1) s) s close ns (gapAt s (at + 1) close) e
     unfolding forget
     field-is c close hc = go (kindOf (byteAt s at)) refl c hc
       where
         go : (d : ValueKind) → kindOf (byteAt s at) ≡ d → (closingOf d ≡ 0 → ⊥) → close ≡ closingOf d
-            → (0 < k) × (ns : List Node) × (fieldBy (forget n) ≡ itemsBy (valuesOf ns)) × RowOf (valueOf (k - 1) s) s close ns (gapAt s (at + 1) close) e
+            → (0 < k) × (ns : List Node) × (fieldBy (forget n) ≡ fieldOfItems (valuesOf ns)) × RowOf (valueOf (k - 1) s) s close ns (gapAt s (at + 1) close) e
         go Square hd c hc =
             let v = view k s at h hd in
             (v .0, v .1, ap (λ (m : Node). fieldBy (forget m)) (v .2), subst (λ (x : ℕ). RowOf (valueOf (k - 1) s) s x (v .1) (gapAt s (at + 1) x) e) (sym hc) (v .3))

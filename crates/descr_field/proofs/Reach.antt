@@ -18,7 +18,7 @@ use Rattle.literal_bytes.specs.Got.{Got, got, fault, deep, pos, with}
 use Rattle.literal_bytes.specs.Text.{byteAt, skip}
 use Rattle.literal.specs.Literal.{value}
 use Rattle.literal_bytes.specs.Gaps.{gapAt, thenAt, needAt, endedAt}
-use Rattle.literal.specs.Brackets.{items, listBy, tupleBy}
+use Rattle.literal.specs.Brackets.{itemsBy, listBy, tupleBy}
 use Rattle.literal.specs.Rows.{RowOf}
 use Rattle.literal_bytes.specs.declared.Parsed.{Parsed}
 use Rattle.literal_bytes.specs.declared.Parsed.the-variants.{Value, Fault, Deep}
@@ -50,8 +50,8 @@ module _ (k : ℕ) (s : List ℕ) (close : ℕ) where
         gap-falls p q (length s) (thenAt s q close) (a .0) (a .1) (then-ahead s q close small)
 
     -- any bound above what is left reads the same
-    enough : (m n : ℕ) (g : Gap) → gapLeft (length s) g < m → gapLeft (length s) g < n → items (value k s) s close m g ≡ items (value k s) s close n g
-    unfolding items
+    enough : (m n : ℕ) (g : Gap) → gapLeft (length s) g < m → gapLeft (length s) g < n → itemsBy (value k s) s close m g ≡ itemsBy (value k s) s close n g
+    unfolding itemsBy
     enough zero n g lt lt′ = absurd (not-suc-le-zero lt)
     enough (suc m) zero g lt lt′ = absurd (not-suc-le-zero lt′)
     enough (suc m) (suc n) (Shut e) lt lt′ = refl
@@ -59,22 +59,22 @@ module _ (k : ℕ) (s : List ℕ) (close : ℕ) where
     enough (suc m) (suc n) (Item p) lt lt′ = go (value k s p) refl (enough m n)
       where
         go : (x : Got Node) → value k s p ≡ x
-            → ((g : Gap) → gapLeft (length s) g < m → gapLeft (length s) g < n → items (value k s) s close m g ≡ items (value k s) s close n g)
-            → _≡_ {A = Got (List Node)} (elim x [ got v q ↦ with (λ e. _∷_ v) (items (value k s) s close m (thenAt s q close)) | fault a ↦ fault a | deep a ↦ deep a ])
-            (elim x [ got v q ↦ with (λ e. _∷_ v) (items (value k s) s close n (thenAt s q close)) | fault a ↦ fault a | deep a ↦ deep a ])
+            → ((g : Gap) → gapLeft (length s) g < m → gapLeft (length s) g < n → itemsBy (value k s) s close m g ≡ itemsBy (value k s) s close n g)
+            → _≡_ {A = Got (List Node)} (elim x [ got v q ↦ with (λ e. _∷_ v) (itemsBy (value k s) s close m (thenAt s q close)) | fault a ↦ fault a | deep a ↦ deep a ])
+            (elim x [ got v q ↦ with (λ e. _∷_ v) (itemsBy (value k s) s close n (thenAt s q close)) | fault a ↦ fault a | deep a ↦ deep a ])
         go (got v q) hr ih =
             let less = falls p q v hr in
             ap (λ (y : Got (List Node)). with (λ e. _∷_ v) y) (ih (thenAt s q close) (omega arith) (omega arith))
         go (fault a) hr ih = refl
         go (deep a) hr ih = refl
 
-    more-by : (m p q : ℕ) (v : Node) → gapLeft (length s) (Item p) < m → value k s p ≡ got v q → pos (items (value k s) s close m (Item p)) ≡ pos (itemsFrom k s close (thenAt s q close))
-    unfolding items
+    more-by : (m p q : ℕ) (v : Node) → gapLeft (length s) (Item p) < m → value k s p ≡ got v q → pos (itemsBy (value k s) s close m (Item p)) ≡ pos (itemsFrom k s close (thenAt s q close))
+    unfolding itemsBy
     more-by zero p q v lt hr = absurd (not-suc-le-zero lt)
     more-by (suc m) p q v lt hr =
         let less = falls p q v hr in
-        rw (items, hr)
-        (pos-with (λ e. _∷_ v) (items (value k s) s close m (thenAt s q close)) ∙ ap (λ (y : Got (List Node)). pos y) (enough m (length s + 2) (thenAt s q close) (omega arith) (gap-enough (length s) (thenAt s q close))))
+        rw (itemsBy, hr)
+        (pos-with (λ e. _∷_ v) (itemsBy (value k s) s close m (thenAt s q close)) ∙ ap (λ (y : Got (List Node)). pos y) (enough m (length s + 2) (thenAt s q close) (omega arith) (gap-enough (length s) (thenAt s q close))))
 
     -- the item there ends before q
     pub from-more : (g g′ : Gap) (p q : ℕ) (r : Parsed) → g ≡ Item p → r ≡ Value q → r ≡ pos (value k s p) → g′ ≡ thenAt s q close → pos (itemsFrom k s close g) ≡ pos (itemsFrom k s close g′)

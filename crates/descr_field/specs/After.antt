@@ -8,7 +8,7 @@ use Rattle.literal_tokens.specs.Node.{Node}
 use Rattle.literal_bytes.specs.Got.{Got}
 use Rattle.literal.specs.Literal.{value}
 use Rattle.literal_bytes.specs.Gaps.{gapAt, thenAt, needAt}
-use Rattle.literal.specs.Brackets.{items}
+use Rattle.literal.specs.Brackets.{itemsBy}
 use Rattle.literal_bytes.specs.declared.Parsed.{Parsed}
 use Rattle.literal_bytes.specs.declared.Parsed as parsed
 use Rattle.literal_bytes.specs.declared.Gap.{Gap}
@@ -16,7 +16,7 @@ use Rattle.literal_bytes.specs.declared.Gap.the-variants.{Stray}
 
 -- the items from the gap on, where k brackets more may open
 abbrev pub itemsFrom : ℕ → List ℕ → ℕ → Gap → Got (List Node)
-itemsFrom k s close g = items (value k s) s close (length s + 2) g
+itemsFrom k s close g = itemsBy (value k s) s close (length s + 2) g
 
 -- the gap after the first item of a list or tuple; of a tuple it needs its comma: "one element needs its comma: `(3)` is no value"
 abbrev pub commaThen : List ℕ → Parsed → Gap

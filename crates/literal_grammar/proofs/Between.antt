@@ -1,5 +1,5 @@
 -- What is between brackets, for lists, tuples and dicts alike: a law for each way out of the reader of things parted by commas, by how the text
--- is made up, and the claim of Sound.antt for it. The reader has a bound on the number of things; each law holds for every bound above the length of the
+-- is made up, and the claim of Faithful.antt for it. The reader has a bound on the number of things; each law holds for every bound above the length of the
 -- text (`Rd`), so no later law meets a bound. The induction is on the length of what is left.
 use Prim.Native.Nat.{ℕ, zero, suc, _<_}
 use native.Mathlib.Nat.{not-suc-le-zero}
@@ -19,7 +19,7 @@ use Rattle.literal_grammar.specs.Promise.{got, fault, deep}
 use Rattle.literal_grammar.proofs.Texts.{case-of, Blanks, headOf, tailOf, head-is, Alike, alike-head, alike-cons, alike-on, gap}
 use Rattle.literal_grammar.proofs.Layers.{padded, Parted, empty, last, more, Upto, upto}
 use Rattle.literal_grammar.proofs.Reading.{Read, with, parted, upTo, Other, kindOf}
-use Rattle.literal_grammar.proofs.Sound.{By, Same, Sound, moved, sound-map, sound-fault, sound-deep}
+use Rattle.literal_grammar.proofs.Faithful.{By, Same, Faithful, moved, faithful-map, faithful-fault, faithful-deep}
 use Rattle.literal_grammar.proofs.Tokens.{skips}
 
 -- the conditions on a closing bracket
@@ -109,9 +109,9 @@ pub shorter : (a u b w : List ℕ) → length w < length (a ++ (u ++ (b ++ (44 �
 shorter a u b w = omega (arith, length-append a (u ++ (b ++ (44 ∷ w))), length-append u (b ++ (44 ∷ w)), length-append b (44 ∷ w))
 
 -- ---- the claim for it, if the reader of one thing meets the claim
-module _ {A : Type 0} (R R⁺ : List ℕ → A → Type 0) (sub : (u : List ℕ) (v : A) → R u v → R⁺ u v) (rd : List ℕ → Read A) (rd-returned : (s : List ℕ) → Sound R R⁺ (By rd) s) (c : ℕ) (shuts : Closes c) where
+module _ {A : Type 0} (R R⁺ : List ℕ → A → Type 0) (sub : (u : List ℕ) (v : A) → R u v → R⁺ u v) (rd : List ℕ → Read A) (rd-returned : (s : List ℕ) → Faithful R R⁺ (By rd) s) (c : ℕ) (shuts : Closes c) where
   abbrev Good : Bool → List ℕ → Type 0
-  Good lone = Sound (To R c lone) (To R⁺ c lone) (Rd rd c shuts lone)
+  Good lone = Faithful (To R c lone) (To R⁺ c lone) (Rd rd c shuts lone)
 
   abbrev Begins : List ℕ → Type 0
   Begins = First rd c shuts
@@ -130,12 +130,12 @@ module _ {A : Type 0} (R R⁺ : List ℕ → A → Type 0) (sub : (u : List ℕ)
         (begins-alike t (u ++ (b ++ r)) (alike-on t u q (b ++ r) eu al-q) ft, same (b ++ r) al-q)
 
     -- its comma follows
-    sound-comma : z ≡ 44 ∷ tailOf z → Good true (tailOf z) → Good lone (a ++ t)
-    sound-comma hz ih =
+    faithful-comma : z ≡ 44 ∷ tailOf z → Good true (tailOf z) → Good lone (a ++ t)
+    faithful-comma hz ih =
         let p : List ℕ = a ++ (u ++ (b ++ (44 ∷ []))) in
         let e : a ++ t ≡ p ++ tailOf z = rw (eu, ez) (rw hz (simp append-assoc)) in
         moved (To R c lone) (To R⁺ c lone) (Rd rd c shuts lone) e
-        (sound-map (To R c true) (To R⁺ c true) (To R c lone) (To R⁺ c lone) (Rd rd c shuts true) (Rd rd c shuts lone) p (_∷_ v) (tailOf z)
+        (faithful-map (To R c true) (To R⁺ c true) (To R c lone) (To R⁺ c lone) (Rd rd c shuts true) (Rd rd c shuts lone) p (_∷_ v) (tailOf z)
         (λ w vs x. subst (λ y. To R c lone y (v ∷ vs)) (simp append-assoc) (to-more R c lone a u b w v vs ba ru bb x))
         (λ w vs x. subst (λ y. To R⁺ c lone y (v ∷ vs)) (simp append-assoc) (to-more R⁺ c lone a u b w v vs ba (sub u v ru) bb x))
         (λ w g al hw.
@@ -145,8 +145,8 @@ module _ {A : Type 0} (R R⁺ : List ℕ → A → Type 0) (sub : (u : List ℕ)
         ih)
 
     -- neither a comma nor the bracket where it may
-    sound-stray : eqb (headOf z) 44 ≡ false → (lone && eqb (headOf z) c) ≡ false → Good lone (a ++ t)
-    sound-stray n1 n2 =
+    faithful-stray : eqb (headOf z) 44 ≡ false → (lone && eqb (headOf z) c) ≡ false → Good lone (a ++ t)
+    faithful-stray n1 n2 =
         let p : List ℕ = a ++ (u ++ b) in (
           fault z,
           (
@@ -161,10 +161,10 @@ module _ {A : Type 0} (R R⁺ : List ℕ → A → Type 0) (sub : (u : List ℕ)
         )
 
   -- the bracket follows a thing that may be the last
-  sound-last : (lone : Bool) (a t u q b z : List ℕ) (v : A) (ba : Blanks a) (ft : Begins t) (eu : t ≡ u ++ q) (ru : R u v) (same : Same (By rd) u (got v) q) (bb : Blanks b) (ez : q ≡ b ++ z) (nz : isBlank (headOf z) ≡ false) → eqb (headOf z) 44 ≡ false → ((lone && eqb (headOf z) c) ≡ true) ⊎ ((lone && eqb (headOf z) c) ≡ false) → Good lone (a ++ t)
-  sound-last lone a t u q b z v ba ft eu ru same bb ez nz n (inr h) = sound-stray lone a t u q b z v ba ft eu ru same bb ez nz n h
-  sound-last false a t u q b z v ba ft eu ru same bb ez nz n (inl h) = true-false (sym h)
-  sound-last true a t u q b z v ba ft eu ru same bb ez nz n (inl h) =
+  faithful-last : (lone : Bool) (a t u q b z : List ℕ) (v : A) (ba : Blanks a) (ft : Begins t) (eu : t ≡ u ++ q) (ru : R u v) (same : Same (By rd) u (got v) q) (bb : Blanks b) (ez : q ≡ b ++ z) (nz : isBlank (headOf z) ≡ false) → eqb (headOf z) 44 ≡ false → ((lone && eqb (headOf z) c) ≡ true) ⊎ ((lone && eqb (headOf z) c) ≡ false) → Good lone (a ++ t)
+  faithful-last lone a t u q b z v ba ft eu ru same bb ez nz n (inr h) = faithful-stray lone a t u q b z v ba ft eu ru same bb ez nz n h
+  faithful-last false a t u q b z v ba ft eu ru same bb ez nz n (inl h) = true-false (sym h)
+  faithful-last true a t u q b z v ba ft eu ru same bb ez nz n (inl h) =
       let hz = head-is z c (shuts .small) h in
       let p : List ℕ = a ++ (u ++ (b ++ (c ∷ []))) in (
         got (v ∷ []) (tailOf z),
@@ -176,33 +176,33 @@ module _ {A : Type 0} (R R⁺ : List ℕ → A → Type 0) (sub : (u : List ℕ)
         ),
       )
 
-  sound-thing : (lone : Bool) (m : ℕ) (a t : List ℕ) → length (a ++ t) < suc m → Blanks a → Begins t → Sound R R⁺ (By rd) t → ((w : List ℕ) → length w < m → Good true w) → Good lone (a ++ t)
-  sound-thing lone m a t lt ba ft (got v q, (u, eu, ru, same)) ih =
+  faithful-thing : (lone : Bool) (m : ℕ) (a t : List ℕ) → length (a ++ t) < suc m → Blanks a → Begins t → Faithful R R⁺ (By rd) t → ((w : List ℕ) → length w < m → Good true w) → Good lone (a ++ t)
+  faithful-thing lone m a t lt ba ft (got v q, (u, eu, ru, same)) ih =
       let (b, z, bb, ez, nz) = gap q in
       let below : z ≡ 44 ∷ tailOf z → length (tailOf z) < m = λ hz. omega (arith, shorter a u b (tailOf z), lt, ap length (eu ∙ ap (λ y. u ++ y) (ez ∙ ap (λ y. b ++ y) hz)), length-append a t, length-append a (u ++ (b ++ (44 ∷ tailOf z)))) in
       by-comma b z bb ez nz below (case-of (eqb (headOf z) 44))
     where
       by-comma : (b z : List ℕ) → Blanks b → q ≡ b ++ z → isBlank (headOf z) ≡ false → (z ≡ 44 ∷ tailOf z → length (tailOf z) < m) → (eqb (headOf z) 44 ≡ true) ⊎ (eqb (headOf z) 44 ≡ false) → Good lone (a ++ t)
-      by-comma b z bb ez nz below (inl h) = let hz = head-is z 44 (omega arith) h in sound-comma lone a t u q b z v ba ft eu ru same bb ez nz hz (ih (tailOf z) (below hz))
-      by-comma b z bb ez nz below (inr h) = sound-last lone a t u q b z v ba ft eu ru same bb ez nz h (case-of (lone && eqb (headOf z) c))
-  sound-thing lone m a t lt ba ft (fault q, x) ih =
-      sound-fault R R⁺ (To R c lone) (To R⁺ c lone) (By rd) (Rd rd c shuts lone) a (λ v. v ∷ []) (44 ∷ c ∷ []) t q comma-bytes
+      by-comma b z bb ez nz below (inl h) = let hz = head-is z 44 (omega arith) h in faithful-comma lone a t u q b z v ba ft eu ru same bb ez nz hz (ih (tailOf z) (below hz))
+      by-comma b z bb ez nz below (inr h) = faithful-last lone a t u q b z v ba ft eu ru same bb ez nz h (case-of (lone && eqb (headOf z) c))
+  faithful-thing lone m a t lt ba ft (fault q, x) ih =
+      faithful-fault R R⁺ (To R c lone) (To R⁺ c lone) (By rd) (Rd rd c shuts lone) a (λ v. v ∷ []) (44 ∷ c ∷ []) t q comma-bytes
       (λ u v ru. to-one R c lone a u [] v ba ru tt) (λ y r al hy. rd-fault rd c shuts lone (a ++ y) a y r ba (begins-alike t y al ft) refl hy) x
-  sound-thing lone m a t lt ba ft (deep q, x) ih =
-      sound-deep R R⁺ (To R c lone) (To R⁺ c lone) (By rd) (Rd rd c shuts lone) a (λ v. v ∷ []) (44 ∷ c ∷ []) t q comma-bytes
+  faithful-thing lone m a t lt ba ft (deep q, x) ih =
+      faithful-deep R R⁺ (To R c lone) (To R⁺ c lone) (By rd) (Rd rd c shuts lone) a (λ v. v ∷ []) (44 ∷ c ∷ []) t q comma-bytes
       (λ u v ru. to-one R c lone a u [] v ba ru tt) (λ u v ru. to-one R⁺ c lone a u [] v ba ru tt) (λ y r al hy. rd-deep rd c shuts lone (a ++ y) a y r ba (begins-alike t y al ft) refl hy) x
 
-  sound-shut : (lone : Bool) (m : ℕ) (a t : List ℕ) → length (a ++ t) < suc m → Blanks a → isBlank (headOf t) ≡ false → (eqb (headOf t) c ≡ true) ⊎ (eqb (headOf t) c ≡ false) → ((w : List ℕ) → length w < m → Good true w) → Good lone (a ++ t)
-  sound-shut lone m a t lt ba nt (inl h) ih =
+  faithful-shut : (lone : Bool) (m : ℕ) (a t : List ℕ) → length (a ++ t) < suc m → Blanks a → isBlank (headOf t) ≡ false → (eqb (headOf t) c ≡ true) ⊎ (eqb (headOf t) c ≡ false) → ((w : List ℕ) → length w < m → Good true w) → Good lone (a ++ t)
+  faithful-shut lone m a t lt ba nt (inl h) ih =
       let ht = head-is t c (shuts .small) h in
       (got [] (tailOf t), (a ++ (c ∷ []), ap (λ y. a ++ y) ht ∙ simp append-assoc, to-shut R c lone a ba, λ r al. rd-shut rd c shuts lone ((a ++ (c ∷ [])) ++ r) a r ba (simp append-assoc)))
-  sound-shut lone m a t lt ba nt (inr h) ih = sound-thing lone m a t lt ba (nt, h) (rd-returned t) ih
+  faithful-shut lone m a t lt ba nt (inr h) ih = faithful-thing lone m a t lt ba (nt, h) (rd-returned t) ih
 
-  sound-within : (m : ℕ) (lone : Bool) (s : List ℕ) → length s < m → Good lone s
-  sound-within zero lone s lt = absurd (not-suc-le-zero lt)
-  sound-within (suc m) lone s lt =
+  faithful-within : (m : ℕ) (lone : Bool) (s : List ℕ) → length s < m → Good lone s
+  faithful-within zero lone s lt = absurd (not-suc-le-zero lt)
+  faithful-within (suc m) lone s lt =
       let (a, t, ba, e, nt) = gap s in
-      moved (To R c lone) (To R⁺ c lone) (Rd rd c shuts lone) e (sound-shut lone m a t (subst (λ y. length y < suc m) e lt) ba nt (case-of (eqb (headOf t) c)) (sound-within m true))
+      moved (To R c lone) (To R⁺ c lone) (Rd rd c shuts lone) e (faithful-shut lone m a t (subst (λ y. length y < suc m) e lt) ba nt (case-of (eqb (headOf t) c)) (faithful-within m true))
 
-  pub sound-parted : (lone : Bool) (s : List ℕ) → Sound (To R c lone) (To R⁺ c lone) (Rd rd c shuts lone) s
-  sound-parted lone s = sound-within (suc (length s)) lone s (omega arith)
+  pub faithful-parted : (lone : Bool) (s : List ℕ) → Faithful (To R c lone) (To R⁺ c lone) (Rd rd c shuts lone) s
+  faithful-parted lone s = faithful-within (suc (length s)) lone s (omega arith)

@@ -16,9 +16,9 @@ use Rattle.literal_grammar.proofs.Texts.{headOf, tailOf, Alike, alike-s
 use Rattle.literal_grammar.proofs.Layers.{Literal, raise′}
 use Rattle.literal_grammar.proofs.Same.{given, some-layer}
 use Rattle.literal_grammar.proofs.Reading.{Read, literal}
-use Rattle.literal_grammar.proofs.Sound.{By, Returns, reads}
+use Rattle.literal_grammar.proofs.Faithful.{By, Returns, reads}
 use Rattle.literal_grammar.proofs.Limits.{fault-wider}
-use Rattle.literal_grammar.proofs.Whole.{sound-literal, nothing-left, sound, complete, layer-complete, literal-suc, one-value}
+use Rattle.literal_grammar.proofs.Whole.{faithful-literal, nothing-left, sound, complete, layer-complete, literal-suc, one-value}
 
 -- the promise where a place is the rest of the text from there on
 abbrev pub Promise : ℕ → List ℕ → Got (List ℕ) Value → Type 0
@@ -78,7 +78,7 @@ promise-of k s (deep q) (u, e, via, via⁺, op, same) h = (
 
 pub kept : (k : ℕ) (s : List ℕ) → Promise k s (literal k s)
 kept k s =
-    let (g, x) = sound-literal k s in
+    let (g, x) = faithful-literal k s in
     let h = reads (Literal k) (Literal (suc k)) (By (literal k)) s g x in
     subst (Promise k s) (sym h) (promise-of k s g x h)
 

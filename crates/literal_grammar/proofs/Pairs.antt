@@ -1,4 +1,4 @@
--- A dict's item: key, colon, value. A law for each way out of its reader, and the claim of Sound.antt for it if the reader of a value meets it. A key alone can
+-- A dict's item: key, colon, value. A law for each way out of its reader, and the claim of Faithful.antt for it if the reader of a value meets it. A key alone can
 -- always be completed, by a colon and `0`.
 use Prim.Native.Nat.{ℕ}
 use native.Mathlib.Omega.{arith}
@@ -14,7 +14,7 @@ use Rattle.literal_grammar.specs.Promise.{got, fault, deep}
 use Rattle.literal_grammar.proofs.Texts.{case-of, Blanks, headOf, tailOf, head-is, alike-head, alike-cons, alike-on, gap}
 use Rattle.literal_grammar.proofs.Layers.{Pair, pair, item}
 use Rattle.literal_grammar.proofs.Reading.{Read, with, paired}
-use Rattle.literal_grammar.proofs.Sound.{By, Same, Sound, moved, sound-map, sound-fault, sound-deep}
+use Rattle.literal_grammar.proofs.Faithful.{By, Same, Faithful, moved, faithful-map, faithful-fault, faithful-deep}
 use Rattle.literal_grammar.proofs.Tokens.{skips}
 
 module _ (rd : List ℕ → Read Value) where
@@ -39,19 +39,19 @@ module _ (rd : List ℕ → Read Value) where
 colon-bytes : AllBytes (58 ∷ (48 ∷ []))
 colon-bytes = (omega arith, (omega arith, tt))
 
-module _ (R R⁺ : List ℕ → Value → Type 0) (sub : (u : List ℕ) (v : Value) → R u v → R⁺ u v) (rd : List ℕ → Read Value) (rd-returned : (s : List ℕ) → Sound R R⁺ (By rd) s)
+module _ (R R⁺ : List ℕ → Value → Type 0) (sub : (u : List ℕ) (v : Value) → R u v → R⁺ u v) (rd : List ℕ → Read Value) (rd-returned : (s : List ℕ) → Faithful R R⁺ (By rd) s)
     (zero-value : Value) (zero-text : R (48 ∷ []) zero-value) where
   abbrev Good : List ℕ → Type 0
-  Good = Sound (Pair R) (Pair R⁺) (By (paired rd))
+  Good = Faithful (Pair R) (Pair R⁺) (By (paired rd))
 
-  sound-colon : (s u q b z : List ℕ) (k : Value) → s ≡ u ++ q → R u k → Same (By rd) u (got k) q → Blanks b → isBlank (headOf z) ≡ false → q ≡ b ++ z → (eqb (headOf z) 58 ≡ true) ⊎ (eqb (headOf z) 58 ≡ false) → Good s
-  sound-colon s u q b z k eu ru same bb nz ez (inl h) =
+  faithful-colon : (s u q b z : List ℕ) (k : Value) → s ≡ u ++ q → R u k → Same (By rd) u (got k) q → Blanks b → isBlank (headOf z) ≡ false → q ≡ b ++ z → (eqb (headOf z) 58 ≡ true) ⊎ (eqb (headOf z) 58 ≡ false) → Good s
+  faithful-colon s u q b z k eu ru same bb nz ez (inl h) =
       let hz = head-is z 58 (omega arith) h in
       let (d, t, bd, et, nt) = gap (tailOf z) in
       let p : List ℕ = u ++ (b ++ (58 ∷ d)) in
       let e : s ≡ p ++ t = eu ∙ ap (λ y. u ++ y) (ez ∙ ap (λ y. b ++ y) (hz ∙ ap (λ y. 58 ∷ y) et)) ∙ simp append-assoc in
       moved (Pair R) (Pair R⁺) (By (paired rd)) e
-      (sound-map R R⁺ (Pair R) (Pair R⁺) (By rd) (By (paired rd)) p (item k) t
+      (faithful-map R R⁺ (Pair R) (Pair R⁺) (By rd) (By (paired rd)) p (item k) t
       (λ w v x. subst (λ y. Pair R y (item k v)) (simp append-assoc) (pair u b d w ru bb bd x))
       (λ w v x. subst (λ y. Pair R⁺ y (item k v)) (simp append-assoc) (pair u b d w (sub u k ru) bb bd x))
       (λ w g al hw.
@@ -59,7 +59,7 @@ module _ (R R⁺ : List ℕ → Value → Type 0) (sub : (u : List ℕ) (v : Val
       let hq = same (b ++ (58 ∷ (d ++ w))) (alike-on q b z (58 ∷ (d ++ w)) ez (alike-cons 58 z (d ++ w) hz)) in
       subst (λ y. paired rd y ≡ with (item k) g) ep (pair-colon rd (u ++ (b ++ (58 ∷ (d ++ w)))) b d w k g bb bd (subst (λ x. isBlank x ≡ false) (sym (alike-head t w al)) nt) hq hw))
       (rd-returned t))
-  sound-colon s u q b z k eu ru same bb nz ez (inr h) = (
+  faithful-colon s u q b z k eu ru same bb nz ez (inr h) = (
     fault z,
     (
       u ++ b,
@@ -72,14 +72,14 @@ module _ (R R⁺ : List ℕ → Value → Type 0) (sub : (u : List ℕ) (v : Val
     ),
   )
 
-  sound-key : (s : List ℕ) → Sound R R⁺ (By rd) s → Good s
-  sound-key s (got k q, (u, eu, ru, same)) = let (b, z, bb, ez, nz) = gap q in sound-colon s u q b z k eu ru same bb nz ez (case-of (eqb (headOf z) 58))
-  sound-key s (fault q, x) =
-      sound-fault R R⁺ (Pair R) (Pair R⁺) (By rd) (By (paired rd)) [] (λ k. item k zero-value) (58 ∷ (48 ∷ [])) s q colon-bytes
+  faithful-key : (s : List ℕ) → Faithful R R⁺ (By rd) s → Good s
+  faithful-key s (got k q, (u, eu, ru, same)) = let (b, z, bb, ez, nz) = gap q in faithful-colon s u q b z k eu ru same bb nz ez (case-of (eqb (headOf z) 58))
+  faithful-key s (fault q, x) =
+      faithful-fault R R⁺ (Pair R) (Pair R⁺) (By rd) (By (paired rd)) [] (λ k. item k zero-value) (58 ∷ (48 ∷ [])) s q colon-bytes
       (λ u k ru. pair u [] [] (48 ∷ []) ru tt tt zero-text) (λ y r al hy. pair-fault rd y r hy) x
-  sound-key s (deep q, x) =
-      sound-deep R R⁺ (Pair R) (Pair R⁺) (By rd) (By (paired rd)) [] (λ k. item k zero-value) (58 ∷ (48 ∷ [])) s q colon-bytes
+  faithful-key s (deep q, x) =
+      faithful-deep R R⁺ (Pair R) (Pair R⁺) (By rd) (By (paired rd)) [] (λ k. item k zero-value) (58 ∷ (48 ∷ [])) s q colon-bytes
       (λ u k ru. pair u [] [] (48 ∷ []) ru tt tt zero-text) (λ u k ru. pair u [] [] (48 ∷ []) ru tt tt (sub (48 ∷ []) zero-value zero-text)) (λ y r al hy. pair-deep rd y r hy) x
 
-  pub sound-pair : (s : List ℕ) → Sound (Pair R) (Pair R⁺) (By (paired rd)) s
-  sound-pair s = sound-key s (rd-returned s)
+  pub faithful-pair : (s : List ℕ) → Faithful (Pair R) (Pair R⁺) (By (paired rd)) s
+  faithful-pair s = faithful-key s (rd-returned s)

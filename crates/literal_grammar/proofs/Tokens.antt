@@ -1,4 +1,4 @@
--- Blanks, numbers, words and strings: a law for each way out of their readers, by how the text is made up, and the claim of Sound.antt for each reader.
+-- Blanks, numbers, words and strings: a law for each way out of their readers, by how the text is made up, and the claim of Faithful.antt for each reader.
 use Prim.Native.Nat.{ℕ, _<_}
 use native.Mathlib.Omega.{arith}
 use mathlib.Core.Path.{_≡_, refl, sym, ap, _∙_, subst}
@@ -16,7 +16,7 @@ use Rattle.counts.proofs.Alike.{true-false}
 use Rattle.literal_grammar.specs.Promise.{Completable, got, fault, deep}
 use Rattle.literal_grammar.proofs.Texts.{case-of, Blanks, headOf, tailOf, head-is, Alike, alike-head, run}
 use Rattle.literal_grammar.proofs.Reading.{Read, with, skip, afterDigits, natural, word, quoted}
-use Rattle.literal_grammar.proofs.Sound.{By, Sound, moved, sound-map}
+use Rattle.literal_grammar.proofs.Faithful.{By, Faithful, moved, faithful-map}
 
 pub with-same : {A : Type 0} (g : Read A) → with (λ x. x) g ≡ g
 with-same (got v r) = refl
@@ -67,23 +67,23 @@ unfolding isDigit
 digit-cons [] h = true-false (sym h)
 digit-cons (b ∷ s) h = refl
 
-sound-nonzero : (s : List ℕ) (d : ℕ) (t : List ℕ) → s ≡ d ∷ t → isDigit d ≡ true → eqb d 48 ≡ false → Sound Natural Natural (By natural) s
-sound-nonzero s d t e hd nd =
+faithful-nonzero : (s : List ℕ) (d : ℕ) (t : List ℕ) → s ≡ d ∷ t → isDigit d ≡ true → eqb d 48 ≡ false → Faithful Natural Natural (By natural) s
+faithful-nonzero s d t e hd nd =
     let (u, w, du, ew, nw) = run isDigit (unfold isDigit in refl) t in
     moved Natural Natural (By natural) e
     (got (decimal (d ∷ u)) w, (d ∷ u, ap (λ y. d ∷ y) ew, nonzero hd nd du, λ r al. natural-nonzero d u r hd nd du (subst (λ x. isDigit x ≡ false) (sym (alike-head w r al)) nw)))
 
-sound-digit : (s : List ℕ) → eqb (headOf s) 48 ≡ false → (isDigit (headOf s) ≡ true) ⊎ (isDigit (headOf s) ≡ false) → Sound Natural Natural (By natural) s
-sound-digit s n (inl h) = sound-nonzero s (headOf s) (tailOf s) (digit-cons s h) h n
-sound-digit s n (inr h) =
+faithful-digit : (s : List ℕ) → eqb (headOf s) 48 ≡ false → (isDigit (headOf s) ≡ true) ⊎ (isDigit (headOf s) ≡ false) → Faithful Natural Natural (By natural) s
+faithful-digit s n (inl h) = faithful-nonzero s (headOf s) (tailOf s) (digit-cons s h) h n
+faithful-digit s n (inr h) =
     (fault s, ([], refl, (48 ∷ [], 0, (omega arith, tt), nought), λ r al. let e = sym (alike-head s r al) in natural-bad r (subst (λ x. eqb x 48 ≡ false) e n) (subst (λ x. isDigit x ≡ false) e h)))
 
-sound-nought : (s : List ℕ) → (eqb (headOf s) 48 ≡ true) ⊎ (eqb (headOf s) 48 ≡ false) → Sound Natural Natural (By natural) s
-sound-nought s (inl h) = (got 0 (tailOf s), (48 ∷ [], head-is s 48 (omega arith) h, nought, λ r al. natural-nought r))
-sound-nought s (inr h) = sound-digit s h (case-of (isDigit (headOf s)))
+faithful-nought : (s : List ℕ) → (eqb (headOf s) 48 ≡ true) ⊎ (eqb (headOf s) 48 ≡ false) → Faithful Natural Natural (By natural) s
+faithful-nought s (inl h) = (got 0 (tailOf s), (48 ∷ [], head-is s 48 (omega arith) h, nought, λ r al. natural-nought r))
+faithful-nought s (inr h) = faithful-digit s h (case-of (isDigit (headOf s)))
 
-pub sound-natural : (s : List ℕ) → Sound Natural Natural (By natural) s
-sound-natural s = sound-nought s (case-of (eqb (headOf s) 48))
+pub faithful-natural : (s : List ℕ) → Faithful Natural Natural (By natural) s
+faithful-natural s = faithful-nought s (case-of (eqb (headOf s) 48))
 
 -- ---- words: the text w, and the value v
 abbrev pub Is : Value → List ℕ → List ℕ → Value → Type 0
@@ -102,17 +102,17 @@ word-bad : (v : Value) (c : ℕ) (w r : List ℕ) → eqb (headOf r) c ≡ false
 unfolding word
 word-bad v c w r h = rw (word, h)
 
-word-letter : (v : Value) (c : ℕ) (w s : List ℕ) → AllBytes (c ∷ w) → (eqb (headOf s) c ≡ true) ⊎ (eqb (headOf s) c ≡ false) → Sound (Is v w) (Is v w) (By (word v w)) (tailOf s) → Sound (Is v (c ∷ w)) (Is v (c ∷ w)) (By (word v (c ∷ w))) s
+word-letter : (v : Value) (c : ℕ) (w s : List ℕ) → AllBytes (c ∷ w) → (eqb (headOf s) c ≡ true) ⊎ (eqb (headOf s) c ≡ false) → Faithful (Is v w) (Is v w) (By (word v w)) (tailOf s) → Faithful (Is v (c ∷ w)) (Is v (c ∷ w)) (By (word v (c ∷ w))) s
 word-letter v c w s lt (inl h) ih =
     moved (Is v (c ∷ w)) (Is v (c ∷ w)) (By (word v (c ∷ w))) (head-is s c (lt .0) h)
-    (sound-map (Is v w) (Is v w) (Is v (c ∷ w)) (Is v (c ∷ w)) (By (word v w)) (By (word v (c ∷ w))) (c ∷ []) (λ x. x) (tailOf s)
+    (faithful-map (Is v w) (Is v w) (Is v (c ∷ w)) (Is v (c ∷ w)) (By (word v w)) (By (word v (c ∷ w))) (c ∷ []) (λ x. x) (tailOf s)
     (λ u x e. (ap (λ y. c ∷ y) (e .0), e .1)) (λ u x e. (ap (λ y. c ∷ y) (e .0), e .1)) (λ y g al hy. word-on v c w y g hy) ih)
 word-letter v c w s lt (inr h) ih = (fault s, ([], refl, (c ∷ w, v, lt, (refl, refl)), λ r al. word-bad v c w r (subst (λ x. eqb x c ≡ false) (sym (alike-head s r al)) h)))
 
-pub sound-word : (v : Value) (w : List ℕ) → AllBytes w → (s : List ℕ) → Sound (Is v w) (Is v w) (By (word v w)) s
+pub faithful-word : (v : Value) (w : List ℕ) → AllBytes w → (s : List ℕ) → Faithful (Is v w) (Is v w) (By (word v w)) s
 unfolding word
-sound-word v [] lt s = (got v s, ([], refl, (refl, refl), λ r al. refl))
-sound-word v (c ∷ w) lt s = word-letter v c w s lt (case-of (eqb (headOf s) c)) (sound-word v w (lt .1) (tailOf s))
+faithful-word v [] lt s = (got v s, ([], refl, (refl, refl), λ r al. refl))
+faithful-word v (c ∷ w) lt s = word-letter v c w s lt (case-of (eqb (headOf s) c)) (faithful-word v w (lt .1) (tailOf s))
 
 -- ---- strings in the quote q, which is no backslash
 module _ (q : ℕ) (q-byte : q < 256) (q-slash : eqb 92 q ≡ false) where
@@ -169,35 +169,35 @@ module _ (q : ℕ) (q-byte : q < 256) (q-slash : eqb 92 q ≡ false) where
   open-string true = (92 ∷ (q ∷ []), unescape 92 ∷ [], (omega arith, (q-byte, tt)), escaped refl closed)
 
   abbrev Good : Bool → List ℕ → Type 0
-  Good slash s = Sound (Rest slash) (Rest slash) (By (quoted q slash)) s
+  Good slash s = Faithful (Rest slash) (Rest slash) (By (quoted q slash)) s
 
-  sound-bad : (slash : Bool) (s : List ℕ) → Bad slash s → Good slash s
-  sound-bad slash s h = (fault s, ([], refl, open-string slash, λ r al. quoted-bad slash r (bad-alike slash s r al h)))
+  faithful-bad : (slash : Bool) (s : List ℕ) → Bad slash s → Good slash s
+  faithful-bad slash s h = (fault s, ([], refl, open-string slash, λ r al. quoted-bad slash r (bad-alike slash s r al h)))
 
-  sound-escape : (b : ℕ) (s : List ℕ) → (isEscape b ≡ true) ⊎ (isEscape b ≡ false) → Good false s → Good true (b ∷ s)
-  sound-escape b s (inl h) ih =
-      sound-map (Rest false) (Rest false) (Rest true) (Rest true) (By (quoted q false)) (By (quoted q true)) (b ∷ []) (_∷_ (unescape b)) s
+  faithful-escape : (b : ℕ) (s : List ℕ) → (isEscape b ≡ true) ⊎ (isEscape b ≡ false) → Good false s → Good true (b ∷ s)
+  faithful-escape b s (inl h) ih =
+      faithful-map (Rest false) (Rest false) (Rest true) (Rest true) (By (quoted q false)) (By (quoted q true)) (b ∷ []) (_∷_ (unescape b)) s
       (λ u w x. escaped h x) (λ u w x. escaped h x) (λ y g al hy. quoted-escape b y g h hy) ih
-  sound-escape b s (inr h) ih = sound-bad true (b ∷ s) h
+  faithful-escape b s (inr h) ih = faithful-bad true (b ∷ s) h
 
-  sound-raw : (b : ℕ) (s : List ℕ) → eqb b q ≡ false → eqb b 92 ≡ false → (isBreak b ≡ true) ⊎ (isBreak b ≡ false) → Good false s → Good false (b ∷ s)
-  sound-raw b s n1 n2 (inl h) ih = sound-bad false (b ∷ s) (n1, n2, h)
-  sound-raw b s n1 n2 (inr h) ih =
-      sound-map (Rest false) (Rest false) (Rest false) (Rest false) (By (quoted q false)) (By (quoted q false)) (b ∷ []) (_∷_ b) s
+  faithful-raw : (b : ℕ) (s : List ℕ) → eqb b q ≡ false → eqb b 92 ≡ false → (isBreak b ≡ true) ⊎ (isBreak b ≡ false) → Good false s → Good false (b ∷ s)
+  faithful-raw b s n1 n2 (inl h) ih = faithful-bad false (b ∷ s) (n1, n2, h)
+  faithful-raw b s n1 n2 (inr h) ih =
+      faithful-map (Rest false) (Rest false) (Rest false) (Rest false) (By (quoted q false)) (By (quoted q false)) (b ∷ []) (_∷_ b) s
       (λ u w x. raw n1 n2 h x) (λ u w x. raw n1 n2 h x) (λ y g al hy. quoted-raw b y g n1 n2 h hy) ih
 
-  sound-slash : (b : ℕ) (s : List ℕ) → eqb b q ≡ false → (eqb b 92 ≡ true) ⊎ (eqb b 92 ≡ false) → Good false s → Good true s → Good false (b ∷ s)
-  sound-slash b s n1 (inl h) ih ie =
+  faithful-slash : (b : ℕ) (s : List ℕ) → eqb b q ≡ false → (eqb b 92 ≡ true) ⊎ (eqb b 92 ≡ false) → Good false s → Good true s → Good false (b ∷ s)
+  faithful-slash b s n1 (inl h) ih ie =
       moved (Rest false) (Rest false) (By (quoted q false)) (ap (λ x. x ∷ s) (eqb-true b 92 h))
-      (sound-map (Rest true) (Rest true) (Rest false) (Rest false) (By (quoted q true)) (By (quoted q false)) (92 ∷ []) (λ x. x) s
+      (faithful-map (Rest true) (Rest true) (Rest false) (Rest false) (By (quoted q true)) (By (quoted q false)) (92 ∷ []) (λ x. x) s
       (λ u w x. x) (λ u w x. x) (λ y g al hy. quoted-slash y g hy) ie)
-  sound-slash b s n1 (inr h) ih ie = sound-raw b s n1 h (case-of (isBreak b)) ih
+  faithful-slash b s n1 (inr h) ih ie = faithful-raw b s n1 h (case-of (isBreak b)) ih
 
-  sound-closed : (b : ℕ) (s : List ℕ) → (eqb b q ≡ true) ⊎ (eqb b q ≡ false) → Good false s → Good true s → Good false (b ∷ s)
-  sound-closed b s (inl h) ih ie = (got [] s, (q ∷ [], ap (λ x. x ∷ s) (eqb-true b q h), closed, λ r al. quoted-closed r))
-  sound-closed b s (inr h) ih ie = sound-slash b s h (case-of (eqb b 92)) ih ie
+  faithful-closed : (b : ℕ) (s : List ℕ) → (eqb b q ≡ true) ⊎ (eqb b q ≡ false) → Good false s → Good true s → Good false (b ∷ s)
+  faithful-closed b s (inl h) ih ie = (got [] s, (q ∷ [], ap (λ x. x ∷ s) (eqb-true b q h), closed, λ r al. quoted-closed r))
+  faithful-closed b s (inr h) ih ie = faithful-slash b s h (case-of (eqb b 92)) ih ie
 
-  pub sound-quoted : (s : List ℕ) (slash : Bool) → Sound (Rest slash) (Rest slash) (By (quoted q slash)) s
-  sound-quoted [] slash = sound-bad slash [] tt
-  sound-quoted (b ∷ s) true = sound-escape b s (case-of (isEscape b)) (sound-quoted s false)
-  sound-quoted (b ∷ s) false = sound-closed b s (case-of (eqb b q)) (sound-quoted s false) (sound-quoted s true)
+  pub faithful-quoted : (s : List ℕ) (slash : Bool) → Faithful (Rest slash) (Rest slash) (By (quoted q slash)) s
+  faithful-quoted [] slash = faithful-bad slash [] tt
+  faithful-quoted (b ∷ s) true = faithful-escape b s (case-of (isEscape b)) (faithful-quoted s false)
+  faithful-quoted (b ∷ s) false = faithful-closed b s (case-of (eqb b q)) (faithful-quoted s false) (faithful-quoted s true)

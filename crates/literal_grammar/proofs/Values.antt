@@ -1,4 +1,4 @@
--- The claim of Sound.antt for the reader of a value, by the kind of the first byte and, between brackets, by the limit. If no bracket may be open, an opening one
+-- The claim of Faithful.antt for the reader of a value, by the kind of the first byte and, between brackets, by the limit. If no bracket may be open, an opening one
 -- is refused with 7, and with one more bracket allowed an empty list, tuple or dict is possible there.
 use Prim.Native.Nat.{ℕ, zero, suc, _<_}
 use native.Mathlib.Omega.{arith}
@@ -17,10 +17,10 @@ use Rattle.literal_grammar.specs.Promise.{Completable, fault, deep}
 use Rattle.literal_grammar.proofs.Texts.{headOf, tailOf, head-is, Alike, alike-head, alike-cons, quote-by}
 use Rattle.literal_grammar.proofs.Layers.{empty, Pair, pair-sub, upto, Bracket, square, round, curly, list-of, tuple-of, dict-of, Layer, plain-in, deeper}
 use Rattle.literal_grammar.proofs.Reading.{Read, with, natural, word, quoted, upTo, paired, Shape, Square, Round, Curly, bracketed, Kind, Digit, Quote, Minus, Other, Word, Opens, kindOf, chosen, value}
-use Rattle.literal_grammar.proofs.Sound.{By, Sound, moved, sound-map}
-use Rattle.literal_grammar.proofs.Tokens.{with-same, sound-natural, Is, sound-word, Rest, sound-quoted}
-use Rattle.literal_grammar.proofs.Between.{Closes, To, Rd, by-up-to, sound-parted}
-use Rattle.literal_grammar.proofs.Pairs.{sound-pair}
+use Rattle.literal_grammar.proofs.Faithful.{By, Faithful, moved, faithful-map}
+use Rattle.literal_grammar.proofs.Tokens.{with-same, faithful-natural, Is, faithful-word, Rest, faithful-quoted}
+use Rattle.literal_grammar.proofs.Between.{Closes, To, Rd, by-up-to, faithful-parted}
+use Rattle.literal_grammar.proofs.Pairs.{faithful-pair}
 
 -- ---- the kind of a byte
 abbrev pub opening : Shape → ℕ
@@ -95,29 +95,29 @@ module _ (P P⁺ : List ℕ → Value → Type 0) (inP : (u : List ℕ) (v : Val
   val-alike : (κ : Kind) (s y : List ℕ) → kindOf (headOf s) ≡ κ → Alike s y → val y ≡ chosen κ y (inner y)
   val-alike κ s y h al = val-at κ y (ap kindOf (alike-head s y al) ∙ h)
 
-  sound-kind : ((h : Shape) (s : List ℕ) → kindOf (headOf s) ≡ Opens h → eqb (headOf s) (opening h) ≡ true → Sound P P⁺ (By val) s) → (κ : Kind) (s : List ℕ) → kindOf (headOf s) ≡ κ → KindIs (headOf s) κ → Sound P P⁺ (By val) s
-  sound-kind told-open Digit s h is =
-      sound-map Natural Natural P P⁺ (By natural) (By val) [] (integer false) s (λ u n x. inP u (integer false n) (unsigned x)) (λ u n x. inP⁺ u (integer false n) (unsigned x))
-      (λ y g al hy. val-alike Digit s y h al ∙ ap (with (integer false)) hy) (sound-natural s)
-  sound-kind told-open Quote s h is =
+  faithful-kind : ((h : Shape) (s : List ℕ) → kindOf (headOf s) ≡ Opens h → eqb (headOf s) (opening h) ≡ true → Faithful P P⁺ (By val) s) → (κ : Kind) (s : List ℕ) → kindOf (headOf s) ≡ κ → KindIs (headOf s) κ → Faithful P P⁺ (By val) s
+  faithful-kind told-open Digit s h is =
+      faithful-map Natural Natural P P⁺ (By natural) (By val) [] (integer false) s (λ u n x. inP u (integer false n) (unsigned x)) (λ u n x. inP⁺ u (integer false n) (unsigned x))
+      (λ y g al hy. val-alike Digit s y h al ∙ ap (with (integer false)) hy) (faithful-natural s)
+  faithful-kind told-open Quote s h is =
       let q : ℕ = headOf s in
       let S = Rest q (quote-byte q is) (quote-slash q is) false in
       let e = quote-cons s is in
       moved P P⁺ (By val) e
-      (sound-map S S P P⁺ (By (quoted q false)) (By val) (q ∷ []) string (tailOf s) (λ u w x. inP (q ∷ u) (string w) (in-quotes is x)) (λ u w x. inP⁺ (q ∷ u) (string w) (in-quotes is x))
-      (λ y g al hy. val-at Quote (q ∷ y) h ∙ ap (with string) hy) (sound-quoted q (quote-byte q is) (quote-slash q is) (tailOf s) false))
-  sound-kind told-open Minus s h is =
+      (faithful-map S S P P⁺ (By (quoted q false)) (By val) (q ∷ []) string (tailOf s) (λ u w x. inP (q ∷ u) (string w) (in-quotes is x)) (λ u w x. inP⁺ (q ∷ u) (string w) (in-quotes is x))
+      (λ y g al hy. val-at Quote (q ∷ y) h ∙ ap (with string) hy) (faithful-quoted q (quote-byte q is) (quote-slash q is) (tailOf s) false))
+  faithful-kind told-open Minus s h is =
       let e = head-is s 45 (omega arith) is in
       moved P P⁺ (By val) e
-      (sound-map Natural Natural P P⁺ (By natural) (By val) (45 ∷ []) (integer true) (tailOf s) (λ u n x. inP (45 ∷ u) (integer true n) (minus-sign x)) (λ u n x. inP⁺ (45 ∷ u) (integer true n) (minus-sign x))
-      (λ y g al hy. val-alike Minus s (45 ∷ y) h (alike-cons 45 s y e) ∙ ap (with (integer true)) hy) (sound-natural (tailOf s)))
-  sound-kind told-open Other s h is = (fault s, ([], refl, (48 ∷ [], integer false 0, zero-byte, inP (48 ∷ []) (integer false 0) (unsigned nought)), λ r al. val-alike Other s r h al))
-  sound-kind told-open (Word x w) s h (px, small) =
-      sound-map (Is x w) (Is x w) P P⁺ (By (word x w)) (By val) [] (λ z. z) s
+      (faithful-map Natural Natural P P⁺ (By natural) (By val) (45 ∷ []) (integer true) (tailOf s) (λ u n x. inP (45 ∷ u) (integer true n) (minus-sign x)) (λ u n x. inP⁺ (45 ∷ u) (integer true n) (minus-sign x))
+      (λ y g al hy. val-alike Minus s (45 ∷ y) h (alike-cons 45 s y e) ∙ ap (with (integer true)) hy) (faithful-natural (tailOf s)))
+  faithful-kind told-open Other s h is = (fault s, ([], refl, (48 ∷ [], integer false 0, zero-byte, inP (48 ∷ []) (integer false 0) (unsigned nought)), λ r al. val-alike Other s r h al))
+  faithful-kind told-open (Word x w) s h (px, small) =
+      faithful-map (Is x w) (Is x w) P P⁺ (By (word x w)) (By val) [] (λ z. z) s
       (λ u z e. inP u z (subst (λ a. Plain a z) (sym (e .0)) (subst (Plain w) (sym (e .1)) px)))
       (λ u z e. inP⁺ u z (subst (λ a. Plain a z) (sym (e .0)) (subst (Plain w) (sym (e .1)) px)))
-      (λ y g al hy. val-alike (Word x w) s y h al ∙ hy ∙ sym (with-same g)) (sound-word x w small s)
-  sound-kind told-open (Opens sh) s h is = told-open sh s h is
+      (λ y g al hy. val-alike (Word x w) s y h al ∙ hy ∙ sym (with-same g)) (faithful-word x w small s)
+  faithful-kind told-open (Opens sh) s h is = told-open sh s h is
 
 -- ---- no bracket may be open
 pub value-zero : (s : List ℕ) → value 0 s ≡ chosen (kindOf (headOf s)) s (λ h. deep s)
@@ -136,8 +136,8 @@ opens Square = refl
 opens Round = refl
 opens Curly = refl
 
-sound-too-deep : (h : Shape) (s : List ℕ) → kindOf (headOf s) ≡ Opens h → eqb (headOf s) (opening h) ≡ true → Sound (Layer 0) (Layer 1) (By (value 0)) s
-sound-too-deep h s hk is =
+faithful-too-deep : (h : Shape) (s : List ℕ) → kindOf (headOf s) ≡ Opens h → eqb (headOf s) (opening h) ≡ true → Faithful (Layer 0) (Layer 1) (By (value 0)) s
+faithful-too-deep h s hk is =
     let e : opening h ≡ headOf s = sym (eqb-true (headOf s) (opening h) is) in
     (deep s, ([], refl, (48 ∷ [], integer false 0, zero-byte, unsigned nought), subst (λ x. Completable (Layer 1) (x ∷ [])) e (emptied h), subst (λ x. isOpen x ≡ true) e (opens h), λ r al. value-zero r ∙ ap (λ x. chosen x r (λ h. deep r)) (ap kindOf (alike-head s r al) ∙ hk)))
 
@@ -152,33 +152,33 @@ value-open k Square y = refl
 value-open k Round y = refl
 value-open k Curly y = refl
 
-sound-item : (k : ℕ) → ((s : List ℕ) → Sound (Layer k) (Layer (suc k)) (By (value k)) s) → (s : List ℕ) → Sound (Pair (Layer k)) (Pair (Layer (suc k))) (By (paired (value k))) s
-sound-item k ih = sound-pair (Layer k) (Layer (suc k)) (deeper k) (value k) ih (integer false 0) (plain-in k (48 ∷ []) (integer false 0) (unsigned nought))
+faithful-item : (k : ℕ) → ((s : List ℕ) → Faithful (Layer k) (Layer (suc k)) (By (value k)) s) → (s : List ℕ) → Faithful (Pair (Layer k)) (Pair (Layer (suc k))) (By (paired (value k))) s
+faithful-item k ih = faithful-pair (Layer k) (Layer (suc k)) (deeper k) (value k) ih (integer false 0) (plain-in k (48 ∷ []) (integer false 0) (unsigned nought))
 
-module _ (k : ℕ) (ih : (s : List ℕ) → Sound (Layer k) (Layer (suc k)) (By (value k)) s) where
+module _ (k : ℕ) (ih : (s : List ℕ) → Faithful (Layer k) (Layer (suc k)) (By (value k)) s) where
   -- after the opening bracket of h, things that rd reads, up to c
-  sound-after : {A : Type 0} (h : Shape) (c : ℕ) (shuts : Closes c) (lone : Bool) (R R⁺ : List ℕ → A → Type 0) (rd : List ℕ → Read A) (made : List A → Value)
+  faithful-after : {A : Type 0} (h : Shape) (c : ℕ) (shuts : Closes c) (lone : Bool) (R R⁺ : List ℕ → A → Type 0) (rd : List ℕ → Read A) (made : List A → Value)
       → ((u : List ℕ) (vs : List A) → To R c lone u vs → Bracket (Layer k) (opening h ∷ u) (made vs)) → ((u : List ℕ) (vs : List A) → To R⁺ c lone u vs → Bracket (Layer (suc k)) (opening h ∷ u) (made vs))
-      → ((y : List ℕ) → bracketed (value k) h y ≡ with made (upTo rd c lone y)) → ((s : List ℕ) → Sound (To R c lone) (To R⁺ c lone) (Rd rd c shuts lone) s)
-      → (s : List ℕ) → s ≡ opening h ∷ tailOf s → Sound (Layer (suc k)) (Layer (suc (suc k))) (By (value (suc k))) s
-  sound-after h c shuts lone R R⁺ rd made up up⁺ is-read matched s e =
+      → ((y : List ℕ) → bracketed (value k) h y ≡ with made (upTo rd c lone y)) → ((s : List ℕ) → Faithful (To R c lone) (To R⁺ c lone) (Rd rd c shuts lone) s)
+      → (s : List ℕ) → s ≡ opening h ∷ tailOf s → Faithful (Layer (suc k)) (Layer (suc (suc k))) (By (value (suc k))) s
+  faithful-after h c shuts lone R R⁺ rd made up up⁺ is-read matched s e =
       moved (Layer (suc k)) (Layer (suc (suc k))) (By (value (suc k))) e
-      (sound-map (To R c lone) (To R⁺ c lone) (Layer (suc k)) (Layer (suc (suc k))) (Rd rd c shuts lone) (By (value (suc k))) (opening h ∷ []) made (tailOf s) (λ u vs x. inr (up u vs x)) (λ u vs x. inr (up⁺ u vs x))
+      (faithful-map (To R c lone) (To R⁺ c lone) (Layer (suc k)) (Layer (suc (suc k))) (Rd rd c shuts lone) (By (value (suc k))) (opening h ∷ []) made (tailOf s) (λ u vs x. inr (up u vs x)) (λ u vs x. inr (up⁺ u vs x))
       (λ y g al hy. value-open k h y ∙ is-read y ∙ ap (with made) (by-up-to rd c shuts lone y g hy)) (matched (tailOf s)))
 
-  sound-bracket : (h : Shape) (s : List ℕ) → kindOf (headOf s) ≡ Opens h → eqb (headOf s) (opening h) ≡ true → Sound (Layer (suc k)) (Layer (suc (suc k))) (By (value (suc k))) s
+  faithful-bracket : (h : Shape) (s : List ℕ) → kindOf (headOf s) ≡ Opens h → eqb (headOf s) (opening h) ≡ true → Faithful (Layer (suc k)) (Layer (suc (suc k))) (By (value (suc k))) s
   unfolding bracketed
-  sound-bracket Square s hk is =
-      sound-after Square 93 closes-square true (Layer k) (Layer (suc k)) (value k) list-of (λ u vs x. square x) (λ u vs x. square x) (λ y. refl)
-      (sound-parted (Layer k) (Layer (suc k)) (deeper k) (value k) ih 93 closes-square true) s (head-is s 91 (omega arith) is)
-  sound-bracket Round s hk is =
-      sound-after Round 41 closes-round false (Layer k) (Layer (suc k)) (value k) tuple-of (λ u vs x. round x) (λ u vs x. round x) (λ y. refl)
-      (sound-parted (Layer k) (Layer (suc k)) (deeper k) (value k) ih 41 closes-round false) s (head-is s 40 (omega arith) is)
-  sound-bracket Curly s hk is =
-      sound-after Curly 125 closes-curly true (Pair (Layer k)) (Pair (Layer (suc k))) (paired (value k)) dict-of (λ u es x. curly x) (λ u es x. curly x) (λ y. refl)
-      (sound-parted (Pair (Layer k)) (Pair (Layer (suc k))) (pair-sub (Layer k) (Layer (suc k)) (deeper k)) (paired (value k)) (sound-item k ih) 125 closes-curly true) s (head-is s 123 (omega arith) is)
+  faithful-bracket Square s hk is =
+      faithful-after Square 93 closes-square true (Layer k) (Layer (suc k)) (value k) list-of (λ u vs x. square x) (λ u vs x. square x) (λ y. refl)
+      (faithful-parted (Layer k) (Layer (suc k)) (deeper k) (value k) ih 93 closes-square true) s (head-is s 91 (omega arith) is)
+  faithful-bracket Round s hk is =
+      faithful-after Round 41 closes-round false (Layer k) (Layer (suc k)) (value k) tuple-of (λ u vs x. round x) (λ u vs x. round x) (λ y. refl)
+      (faithful-parted (Layer k) (Layer (suc k)) (deeper k) (value k) ih 41 closes-round false) s (head-is s 40 (omega arith) is)
+  faithful-bracket Curly s hk is =
+      faithful-after Curly 125 closes-curly true (Pair (Layer k)) (Pair (Layer (suc k))) (paired (value k)) dict-of (λ u es x. curly x) (λ u es x. curly x) (λ y. refl)
+      (faithful-parted (Pair (Layer k)) (Pair (Layer (suc k))) (pair-sub (Layer k) (Layer (suc k)) (deeper k)) (paired (value k)) (faithful-item k ih) 125 closes-curly true) s (head-is s 123 (omega arith) is)
 
-pub sound-value : (k : ℕ) (s : List ℕ) → Sound (Layer k) (Layer (suc k)) (By (value k)) s
-sound-value zero s = sound-kind (Layer 0) (Layer 1) (λ u v x. x) (λ u v x. inl x) (value 0) (λ t h. deep t) value-zero sound-too-deep (kindOf (headOf s)) s refl (kind-is (headOf s))
-sound-value (suc k) s =
-    sound-kind (Layer (suc k)) (Layer (suc (suc k))) (λ u v x. inl x) (λ u v x. inl x) (value (suc k)) (λ t h. bracketed (value k) h (tailOf t)) (value-suc k) (sound-bracket k (sound-value k)) (kindOf (headOf s)) s refl (kind-is (headOf s))
+pub faithful-value : (k : ℕ) (s : List ℕ) → Faithful (Layer k) (Layer (suc k)) (By (value k)) s
+faithful-value zero s = faithful-kind (Layer 0) (Layer 1) (λ u v x. x) (λ u v x. inl x) (value 0) (λ t h. deep t) value-zero faithful-too-deep (kindOf (headOf s)) s refl (kind-is (headOf s))
+faithful-value (suc k) s =
+    faithful-kind (Layer (suc k)) (Layer (suc (suc k))) (λ u v x. inl x) (λ u v x. inl x) (value (suc k)) (λ t h. bracketed (value k) h (tailOf t)) (value-suc k) (faithful-bracket k (faithful-value k)) (kindOf (headOf s)) s refl (kind-is (headOf s))

@@ -14,9 +14,9 @@ use Rattle.literal_grammar.proofs.Texts.{Blanks, headOf, Alike, alike-h
 use Rattle.literal_grammar.proofs.Layers.{padded, padded-sub, Layer, Literal, deeper, raise, raise′}
 use Rattle.literal_grammar.proofs.Same.{given, at-depth, some-layer}
 use Rattle.literal_grammar.proofs.Reading.{Read, skip, value, alone, literal}
-use Rattle.literal_grammar.proofs.Sound.{By, Same, Returns, Sound, reads, moved, sound-fault, sound-deep}
+use Rattle.literal_grammar.proofs.Faithful.{By, Same, Returns, Faithful, reads, moved, faithful-fault, faithful-deep}
 use Rattle.literal_grammar.proofs.Tokens.{skips}
-use Rattle.literal_grammar.proofs.Values.{sound-value}
+use Rattle.literal_grammar.proofs.Values.{faithful-value}
 use Rattle.literal_grammar.proofs.Complete.{Stop, stop-blanks, starts-on, starts-blank, value-starts, value-complete}
 
 -- ---- the reader, by how its text is made up
@@ -35,14 +35,14 @@ alone-stray v b r x bb nx = rw (alone, skips (b ++ (x ∷ r)) b (x ∷ r) bb nx 
 -- ---- the claim
 module _ (k : ℕ) (a t : List ℕ) (ba : Blanks a) (nt : isBlank (headOf t) ≡ false) where
   abbrev Good : Type 0
-  Good = Sound (Literal k) (Literal (suc k)) (By (literal k)) (a ++ t)
+  Good = Faithful (Literal k) (Literal (suc k)) (By (literal k)) (a ++ t)
 
   front : (y : List ℕ) (g : Read Value) → Alike t y → value k y ≡ g → literal k (a ++ y) ≡ alone g
   front y g al h = literal-front k (a ++ y) a y g ba (subst (λ x. isBlank x ≡ false) (sym (alike-head t y al)) nt) refl h
 
   -- after the value u blanks b, and z is left
-  sound-after : (v : Value) (u q b z : List ℕ) → t ≡ u ++ q → Layer k u v → Same (By (value k)) u (got v) q → Blanks b → q ≡ b ++ z → isBlank (headOf z) ≡ false → Good
-  sound-after v u q b z eu ru same bb ez nz =
+  faithful-after : (v : Value) (u q b z : List ℕ) → t ≡ u ++ q → Layer k u v → Same (By (value k)) u (got v) q → Blanks b → q ≡ b ++ z → isBlank (headOf z) ≡ false → Good
+  faithful-after v u q b z eu ru same bb ez nz =
       let e : a ++ t ≡ (a ++ (u ++ b)) ++ z = ap (λ y. a ++ y) (eu ∙ ap (λ y. u ++ y) ez) ∙ simp append-assoc in
       by-rest z e nz (λ r al.
       let al-q = alike-on q b z r ez al in
@@ -53,19 +53,19 @@ module _ (k : ℕ) (a t : List ℕ) (ba : Blanks a) (nt : isBlank (headOf t) ≡
       by-rest (x ∷ z) e nz on =
           (fault (x ∷ z), (a ++ (u ++ b), e, ([], v, tt, subst (λ y. Literal k y v) (sym (append-nil (a ++ (u ++ b)))) (padded a u b ba ru bb)), λ r al. on r al ∙ ap (λ y. alone (got v (b ++ y))) (al .1) ∙ alone-stray v b (al .0) x bb nz ∙ ap fault (sym (al .1))))
 
-  sound-front : (g : Read Value) → Returns (Layer k) (Layer (suc k)) (By (value k)) t g → Good
+  faithful-front : (g : Read Value) → Returns (Layer k) (Layer (suc k)) (By (value k)) t g → Good
   unfolding alone
-  sound-front (got v q) (u, eu, ru, same) = let (b, z, bb, ez, nz) = gap q in sound-after v u q b z eu ru same bb ez nz
-  sound-front (fault q) x =
-      sound-fault (Layer k) (Layer (suc k)) (Literal k) (Literal (suc k)) (By (value k)) (By (literal k)) a (λ v. v) [] t q tt (λ u v ru. padded a u [] ba ru tt) (λ y r al h. front y (fault r) al h) x
-  sound-front (deep q) x =
-      sound-deep (Layer k) (Layer (suc k)) (Literal k) (Literal (suc k)) (By (value k)) (By (literal k)) a (λ v. v) [] t q tt (λ u v ru. padded a u [] ba ru tt) (λ u v ru. padded a u [] ba ru tt) (λ y r al h. front y (deep r) al h) x
+  faithful-front (got v q) (u, eu, ru, same) = let (b, z, bb, ez, nz) = gap q in faithful-after v u q b z eu ru same bb ez nz
+  faithful-front (fault q) x =
+      faithful-fault (Layer k) (Layer (suc k)) (Literal k) (Literal (suc k)) (By (value k)) (By (literal k)) a (λ v. v) [] t q tt (λ u v ru. padded a u [] ba ru tt) (λ y r al h. front y (fault r) al h) x
+  faithful-front (deep q) x =
+      faithful-deep (Layer k) (Layer (suc k)) (Literal k) (Literal (suc k)) (By (value k)) (By (literal k)) a (λ v. v) [] t q tt (λ u v ru. padded a u [] ba ru tt) (λ u v ru. padded a u [] ba ru tt) (λ y r al h. front y (deep r) al h) x
 
-pub sound-literal : (k : ℕ) (s : List ℕ) → Sound (Literal k) (Literal (suc k)) (By (literal k)) s
-sound-literal k s =
+pub faithful-literal : (k : ℕ) (s : List ℕ) → Faithful (Literal k) (Literal (suc k)) (By (literal k)) s
+faithful-literal k s =
     let (a, t, ba, e, nt) = gap s in
-    let (g, x) = sound-value k t in
-    moved (Literal k) (Literal (suc k)) (By (literal k)) e (sound-front k a t ba nt g x)
+    let (g, x) = faithful-value k t in
+    moved (Literal k) (Literal (suc k)) (By (literal k)) e (faithful-front k a t ba nt g x)
 
 -- ---- nothing is left after a whole text
 rest-of : Read Value → List ℕ
@@ -102,7 +102,7 @@ layer-sound k s (fault r) x v q h n = absurd (let z : _≡_ {A = ℕ} 0 1 = cc i
 layer-sound k s (deep r) x v q h n = absurd (let z : _≡_ {A = ℕ} 0 1 = cc in omega arith)
 
 pub sound : (k : ℕ) (s : List ℕ) (v : Value) (q : List ℕ) → literal k s ≡ got v q → GivesIn k s v
-sound k s v q h = let (g, x) = sound-literal k s in given k s v (layer-sound k s g x v q (sym (reads (Literal k) (Literal (suc k)) (By (literal k)) s g x) ∙ h) (nothing-left k s v q h))
+sound k s v q h = let (g, x) = faithful-literal k s in given k s v (layer-sound k s g x v q (sym (reads (Literal k) (Literal (suc k)) (By (literal k)) s g x) ∙ h) (nothing-left k s v q h))
 
 pub layer-complete : (k : ℕ) (s : List ℕ) (v : Value) → Literal k s v → literal k s ≡ got v []
 unfolding isDigit

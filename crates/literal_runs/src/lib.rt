@@ -84,6 +84,7 @@ fn is_low(b: u8) -> bool
 // A string's first bytes are looked at together: this many.
 const FIRST: u8 = 16;
 
+// The same as a length.
 const FIRST_BLOCK: usize = FIRST as usize;
 
 // The place i if the byte there is low, else 16.

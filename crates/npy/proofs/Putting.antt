@@ -13,9 +13,9 @@ use Rattle.npy_codes.proofs.Then.{returns-same}
 module _ {A : Type 0} {given : Outcome A} (next : A → Outcome (List ℕ)) where
   pub then-put : {a : A} {answer : Outcome ℕ} {room room′ count count′ : List ℕ} {r : ℕ}
       → gives a ≡ given → Owes (next a) room answer room′ → Returns oneNumber answer count r count′ → Puts (then given next) room count r room′ count′
-  then-put {room = room} is owes said-so =
+  then-put {room = room} is owes returned =
       record {
-        answered = returns-same (owes .answered ∙ ap (λ (g : Outcome A). each length (then g next)) is) said-so;
+        answered = returns-same (owes .answered ∙ ap (λ (g : Outcome A). each length (then g next)) is) returned;
         room-after = owes .room-after ∙ ap (λ (g : Outcome A). afterwards atFront (then g next) room) is;
       }
 

@@ -8,17 +8,19 @@ use type_letters::Endianness;
 ghost use Prim.Native.Nat.{_≤_, _<_, _+_};
 ghost use lib.ListN.{length};
 
-// The longest case: a file of the longest text and its prefix, and the numbers before it.
+// The room for a case.
 const CASE: usize = 147456;
 
-// More dimensions than a record has, and more bytes than a listing has.
+// The most dimensions that a case lends.
 const DIMENSIONS: usize = 64;
 
+// The room for a listing.
 const LISTING: usize = 262144;
 
-// The bytes of a case before its file, of which the last says whether the file is longer.
+// The bytes of a case before its file.
 const FRONT: usize = 13;
 
+// The last of them says whether the file is longer.
 const LONGER: usize = FRONT - 1;
 
 fn main() {

@@ -9,21 +9,25 @@ use type_letters::Endianness;
 ghost use Prim.Native.Nat.{_≤_, _<_};
 ghost use lib.ListN.{length};
 
-// The longest case: a file of the longest text and its prefix, and the numbers beside it.
+// The room for a case.
 const CASE: usize = 147456;
 
-// The most numbers of a case's table, shape, index or path; a table may be longer than a reader lends.
+// The room for the numbers of a case's table.
 const TABLE_NUMBERS: usize = 8192;
 
+// The room for the dimensions of a case's shape, and of the shape that is read.
 const DIMENSIONS: usize = 64;
 
-const STEPS: usize = 256;
+// The room for the numbers of a case's index, of its path, and of a string that is written.
+const ROW: usize = 256;
 
-// The most numbers, points or bytes that a case lends to a function other than the writer, and the most bytes that it lends to that.
+// The most numbers and code points that a case lends, and the bytes of a small room.
 const FEW: usize = 1024;
 
+// The same as a number of a case.
 const FEW_NUMBERS: u64 = FEW as u64;
 
+// The most bytes that a case lends.
 const MANY: usize = 131088;
 
 fn main() {
@@ -57,8 +61,8 @@ fn replay(case: &[u8], table: &mut [u64]) {
     let parts = &case[1..];
     let mut given = [0u64; 7];
     let mut shape = [0u64; DIMENSIONS];
-    let mut index = [0u64; STEPS];
-    let mut path = [0u64; STEPS];
+    let mut index = [0u64; ROW];
+    let mut path = [0u64; ROW];
     store(part(parts, 1), &mut given);
     let rank = store(part(parts, 2), &mut shape);
     let places = store(part(parts, 3), &mut index);
@@ -378,8 +382,8 @@ fn write_points(
     out: &mut [u8],
     count: &mut [u64; 1],
 ) -> u8 {
-    let mut points = [0u32; STEPS];
-    let n = at_most(value.len() as u64, STEPS);
+    let mut points = [0u32; ROW];
+    let n = at_most(value.len() as u64, ROW);
     narrow(value, &mut points);
     npy::npy_write_points(a, b, c, d, &points[..n], out, count)
 }

@@ -25,7 +25,7 @@ use Rattle.literal_bytes.specs.declared.ValueKind.the-variants.{Curly, Quote, M
 use Rattle.literal_bytes.proofs.Parsed.{the-type}
 use Rattle.literal.specs.Forget.{forget}
 use Rattle.literal_bytes.specs.Gaps.{gapAt, thenAt, needAt}
-use Rattle.literal.specs.Brackets.{items, listBy, tupleBy}
+use Rattle.literal.specs.Brackets.{itemsBy, listBy, tupleBy}
 use Rattle.literal.specs.Literal.{bracketBy, value}
 use Rattle.literal_bytes.specs.declared.Gap.{Gap}
 use Rattle.literal_bytes.specs.declared.Gap.the-variants.{Shut, Item, Stray}
@@ -66,8 +66,8 @@ module _ (k : ℕ) (s : List ℕ) (close from : ℕ) (met : ShapeVerdict) where
   pub record Walking (g : Gap) (v : ShapeVerdict) : Type 0 where
     pub bound : ℕ
     pub enough : gapLeft (length s) g < bound
-    pub ends : pos whole ≡ pos (items (value k s) s close bound g)
-    pub says : goesOn (outlined met) whole ≡ goesOn (outlined v) (items (value k s) s close bound g)
+    pub ends : pos whole ≡ pos (itemsBy (value k s) s close bound g)
+    pub says : goesOn (outlined met) whole ≡ goesOn (outlined v) (itemsBy (value k s) s close bound g)
     pub counted : Counted (rankOf v) g
 
   counted-first : (n : ℕ) (g : Gap) → n ≤ from → GapAhead from (length s) g → Counted n g
@@ -87,8 +87,8 @@ module _ (k : ℕ) (s : List ℕ) (close from : ℕ) (met : ShapeVerdict) where
         counted = counted-first (rankOf met) (gapAt s from close) le (gap-ahead s from close small);
       })
 
-  end-by : (m : ℕ) (g : Gap) (v : ShapeVerdict) → gapLeft (length s) g < m → OneOf (0 ∷ 2 ∷ []) (tagOf gap.the-type g) → WalksMembers (outlined v) (items (value k s) s close m g) (judgedShut g v)
-  unfolding items
+  end-by : (m : ℕ) (g : Gap) (v : ShapeVerdict) → gapLeft (length s) g < m → OneOf (0 ∷ 2 ∷ []) (tagOf gap.the-type g) → WalksMembers (outlined v) (itemsBy (value k s) s close m g) (judgedShut g v)
+  unfolding itemsBy
   end-by zero g v lt o = absurd (not-suc-le-zero lt)
   end-by (suc m) (Shut e) v lt o = record { ends = refl; says = goes-none v e }
   end-by (suc m) (Stray p) v lt o = record { ends = refl; says = refl }
@@ -111,9 +111,9 @@ module _ (k : ℕ) (s : List ℕ) (close from : ℕ) (met : ShapeVerdict) where
     ahead : (p < q) × (q ≤ length s)
     ahead = read-ahead p (length s) q r (pos (value k s p)) hr hq (value-ahead k s p)
 
-    more-by : (m : ℕ) (n : Node) → value k s p ≡ got n q → gapLeft (length s) (Item p) < m → pos whole ≡ pos (items (value k s) s close m (Item p))
-        → goesOn (outlined met) whole ≡ goesOn (outlined v) (items (value k s) s close m (Item p)) → rankOf v ≤ p → Walking (thenAt s q close) v′
-    unfolding items
+    more-by : (m : ℕ) (n : Node) → value k s p ≡ got n q → gapLeft (length s) (Item p) < m → pos whole ≡ pos (itemsBy (value k s) s close m (Item p))
+        → goesOn (outlined met) whole ≡ goesOn (outlined v) (itemsBy (value k s) s close m (Item p)) → rankOf v ≤ p → Walking (thenAt s q close) v′
+    unfolding itemsBy
     more-by zero n hn lt he hs le = absurd (not-suc-le-zero lt)
     more-by (suc m) n hn lt he hs le =
         let after = then-ahead s q close small in
@@ -122,8 +122,8 @@ module _ (k : ℕ) (s : List ℕ) (close from : ℕ) (met : ShapeVerdict) where
         record {
           bound = m;
           enough = omega arith;
-          ends = he ∙ rw (items, hn) (pos-with (λ e. _∷_ n) (items (value k s) s close m (thenAt s q close)));
-          says = hs ∙ rw (items, hn) (goes-one (outlined v) n (items (value k s) s close m (thenAt s q close)) ∙ rw (joins, hd k n q hn));
+          ends = he ∙ rw (itemsBy, hn) (pos-with (λ e. _∷_ n) (itemsBy (value k s) s close m (thenAt s q close)));
+          says = hs ∙ rw (itemsBy, hn) (goes-one (outlined v) n (itemsBy (value k s) s close m (thenAt s q close)) ∙ rw (joins, hd k n q hn));
           counted = counted-more (rankOf v) (rankOf v′) p q (length s) (thenAt s q close) le (rank-more v v′ d joins) (ahead .0) after;
         }
 

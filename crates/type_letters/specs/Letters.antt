@@ -1,4 +1,4 @@
--- Document 01, "The record": "Type string: byte order `<`, `>` or `|`, a letter of `b i u f c m M S U O V` (N)". Two tables: the byte of each order and of each letter,
+-- Document 01, "The record": "Type string: byte order `<`, `>` or `|`; a letter of `b i u f c m M S U O V` (N)". Two tables: the byte of each order and of each letter,
 -- both in the document's order; and the letters with rules of their own: "absent for `O` and needed otherwise", "4 times it for U"; "String elements": S, U and V.
 use Prim.Native.Nat.{ℕ}
 use mathlib.Core.List.{List, [], _∷_}
