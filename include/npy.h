@@ -144,7 +144,8 @@ uint8_t npy_read_text(const uint8_t *text, size_t text_len, uint64_t *table, siz
 uint8_t npy_check(const uint64_t *table, size_t table_len, const uint8_t *names, size_t names_len, const uint64_t *shape, size_t shape_len,
                   uint64_t order, uint64_t said[NPY_CHECK_SAID]);
 
-/* The record's header, at the front of out: then 7, 4, 28. count: its length. NPY_MOST_HEADER bytes are always enough. */
+/* The record's header, at the front of out: then 7, 4, 28. count: its length, a multiple of 64, at which the data of
+ * a file then starts. NPY_MOST_HEADER bytes are always enough. */
 uint8_t npy_write_header(const uint64_t *table, size_t table_len, const uint8_t *names, size_t names_len, const uint64_t *shape, size_t shape_len,
                          uint64_t order, uint8_t *out, size_t out_len, uint64_t count[1]);
 

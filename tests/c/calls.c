@@ -88,10 +88,10 @@ static void records(void) {
     IS(npy_check(RECORD, 2, now.said) == NPY_NO_READING && untouched());
     IS(npy_check(now.table, 3 * NPY_ENTRY - 1, now.names, 2, now.shape, 1, 1, now.said) == NPY_NO_READING && untouched());
     uint64_t count[1] = {7};
-    IS(npy_write_header(RECORD, 1, now.out, sizeof now.out, count) == 0 && count[0] == 96);
-    IS(memcmp(now.out, "\x93NUMPY\x01\x00\x56\x00", 10) == 0 && memcmp(now.out + 10, pair, sizeof pair - 1) == 0 && now.out[95] == '\n' && now.out[96] == 0xA5);
+    IS(npy_write_header(RECORD, 1, now.out, sizeof now.out, count) == 0 && count[0] == 128);
+    IS(memcmp(now.out, "\x93NUMPY\x01\x00\x76\x00", 10) == 0 && memcmp(now.out + 10, pair, sizeof pair - 1) == 0 && now.out[126] == ' ' && now.out[127] == '\n' && now.out[128] == 0xA5);
     marks = now, count[0] = 7;
-    IS(npy_write_header(RECORD, 1, now.out, 95, count) == NPY_OUTPUT_ROOM && count[0] == 7 && untouched());
+    IS(npy_write_header(RECORD, 1, now.out, 127, count) == NPY_OUTPUT_ROOM && count[0] == 7 && untouched());
     IS(npy_write_header(RECORD, 256, now.out, sizeof now.out, count) == NPY_NO_READING && count[0] == 7 && untouched());
     const char text[] = "version 1.0\norder F\nshape 2\nstrides 1\ncount 2\nitem 11\ndata 96\n0 - record 2\n1 0 plain |S3 'a'\n2 0 plain <U2 'b'\n";
     IS(npy_list(1, 96, RECORD, 1, now.out, sizeof now.out, count) == 0 && count[0] == sizeof text - 1 && memcmp(now.out, text, sizeof text - 1) == 0);

@@ -31,9 +31,14 @@ def nested(count, found):
     return found
 
 
-def of_length(length, found=I4, letter=b'n'):
-    """A record whose unpadded dict text has that many bytes, by the length of one name."""
-    return record((letter * (length - len(writer.text_of(record((b'', found)), [3], False))), found))
+def of_length(length, found=I4, first=b''):
+    """A record whose unpadded dict text with shape (3) has that many bytes, by the length of one name."""
+    return record((first + b'n' * (length - len(writer.text_of(record((first, found)), [3], False))), found))
+
+
+def accented(length):
+    """One whose name is not ASCII."""
+    return of_length(length, first='\u00e9'.encode())
 
 
 LONG = 10 ** 6
@@ -44,9 +49,12 @@ HIGH = record((b'a', array([1] * 33, I4)))
 
 # dtype, shape, whether Fortran, room -> the refusal's number, or 0
 EDGES = [
-    (I4, [3], False, 80, 0), (I4, [3], False, 79, 28), (I4, [3], False, 0, 28), (I4, [3], True, 80, 0), (I4, [], False, 80, 0), (record(), [3], False, 80, 0), (record((b'', I4)), [], True, 96, 0),
-    (record((b'a', plain(b'<i2')), (b'b', array([2], plain(b'<U3')))), [2, 3], False, 128, 0), (plain(b'<i08'), [3], False, 80, 0), (plain(b'<O'), [3], False, 80, 0),
-    (plain(b'>M8[as]'), [3], False, 96, 0),
+    (I4, [3], False, 128, 0), (I4, [3], False, 127, 28), (I4, [3], False, 80, 28), (I4, [3], False, 0, 28), (I4, [3], True, 128, 0), (record((b'', I4)), [], True, 128, 0),
+    (record((b'a', plain(b'<i2')), (b'b', array([2], plain(b'<U3')))), [2, 3], False, 128, 0), (plain(b'<i08'), [3], False, 128, 0), (plain(b'<O'), [3], False, 128, 0),
+    (plain(b'>M8[as]'), [3], False, 128, 0),
+    # texts of 53 and 54 bytes, none and 63 spaces; then of 51, 52 and 55
+    (plain(b'|O'), [], True, 64, 0), (plain(b'|O'), [], True, 63, 28), (I4, [], True, 128, 0), (I4, [], True, 127, 28), (record(), [], True, 64, 0), (record(), [], False, 64, 0), (I4, [], False, 128, 0),
+    (record(), [3], False, 128, 0), (record(), [3], False, 127, 28),
     (record((b"it's \\ \r\n\t\"\x00", I4)), [1], False, LONG, 0), (record(('\u00e9'.encode(), I4)), [1], False, LONG, 0), (record((b'\xed\xa0\x80', I4)), [1], False, LONG, 27),
     (record((b'\xc3', I4), (b'\xa9', I4)), [1], False, LONG, 27),
     # 27
@@ -66,7 +74,9 @@ EDGES = [
     (nested(15, I4), [], False, LONG, 0), (DEEP, [], False, LONG, 7), (nested(14, record((b'a', array([2], record())))), [], False, LONG, 0),
     (nested(15, record((b'[(', plain(b'|O')))), [], False, LONG, 7), (nested(600, I4), [], False, LONG, 20), (nested(500, I4), [], False, LONG, 7),
     # (1,0) and (2,0), 4 and 28
-    (of_length(65_525), [3], False, 65_536, 0), (of_length(65_525), [3], False, 65_535, 28), (of_length(65_526), [3], False, 65_552, 0), (of_length(65_526), [3], False, 65_551, 28),
+    (of_length(65_525), [3], False, 65_536, 0), (of_length(65_525), [3], False, 65_535, 28), (of_length(65_526), [3], False, 65_600, 0), (of_length(65_526), [3], False, 65_599, 28),
+    # not ASCII, so (3,0): texts of 115 and 116 bytes, none and 63 spaces
+    (accented(115), [3], False, 128, 0), (accented(115), [3], False, 127, 28), (accented(116), [3], False, 192, 0), (accented(116), [3], False, 191, 28),
     (record((b"'" * 65_500, I4)), [3], False, LONG, 4), (record((b"'" * 65_498, I4)), [3], False, LONG, 4), (record((b"'" * 65_498, I4)), [3], False, 0, 4),
     (record((b"'" * 65_498 + '\u00e9'.encode(), I4)), [3], False, LONG, 4),
     # the order: 27, 13, 20, 21, 22, 7, 4, 28
@@ -78,12 +88,11 @@ EDGES = [
 
 
 def most_text():
-    """Records at the edge of 4: unpadded texts of 131,059 and 131,060 bytes, one byte a letter and two."""
-    for over, number in ((0, 0), (1, 4)):
-        length = 131_059 + over
+    """Records at the edge of 4: unpadded texts of 131,059 and 131,060 bytes, one byte a letter and two, to a room of 131,072 bytes; and the first to one of a byte less."""
+    for length, room, number in ((131_059, 131_072, 0), (131_059, 131_071, 28), (131_060, 131_072, 4)):
         count = (length - len(writer.text_of(record((b'', I4)), [3], False))) // 2
         rest = length - len(writer.text_of(record((b"'" * (count - 1), I4)), [3], False))
-        yield record((b"'" * (count - 1) + b'n' * rest, I4)), [3], False, LONG, number
+        yield record((b"'" * (count - 1) + b'n' * rest, I4)), [3], False, room, number
 
 
 def given(found, shape, fortran, room):

@@ -12,8 +12,8 @@ sys.setrecursionlimit(20_000)
 WIDTH = 9
 KINDS = ('plain', 'array', 'record')
 UNITS = (None, b'Y', b'M', b'W', b'D', b'h', b'm', b's', b'ms', b'us', b'ns', b'ps', b'fs', b'as')
-# "the fewest spaces and one LF that make prefix plus text a multiple of 16"
-MULTIPLE = 16
+# "the fewest spaces and one LF that make prefix plus text a multiple of 16", which document 02 corrects: "a multiple of 64"
+MULTIPLE = 64
 MOST_OPEN = 32
 
 

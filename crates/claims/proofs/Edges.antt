@@ -1,7 +1,7 @@
 -- The table of the cases marked P (specs/Edges.antt): its two parts are computed where their definitions are. That the last case's text gives that record is computed
 -- here: the grammar's own reading of the text, which keeps the promise, and the dtype of the value.
 use Prim.Native.Nat.{ℕ, _≤_}
-use mathlib.Core.Path.{_≡_, refl, ap, subst}
+use mathlib.Core.Path.{_≡_, refl, subst}
 use mathlib.Core.Bool.{false}
 use mathlib.Core.List.{List, [], _∷_}
 use native.Mathlib.Omega.{arith}
@@ -22,16 +22,20 @@ use Rattle.dtype.specs.declared.Order.the-variants.{C}
 use Rattle.dtype.specs.Record.{entry-width, table}
 use Rattle.dtype.specs.Limits.{overShape, limited}
 use Rattle.dtype.proofs.Edges as dtypes
-use Rattle.record.specs.Prefix.{one-zero}
-use Rattle.record.proofs.Examples.{table-holds, written}
+use Rattle.counts.specs.Outcome.{gives}
+use Rattle.record.specs.Rooms.{Lent}
+use Rattle.record.specs.Header.{Header}
+use Rattle.record.specs.Edges.{three-i4}
+use Rattle.record.proofs.Examples.{table-holds}
+use Rattle.record.proofs.Edges as paddings
 use Rattle.record.specs.Padding.{spacesAfter, versionFor}
-use Rattle.record.specs.File.{version, textLength, fileOf}
+use Rattle.record.specs.File.{version, textLength}
 use Rattle.check_record.specs.Valid.{Valid}
 use Rattle.judge.specs.Judged.{reading}
 use Rattle.judge.proofs.Top.{reading-keeps}
-use Rattle.header.specs.Reads.{lent}
+use Rattle.header.specs.Reads.{heldInto, lent}
 use Rattle.claims.specs.Exact.{In-file, Printable, Writable}
-use Rattle.claims.specs.Edges.{Edges, a-and-b-text, a-and-b-value, eighty, three}
+use Rattle.claims.specs.Edges.{Edges, a-and-b-text, a-and-b-value}
 use Rattle.claims.proofs.Exact.{read-in-file}
 use Rattle.claims.proofs.Printable.{shallow-printable}
 
@@ -42,24 +46,39 @@ a-and-b-literal = refl
 given : GivesIn most-open a-and-b-text a-and-b-value
 given = subst (Promise most-open a-and-b-text) a-and-b-literal (kept most-open a-and-b-text) .1
 
--- the 80 bytes, by the table of crate record, with rooms that are just enough
-eighty-read : In-file eighty (record { version = one-zero; says = three; data-start = 80 })
-eighty-read = read-in-file false eighty (lent (replicate entry-width 0) [] (0 ∷ [])) _ (table-holds reading reading-keeps .0) .0
+-- the headers of `<i4`, C, (3), by the table of crate record, with rooms that are just enough
+abbrev just-room : Lent
+just-room = lent (replicate entry-width 0) [] (0 ∷ [])
 
--- their record is written
-three-valid : Valid (table (three .dtype)) [] (3 ∷ []) C three
+read-so : (file : List ℕ) (h : Header) → heldInto false file just-room ≡ gives h → In-file file h
+read-so file h e = read-in-file false file just-room h e .0
+
+-- that record is written
+three-valid : Valid (table (three-i4 .dtype)) [] (3 ∷ []) C three-i4
 unfolding limited overShape validated checked isType
 three-valid = record { table-is = refl; names-are = refl; shape-is = refl; order-is = refl; no-array = refl; readable = refl; limits = refl }
 
-three-printable : Printable three
+three-printable : Printable three-i4
 unfolding printed lastDigits escapeOf typeText spacesAfter versionFor version textLength
-three-printable = let long : textLength three ≡ 70 = refl in shallow-printable three refl (omega (arith, long))
+three-printable = let long : textLength three-i4 ≡ 118 = refl in shallow-printable three-i4 refl (omega (arith, long))
 
-three-written : (room : List ℕ) → 80 ≤ length room → Writable (table (three .dtype)) [] (3 ∷ []) C room three
-three-written room enough =
-    let long : length (fileOf three) ≡ 80 = ap length (written .eighty-bytes) in
-    record { valid = three-valid; printable = three-printable; fits = omega (arith, long, enough) }
+three-writable : (room : List ℕ) → 128 ≤ length room → Writable (table (three-i4 .dtype)) [] (3 ∷ []) C room three-i4
+three-writable room enough =
+    record { valid = three-valid; printable = three-printable; fits = omega (arith, paddings.edges .three-long, enough) }
 
 pub edges : Edges
 unfolding isDigit digitsOf decimalFrom orderOf letterOf unitsOf sized syntax validated checked typeString
-edges = record { type-strings = types.edges; records = dtypes.edges; a-and-b-given = given; a-and-b-read = refl; eighty-read = eighty-read; eighty-written = written .eighty-bytes; eighty-writable = three-written }
+edges =
+    let holds = table-holds reading reading-keeps in
+    record {
+      type-strings = types.edges;
+      records = dtypes.edges;
+      a-and-b-given = given;
+      a-and-b-read = refl;
+      eighty-read = read-so _ _ (holds .0);
+      other-blanks-read = read-so _ _ (holds .1 .0);
+      unpadded-read = read-so _ _ (holds .1 .1 .0);
+      written-read = read-so _ _ (holds .1 .1 .1 .0);
+      padding-edges = paddings.edges;
+      three-writable = three-writable;
+    }

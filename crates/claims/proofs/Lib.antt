@@ -10,6 +10,7 @@ pub mod Exact
 pub mod Further
 pub mod WasRead
 pub mod RoundTrips
+pub mod Padded
 pub mod Places
 pub mod Held
 pub mod Program

@@ -4,7 +4,7 @@
 use Prim.Native.Nat.{ℕ, _<_, _≤_}
 use native.Mathlib.Omega.{arith}
 use mathlib.Core.Path.{_≡_, refl, sym, ap, subst, _∙_}
-use mathlib.Core.List.{List, _++_}
+use mathlib.Core.List.{List, [], _∷_, _++_}
 use mathlib.Core.Bool.{Bool, true, false, not}
 use lib.Dec.{ltb}
 use lib.ListN.{length, take}
@@ -14,6 +14,7 @@ use Rattle.counts.specs.Lists.{atFront}
 use Rattle.counts.specs.Owes.{roomed}
 use Rattle.counts.proofs.Owes.{roomed-whole, roomed-short}
 use Rattle.counts.proofs.Holds.{Holds, then-any, unless-holds, holds-of, then-back, each-back}
+use Rattle.refusal.specs.declared.BytesAnswer.{BytesAnswer}
 use Rattle.refusal.specs.Answers.{bytesAnswer}
 use Rattle.literal_grammar.specs.Print.{valueOf}
 use Rattle.dtype.specs.declared.Order.{Order}
@@ -40,9 +41,11 @@ use Rattle.write.specs.Writes.{headerWritten}
 use Rattle.read_back.specs.Rooms.{tableStored, namesStored, shapeStored}
 use Rattle.read_back.proofs.Accepted.{valid-sound}
 use Rattle.read_back.proofs.Rooms.{front, table-whole, names-whole}
-use Rattle.npy_codes.specs.Codes.{oneNumber, orderFor, headerValues}
+use Rattle.npy_codes.specs.Codes.{oneNumber, orderNumber, orderFor, headerValues}
 use Rattle.npy_codes.proofs.Then.{returns-same}
 use Rattle.claims.specs.Doors.{Door, in-rattle, in-c}
+use Rattle.claims.specs.Functions.{Write-header}
+use Rattle.claims.specs.InC.{Npy-write-header}
 use Rattle.claims.specs.RoundTrips.{Comes-back, Read-back, Npy-read-back, Written-read, Written-read-in-C, Goes-again, Read-written, Read-written-in-C}
 use Rattle.claims.proofs.Doors.{c-returned}
 use Rattle.claims.proofs.Found.{found-value, order-named, order-back, Was-read, read-was, npy-read-was, by-whole}
@@ -90,7 +93,7 @@ module _ {R : Type 0} (door : Door HeaderInfo R) (r : Record) (l l′ : Lent) (y
           }
 
 module _ (r : Record) (sound : Sound r) (room : List ℕ) (e : writing r room ≡ gives (fileOf r)) where
-  sound-read : (rest : List ℕ) (l : Lent) → heldInto false (fileOf r ++ rest) l ≡ unless (tooSmall (roomsOf l) (needs r)) 23 (gives (headerFor r))
+  pub sound-read : (rest : List ℕ) (l : Lent) → heldInto false (fileOf r ++ rest) l ≡ unless (tooSmall (roomsOf l) (needs r)) 23 (gives (headerFor r))
   sound-read rest l = record-written-read reading reading-keeps r sound room (fileOf r) e rest (roomsOf l)
 
   sound-back : Read-back (fileOf r) (table (r .dtype)) (names (r .dtype)) (r .shape) (r .order)
@@ -137,16 +140,15 @@ module _ (t ns s : List ℕ) (o : Order) (room : List ℕ) (n : ℕ) (room′ : 
   npy-own-back : Npy-read-back (take n room′) t ns s o
   npy-own-back = rw (w .valid .table-is, w .valid .names-are, w .valid .shape-is, w .valid .order-is, w .bytes) (npy-sound-back (w .says) (w .sound) room (w .writes))
 
--- WHAT WAS WRITTEN IS READ BACK
-pub written-read : Written-read
-written-read t ns s o out out′ n h =
+-- ---- what a call of the writer wrote
+pub header-wrote : (t ns s : List ℕ) (o : Order) (out out′ : List ℕ) (n : ℕ) → Write-header t ns s o out (BytesAnswer.Is (record { 0 = n })) out′ → Wrote t ns s o out n out′
+header-wrote t ns s o out out′ n h =
     let (bytes, e, len) = each-back length (headerWritten t ns s o out) n (sym (h .writes .answered)) in
-    let w =
-    wrote t ns s o out bytes n out′ (h .small-table) (h .small-shape) e len (h .writes .room-after ∙ ap (λ (y : Outcome (List ℕ)). afterwards atFront y out) e) in
-    (taken-length t ns s o out n out′ w, own-back t ns s o out n out′ w)
+    wrote t ns s o out bytes n out′ (h .small-table) (h .small-shape) e len (h .writes .room-after ∙ ap (λ (y : Outcome (List ℕ)). afterwards atFront y out) e)
 
-pub written-read-in-c : Written-read-in-C
-written-read-in-c t ns s order out out′ count n h =
+pub npy-header-wrote : (t ns s : List ℕ) (order : ℕ) (out out′ count : List ℕ) (n : ℕ) → Npy-write-header t ns s order out count 0 out′ (n ∷ [])
+    → (o : Order) × (order ≡ orderNumber o) × Wrote t ns s o out n out′
+npy-header-wrote t ns s order out out′ count n h =
     let put = then (orderFor order) (λ o. headerWritten t ns s o out) in
     let numbered = then-numbered (orderFor order) (λ o. headerWritten t ns s o out) (for-numbered order) (λ o. header-written-numbered t ns s o out) in
     let (m, e, v) = found-value (each length put) (each-numbered length put numbered) (h .writes .answered) in
@@ -155,7 +157,15 @@ written-read-in-c t ns s order out out′ count n h =
     let same : m ≡ n = cc in
     let w =
     wrote t ns s o out bytes n out′ (h .small-table) (h .small-shape) written-is (len ∙ same) (h .writes .room-after ∙ ap (λ (y : Outcome (List ℕ)). afterwards atFront y out) is) in
-    (o, order-named order o named, taken-length t ns s o out n out′ w, npy-own-back t ns s o out n out′ w)
+    (o, order-named order o named, w)
+
+-- WHAT WAS WRITTEN IS READ BACK
+pub written-read : Written-read
+written-read t ns s o out out′ n h = let w = header-wrote t ns s o out out′ n h in (taken-length t ns s o out n out′ w, own-back t ns s o out n out′ w)
+
+pub written-read-in-c : Written-read-in-C
+written-read-in-c t ns s order out out′ count n h =
+    let (o, named, w) = npy-header-wrote t ns s order out out′ count n h in (o, named, taken-length t ns s o out n out′ w, npy-own-back t ns s o out n out′ w)
 
 -- ---- what was read goes again
 goes-again : {R : Type 0} (door : Door ℕ R) (r : Record) (out : List ℕ) (w : R) (out′ : List ℕ) (Again : List ℕ → Type 0)

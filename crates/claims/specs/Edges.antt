@@ -1,5 +1,5 @@
 -- Document 01, "What counts as an answer": "The cases marked P form one proved table under a single claim". They are the lines marked P of "Both sides of each edge (P:
--- proved)": those about type strings, and those about sizes, strides, shapes and places.
+-- proved)": those about type strings, and those about sizes, strides, shapes and places. The two lines about whole headers, with document 02's corrections, are proved with them.
 use Prim.Native.Nat.{ℕ, _≤_}
 use mathlib.Core.Path.{_≡_}
 use mathlib.Core.Bool.{false}
@@ -7,17 +7,12 @@ use mathlib.Core.List.{List, [], _∷_}
 use lib.ListN.{length}
 use Rattle.counts.specs.Outcome.{gives}
 use Rattle.literal_grammar.specs.Value.{Value, string, integer, list, tuple, end-of-values, value-then, most-open}
-use Rattle.literal_grammar.specs.Print.{spaces}
 use Rattle.literal_grammar.specs.Promise.{GivesIn}
 use Rattle.record.specs.Descr.{descrOf}
-use Rattle.type_letters.specs.declared.Endianness.the-variants.{Little}
-use Rattle.type_letters.specs.declared.TypeChar.the-variants.{Int}
-use Rattle.type_units.specs.declared.TimeUnits.the-variants.{Absent}
 use Rattle.dtype.specs.declared.Order.the-variants.{C}
-use Rattle.dtype.specs.Dtype.{plain}
-use Rattle.dtype.specs.Record.{Record, table}
+use Rattle.dtype.specs.Record.{table}
 use Rattle.record.specs.Prefix.{one-zero}
-use Rattle.record.specs.File.{fileOf}
+use Rattle.record.specs.Edges.{three-i4, three-i4-header, eighty, hundred-twenty-eight, PaddingEdges}
 use Rattle.claims.specs.Exact.{In-file, Writable}
 use Rattle.type_read.specs.Edges as types
 use Rattle.dtype.specs.Edges as dtypes
@@ -43,14 +38,6 @@ field-b = tuple (value-then (string (98 ∷ [])) (value-then (string (60 ∷ 85 
 abbrev pub a-and-b-value : Value
 a-and-b-value = list (value-then field-a (value-then field-b end-of-values))
 
--- document 01's header for `<i4`, C, (3): `93 NUMPY 01 00 46 00`, the 58 characters `{'descr': '<i4', 'fortran_order': False, 'shape': (3, ), }`, 11 spaces, LF
-abbrev pub eighty : List ℕ
-eighty = 147 ∷ 78 ∷ 85 ∷ 77 ∷ 80 ∷ 89 ∷ 1 ∷ 0 ∷ 70 ∷ 0 ∷ 123 ∷ 39 ∷ 100 ∷ 101 ∷ 115 ∷ 99 ∷ 114 ∷ 39 ∷ 58 ∷ 32 ∷ 39 ∷ 60 ∷ 105 ∷ 52 ∷ 39 ∷ 44 ∷ 32 ∷ 39 ∷ 102 ∷ 111 ∷ 114 ∷ 116 ∷ 114 ∷ 97 ∷ 110 ∷ 95 ∷ 111 ∷ 114 ∷ 100 ∷ 101 ∷ 114 ∷ 39 ∷ 58 ∷ 32 ∷ 70 ∷ 97 ∷ 108 ∷ 115 ∷ 101 ∷ 44 ∷ 32 ∷ 39 ∷ 115 ∷ 104 ∷ 97 ∷ 112 ∷ 101 ∷ 39 ∷ 58 ∷ 32 ∷ 40 ∷ 51 ∷ 44 ∷ 32 ∷ 41 ∷ 44 ∷ 32 ∷ 125 ∷ spaces 11 (10 ∷ [])
-
--- its record
-abbrev pub three : Record
-three = record { dtype = plain (record { order = Little; letter = Int; size = 4; units = Absent }); shape = 3 ∷ []; order = C }
-
 -- the claim
 pub record Edges : Type 0 where
   -- `|i1`, `<i08`, `>U0`; `|O4`: 15, `>i` and 30 nines: 16, `|i9`: 17, `>i9`: 18, `>m8`: 19
@@ -60,8 +47,13 @@ pub record Edges : Type 0 where
   -- `[('a', '<i2'), ('b', '<U3', (2,))]` gives this value by the grammar, and the value as a `descr` gives that record of 26 bytes
   pub a-and-b-given : GivesIn most-open a-and-b-text a-and-b-value
   pub a-and-b-read : descrOf a-and-b-value ≡ gives dtypes.a-and-b
-  -- document 01's 80 bytes are a header, of that record, with the data at 80, and they are the header that is written for it, to any room of 80 bytes
-  -- or more; so some file is read and some record written
-  pub eighty-read : In-file eighty (record { version = one-zero; says = three; data-start = 80 })
-  pub eighty-written : fileOf three ≡ eighty
-  pub eighty-writable : (room : List ℕ) → 80 ≤ length room → Writable (table (three .dtype)) [] (3 ∷ []) C room three
+  -- document 01's 80 bytes are a header of `<i4`, C, (3), with the data at 80; so some file is read
+  pub eighty-read : In-file eighty (record { version = one-zero; says = three-i4; data-start = 80 })
+  -- so are these with a tab, CR, a space and LF for the padding, with none, and the 128 bytes that are written
+  pub other-blanks-read : In-file (three-i4-header 62 (9 ∷ 13 ∷ 32 ∷ 10 ∷ [])) (record { version = one-zero; says = three-i4; data-start = 72 })
+  pub unpadded-read : In-file (three-i4-header 58 []) (record { version = one-zero; says = three-i4; data-start = 68 })
+  pub written-read : In-file hundred-twenty-eight (record { version = one-zero; says = three-i4; data-start = 128 })
+  -- the edges of version and padding
+  pub padding-edges : PaddingEdges
+  -- the 128 bytes are written to any room of as many or more; so some record is written
+  pub three-writable : (room : List ℕ) → 128 ≤ length room → Writable (table (three-i4 .dtype)) [] (3 ∷ []) C room three-i4

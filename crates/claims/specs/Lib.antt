@@ -5,6 +5,7 @@ pub mod Roomy
 pub mod Exact
 pub mod Further
 pub mod RoundTrips
+pub mod Padded
 pub mod Places
 pub mod Refusals
 pub mod Accepted

@@ -2,7 +2,7 @@
 -- `npy_read`. `Written-read`: the bytes that were written, with anything after them, are read as the caller's table, names, shape and order, and the data
 -- starts after them; or the result is 23, if a room is too small. `Read-written`: the record that a reading left in the rooms is refused by the writer with 4 exactly if its
 -- text is over 131,072 bytes, then with 28 exactly if the output room is too small; else it is written and read back. That some header is
--- read and written at all follows with Exact.antt from document 01's 80 bytes (`eighty-read` and `eighty-written`, Edges.antt).
+-- read and some record written at all follows with Exact.antt from document 01's 80 bytes and from document 02's 128 (`eighty-read` and `three-writable`, Edges.antt).
 use Prim.Native.Nat.{ℕ, _*_, _<_, _≤_}
 use mathlib.Core.Path.{_≡_}
 use mathlib.Core.List.{List, [], _∷_, _++_}

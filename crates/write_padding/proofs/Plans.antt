@@ -7,7 +7,7 @@ use borrow.Author.Tests.{le-leb, lt-leb, lt-ltb, le-ltb, ltb-true, ltb-false}
 use lib.Dec.{leb, ltb}
 use Rattle.counts.specs.Outcome.{gives, refused, unless}
 use Rattle.record.specs.Prefix.{Version, one-zero, two-zero, three-zero, lengthWidth, textStart, most-text}
-use Rattle.record.specs.Padding.{padding-unit, spacesAfter, paddedLength, versionFor}
+use Rattle.record.specs.Padding.{padding-unit, spacesAfter, paddedLength, most-short, versionFor}
 use Rattle.header_prefix.specs.declared.Version.{Version as Chosen}
 use Rattle.header_prefix.specs.declared.Version.the-variants.{OneZero, TwoZero, ThreeZero}
 use Rattle.header_prefix.specs.Answer.{versionIs}
@@ -27,15 +27,15 @@ pub version-three : (n : ℕ) (ascii : Bool) → ascii ≡ false → ThreeZero �
 unfolding versionFor
 version-three n ascii e = rw e
 
-pub version-one : (n k : ℕ) (ascii : Bool) → ascii ≡ true → k ≡ spacesAfter (10 + n) → n + (k + 1) ≤ 65535 → OneZero ≡ chosen (versionFor ascii n)
+pub version-one : (n k : ℕ) (ascii : Bool) → ascii ≡ true → k ≡ spacesAfter (10 + n) → n + (k + 1) ≤ most-short → OneZero ≡ chosen (versionFor ascii n)
 unfolding versionFor
 version-one n k ascii e z l =
-    let y : leb (paddedLength one-zero n) 65535 ≡ true = le-leb (paddedLength one-zero n) 65535 (omega arith) in rw (e, y)
+    let y : leb (paddedLength one-zero n) most-short ≡ true = le-leb (paddedLength one-zero n) most-short (omega arith) in rw (e, y)
 
-pub version-two : (n k : ℕ) (ascii : Bool) → ascii ≡ true → k ≡ spacesAfter (10 + n) → 65535 < n + (k + 1) → TwoZero ≡ chosen (versionFor ascii n)
+pub version-two : (n k : ℕ) (ascii : Bool) → ascii ≡ true → k ≡ spacesAfter (10 + n) → most-short < n + (k + 1) → TwoZero ≡ chosen (versionFor ascii n)
 unfolding versionFor
 version-two n k ascii e z l =
-    let y : leb (paddedLength one-zero n) 65535 ≡ false = lt-leb (paddedLength one-zero n) 65535 (omega arith) in rw (e, y)
+    let y : leb (paddedLength one-zero n) most-short ≡ false = lt-leb (paddedLength one-zero n) most-short (omega arith) in rw (e, y)
 
 -- ---- 4
 pub planned-4 : (ascii : Bool) (n : ℕ) → most-text < paddedLength (versionFor ascii n) n → refused 4 ≡ planned ascii n

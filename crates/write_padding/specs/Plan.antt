@@ -1,6 +1,6 @@
 -- Document 01, "Header bytes out": "Then the fewest spaces and one LF that make prefix plus text a multiple of 16. Any non-ASCII byte: (3,0). Otherwise (1,0) if
--- the padded text is at most 65,535 bytes, else (2,0).", and 4 "text over 131,072 bytes". The parts are record's Padding.antt; its `padding-unit` is
--- the code's PADDING_UNIT.
+-- the padded text is at most 65,535 bytes, else (2,0).", and 4 "text over 131,072 bytes"; for 16 document 02, "Wish 4. Sixty-four, as NumPy says.", has 64. The parts are
+-- record's Padding.antt; its `padding-unit` is the code's PADDING_UNIT.
 use Prim.Native.Nat.{ℕ, _+_}
 use mathlib.Core.Bool.{Bool}
 use lib.Dec.{ltb}

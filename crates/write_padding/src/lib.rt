@@ -1,5 +1,5 @@
 // Decides how a header's text is padded and which version it is written as, and puts what goes around the text: the prefix before it, spaces and one LF after it
-// (document 01, "Header bytes out"). write calls it.
+// (document 01, "Header bytes out", and document 02, "Wish 4"). write calls it.
 use header_prefix::MOST_TEXT;
 use header_prefix::Version;
 use refusal::Refusal;
@@ -16,7 +16,7 @@ ghost use Rattle.header_prefix.specs.Answer.{versionIs};
 ghost use Rattle.write_padding.specs.Plan.{chosen, planned, answer};
 
 // Prefix and text together are a multiple of this.
-const PADDING_UNIT: usize = 16;
+const PADDING_UNIT: usize = 64;
 
 // The bytes before the text of (1,0).
 const SHORT_PREFIX: usize = 10;

@@ -23,10 +23,10 @@ add-if2-2 : tie.Need-add-if2-2
 add-if2-2 c = omega (arith, c .spaces-after .ensures, spaces-few (10 + c .before .before .args .n))
 
 returns-2 : tie.Need-returns-2
-returns-2 c = version-one _ _ _ (not-false _ (c .before .before .if1 .left)) (c .before .spaces-after .ensures) (c .if2 .taken)
+returns-2 c = version-one _ _ _ (not-false _ (c .before .before .if1 .left)) (c .before .spaces-after .ensures) (omega (arith, c .if2 .taken))
 
 returns-3 : tie.Need-returns-3
-returns-3 c = version-two _ _ _ (not-false _ (c .before .before .if1 .left)) (c .before .spaces-after .ensures) (c .if2 .left)
+returns-3 c = version-two _ _ _ (not-false _ (c .before .before .if1 .left)) (c .before .spaces-after .ensures) (omega (arith, c .if2 .left))
 
 pub chosen-version-spec : {M : Type 1} → statement M
 chosen-version-spec =
