@@ -93,11 +93,11 @@ static void records(void) {
     marks = now, count[0] = 7;
     IS(npy_write_header(RECORD, 1, now.out, 127, count) == NPY_OUTPUT_ROOM && count[0] == 7 && untouched());
     IS(npy_write_header(RECORD, 256, now.out, sizeof now.out, count) == NPY_NO_READING && count[0] == 7 && untouched());
-    const char text[] = "version 1.0\norder F\nshape 2\nstrides 1\ncount 2\nitem 11\ndata 96\n0 - record 2\n1 0 plain |S3 'a'\n2 0 plain <U2 'b'\n";
-    IS(npy_list(1, 96, RECORD, 1, now.out, sizeof now.out, count) == 0 && count[0] == sizeof text - 1 && memcmp(now.out, text, sizeof text - 1) == 0);
+    const char text[] = "version 1.0\norder F\nshape 2\nstrides 1\ncount 2\nitem 11\ndata 128\n0 - record 2\n1 0 plain |S3 'a'\n2 0 plain <U2 'b'\n";
+    IS(npy_list(1, 128, RECORD, 1, now.out, sizeof now.out, count) == 0 && count[0] == sizeof text - 1 && memcmp(now.out, text, sizeof text - 1) == 0);
     marks = now, count[0] = 7;
-    IS(npy_list(4, 96, RECORD, 1, now.out, sizeof now.out, count) == NPY_OTHER_VERSION && npy_list(1, 96, RECORD, 9, now.out, sizeof now.out, count) == NPY_NO_READING);
-    IS(npy_list(1, 96, RECORD, 1, now.out, 10, count) == NPY_OUTPUT_ROOM && count[0] == 7 && untouched());
+    IS(npy_list(4, 128, RECORD, 1, now.out, sizeof now.out, count) == NPY_OTHER_VERSION && npy_list(1, 128, RECORD, 9, now.out, sizeof now.out, count) == NPY_NO_READING);
+    IS(npy_list(1, 128, RECORD, 1, now.out, 10, count) == NPY_OUTPUT_ROOM && count[0] == 7 && untouched());
 }
 
 static void shapes(void) {
@@ -119,26 +119,26 @@ static void shapes(void) {
 
 static void places(void) {
     read_pair();
-    uint8_t file[96 + 22] = {0};
+    uint8_t file[128 + 22] = {0};
     uint64_t one[1] = {1}, two[1] = {2}, path[1] = {1}, count[1] = {7}, run[NPY_RUN];
-    const uint64_t there[NPY_RUN] = {96 + 11 + 3, 8, '<', 'U', 2, 0};
-    memcpy(file + 96 + 11, "xy", 2);
-    file[96 + 14] = 0xE9;
+    const uint64_t there[NPY_RUN] = {128 + 11 + 3, 8, '<', 'U', 2, 0};
+    memcpy(file + 128 + 11, "xy", 2);
+    file[128 + 14] = 0xE9;
     marks = now;
     memset(run, 0, sizeof run);
-    IS(npy_place(sizeof file, 96, RECORD, 1, one, 1, path, 1, run) == 0 && memcmp(run, there, sizeof run) == 0);
-    IS(npy_place(sizeof file - 1, 96, RECORD, 1, one, 1, path, 1, run) == NPY_SHORT_FILE && npy_place(sizeof file, 96, RECORD, 1, two, 1, path, 1, run) == NPY_NOWHERE);
-    IS(npy_place(sizeof file, 96, RECORD, 2, one, 1, path, 1, run) == NPY_NO_READING && memcmp(run, there, sizeof run) == 0);
-    IS(npy_element_points(file, sizeof file, 96, RECORD, 1, one, 1, path, 1, now.points, 16, count) == 0 && count[0] == 1 && now.points[0] == 0xE9);
+    IS(npy_place(sizeof file, 128, RECORD, 1, one, 1, path, 1, run) == 0 && memcmp(run, there, sizeof run) == 0);
+    IS(npy_place(sizeof file - 1, 128, RECORD, 1, one, 1, path, 1, run) == NPY_SHORT_FILE && npy_place(sizeof file, 128, RECORD, 1, two, 1, path, 1, run) == NPY_NOWHERE);
+    IS(npy_place(sizeof file, 128, RECORD, 2, one, 1, path, 1, run) == NPY_NO_READING && memcmp(run, there, sizeof run) == 0);
+    IS(npy_element_points(file, sizeof file, 128, RECORD, 1, one, 1, path, 1, now.points, 16, count) == 0 && count[0] == 1 && now.points[0] == 0xE9);
     IS(now.points[1] == 0xA5A5A5A5);
     marks = now, count[0] = 7;
-    IS(npy_element_points(file, sizeof file, 96, RECORD, 1, one, 1, path, 1, now.points, 0, count) == NPY_ROOM && untouched());
+    IS(npy_element_points(file, sizeof file, 128, RECORD, 1, one, 1, path, 1, now.points, 0, count) == NPY_ROOM && untouched());
     path[0] = 0;
-    IS(npy_element_points(file, sizeof file, 96, RECORD, 1, one, 1, path, 1, now.points, 16, count) == NPY_NOWHERE && untouched() && count[0] == 7);
-    IS(npy_element_bytes(file, sizeof file, 96, RECORD, 1, one, 1, path, 1, now.out, 2, count) == 0 && count[0] == 2 && memcmp(now.out, "xy", 2) == 0);
+    IS(npy_element_points(file, sizeof file, 128, RECORD, 1, one, 1, path, 1, now.points, 16, count) == NPY_NOWHERE && untouched() && count[0] == 7);
+    IS(npy_element_bytes(file, sizeof file, 128, RECORD, 1, one, 1, path, 1, now.out, 2, count) == 0 && count[0] == 2 && memcmp(now.out, "xy", 2) == 0);
     marks = now, count[0] = 7;
-    IS(npy_element_bytes(file, sizeof file, 96, RECORD, 1, one, 1, path, 1, now.out, 1, count) == NPY_ROOM && untouched() && count[0] == 7);
-    IS(npy_element_bytes(file, sizeof file, 96, RECORD, 5, one, 1, path, 1, now.out, 2, count) == NPY_NO_READING && untouched() && count[0] == 7);
+    IS(npy_element_bytes(file, sizeof file, 128, RECORD, 1, one, 1, path, 1, now.out, 1, count) == NPY_ROOM && untouched() && count[0] == 7);
+    IS(npy_element_bytes(file, sizeof file, 128, RECORD, 5, one, 1, path, 1, now.out, 2, count) == NPY_NO_READING && untouched() && count[0] == 7);
 }
 
 static void elements(void) {

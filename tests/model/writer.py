@@ -1,4 +1,4 @@
-"""A model of document 01's writer, written from its text ("Header bytes out"): a caller's record and the size of the lent room in, the header's bytes or the refusal's number out.
+"""A model of document 01's writer, written from its text ("Header bytes out"), with document 02's padding: a caller's record and the size of the lent room in, the header's bytes or the refusal's number out.
 A caller lends a table of numbers, the names end to end, the shape and the order. A dtype is a reader.Type here; numbers_of and dtype_of go to its table and back.
 """
 import sys

@@ -1,4 +1,4 @@
--- The table of the cases marked P (specs/Edges.antt): its two parts are computed where their definitions are. That the last case's text gives that record is computed
+-- The table of edges (specs/Edges.antt): its parts are proved where their definitions are. That the text of `[('a', '<i2'), ('b', '<U3', (2,))]` gives that record is computed
 -- here: the grammar's own reading of the text, which keeps the promise, and the dtype of the value.
 use Prim.Native.Nat.{ℕ, _≤_}
 use mathlib.Core.Path.{_≡_, refl, subst}
@@ -78,7 +78,7 @@ edges =
       eighty-read = read-so _ _ (holds .0);
       other-blanks-read = read-so _ _ (holds .1 .0);
       unpadded-read = read-so _ _ (holds .1 .1 .0);
-      written-read = read-so _ _ (holds .1 .1 .1 .0);
+      hundred-twenty-eight-read = read-so _ _ (holds .1 .1 .1 .0);
       padding-edges = paddings.edges;
       three-writable = three-writable;
     }

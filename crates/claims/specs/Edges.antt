@@ -49,10 +49,10 @@ pub record Edges : Type 0 where
   pub a-and-b-read : descrOf a-and-b-value ≡ gives dtypes.a-and-b
   -- document 01's 80 bytes are a header of `<i4`, C, (3), with the data at 80; so some file is read
   pub eighty-read : In-file eighty (record { version = one-zero; says = three-i4; data-start = 80 })
-  -- so are these with a tab, CR, a space and LF for the padding, with none, and the 128 bytes that are written
+  -- headers of it too: the same text with a tab, CR, a space and LF for its padding, the text without padding, and the 128 bytes that are written
   pub other-blanks-read : In-file (three-i4-header 62 (9 ∷ 13 ∷ 32 ∷ 10 ∷ [])) (record { version = one-zero; says = three-i4; data-start = 72 })
   pub unpadded-read : In-file (three-i4-header 58 []) (record { version = one-zero; says = three-i4; data-start = 68 })
-  pub written-read : In-file hundred-twenty-eight (record { version = one-zero; says = three-i4; data-start = 128 })
+  pub hundred-twenty-eight-read : In-file hundred-twenty-eight (record { version = one-zero; says = three-i4; data-start = 128 })
   -- the edges of version and padding
   pub padding-edges : PaddingEdges
   -- the 128 bytes are written to any room of as many or more; so some record is written

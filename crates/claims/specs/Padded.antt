@@ -59,8 +59,8 @@ Aligned-in-C =
     → (n % 64 ≡ 0) × ((rest : List ℕ) (l l′ : Lent) (said said′ : List ℕ) → Npy-read (take n out′ ++ rest) l said 0 l′ said′
     → (i : HeaderInfo) × (said′ ≡ headerValues i) × (i .data-start ≡ n))
 
--- "The reader accepts any padding, as before.": where a text gives a record with some blanks after it, the text with any others, or none, is the text of a header of that record, in
--- any version whose length field holds its length. By Exact.antt such a file is read
+-- "The reader accepts any padding, as before.": where a text gives a record with some blanks after it, the text with any others, or none, is the text of a header of that record, if it
+-- has at most 131,072 bytes, in any version whose length field holds its length. By Exact.antt such a file is read where the rooms are large enough
 abbrev pub Any-padding : Type 0
 Any-padding =
     (text blanks others : List ℕ) (r : Record) → In-text (text ++ blanks) r → All isBlank blanks → All isBlank others

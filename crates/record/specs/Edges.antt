@@ -40,20 +40,20 @@ hundred-twenty-eight = three-i4-header 0x76 (replicate 59 32 ++ 10 ∷ [])
 pub record PaddingEdges : Type 0 where
   pub three-written : fileOf three-i4 ≡ hundred-twenty-eight
   pub three-long : length (fileOf three-i4) ≡ 128
-  -- an ASCII text of up to 65,525 bytes is (1,0), and any longer one (2,0); one that is not ASCII is (3,0)
+  -- an ASCII text of up to 65,525 bytes is (1,0), and any longer one (2,0); one that is not ASCII is (3,0); 7F is ASCII, 80 is not
   pub up-to-65525 : (n : ℕ) → n ≤ 65525 → versionFor true n ≡ one-zero
   pub from-65526 : (n : ℕ) → 65526 ≤ n → versionFor true n ≡ two-zero
   pub not-ascii : (n : ℕ) → versionFor false n ≡ three-zero
   pub ascii-7f : isAscii (0x7F ∷ []) ≡ true
   pub not-ascii-80 : isAscii (0x80 ∷ []) ≡ false
-  -- 65,525 bytes: no space, 65,526 bytes when padded, 65,536 with the prefix
+  -- 65,525 bytes: no space, 65,526 bytes when padded (65,536 with the prefix of 10)
   pub spaces-65525 : spacesAfter (textStart one-zero + 65525) ≡ 0
   pub padded-65525 : paddedLength one-zero 65525 ≡ 65526
-  -- 65,526 bytes: 61 spaces, 65,588 bytes when padded, 65,600 with the prefix; as (1,0) it would be 65,590 when padded, which two length bytes do not hold
+  -- 65,526 bytes: 61 spaces, 65,588 bytes when padded (65,600 with the prefix of 12); as (1,0) it would be 65,590 when padded, which two length bytes do not hold
   pub spaces-65526 : spacesAfter (textStart two-zero + 65526) ≡ 61
   pub padded-65526 : paddedLength two-zero 65526 ≡ 65588
   pub one-zero-65526 : paddedLength one-zero 65526 ≡ 65590
-  -- up to 131,059 bytes a text is not too long, and from 131,060 on it is (4): when padded these two are 131,060 and 131,124 bytes. So no header is over 131,072 bytes
+  -- 4, "text over 131,072 bytes": not up to 131,059 bytes, and from 131,060 on; when padded these two are 131,060 and 131,124 bytes. No header that is written is over 131,072
   pub up-to-131059 : (ascii : Bool) (n : ℕ) → n ≤ 131059 → paddedLength (versionFor ascii n) n ≤ most-text
   pub from-131060 : (ascii : Bool) (n : ℕ) → 131060 ≤ n → most-text < paddedLength (versionFor ascii n) n
   pub padded-131059 : paddedLength two-zero 131059 ≡ 131060
