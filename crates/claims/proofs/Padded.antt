@@ -54,21 +54,11 @@ file-padded r =
       not-ascii = λ other. chosen false other ∙ as-three-zero n;
     }
 
--- WHAT IS WRITTEN HAS A MULTIPLE OF 64 BYTES, WITH THE FEWEST SPACES
+-- ---- what a call wrote is such a header, and where it is read the data starts after it
 module _ (t ns s : List ℕ) (o : Order) (out : List ℕ) (n : ℕ) (out′ : List ℕ) (w : Wrote t ns s o out n out′) where
   wrote-padded : (r : Record) × Valid t ns s o r × Padded-header r (take n out′)
   wrote-padded = (w .says, w .valid, subst (Padded-header (w .says)) (sym (w .bytes)) (file-padded (w .says)))
 
-pub padded-to-64 : Padded-to-64
-padded-to-64 =
-    record {
-      write-header = λ t ns s o out out′ n h. wrote-padded t ns s o out n out′ (header-wrote t ns s o out out′ n h);
-      npy-write-header = λ t ns s order out out′ count n h.
-          let (o, named, w) = npy-header-wrote t ns s order out out′ count n h in (o, named, wrote-padded t ns s o out n out′ w);
-    }
-
--- ---- data starts after what was written
-module _ (t ns s : List ℕ) (o : Order) (out : List ℕ) (n : ℕ) (out′ : List ℕ) (w : Wrote t ns s o out n out′) where
   wrote-multiple : n % 64 ≡ 0
   wrote-multiple = subst (λ (m : ℕ). m % 64 ≡ 0) (w .long) (file-multiple (w .says))
 
@@ -80,6 +70,15 @@ module _ (t ns s : List ℕ) (o : Order) (out : List ℕ) (n : ℕ) (out′ : Li
       let is : unless short 23 (gives (headerFor r)) ≡ gives (was .header-is) = sym (sound-read r (w .sound) out (w .writes) rest l) ∙ sym file ∙ was .given in
       let same : headerFor r ≡ was .header-is = gives-apart (unless-gives short 23 (gives (headerFor r)) is) in
       ap (λ (i : HeaderInfo). i .data-start) (was .values) ∙ sym (ap (λ (h : header.Header). h .data-start) same) ∙ sym (file-whole r) ∙ w .long
+
+-- WHAT IS WRITTEN HAS A MULTIPLE OF 64 BYTES, WITH THE FEWEST SPACES
+pub padded-to-64 : Padded-to-64
+padded-to-64 =
+    record {
+      write-header = λ t ns s o out out′ n h. wrote-padded t ns s o out n out′ (header-wrote t ns s o out out′ n h);
+      npy-write-header = λ t ns s order out out′ count n h.
+          let (o, named, w) = npy-header-wrote t ns s order out out′ count n h in (o, named, wrote-padded t ns s o out n out′ w);
+    }
 
 -- DATA STARTS AT A MULTIPLE OF 64
 pub aligned : Aligned

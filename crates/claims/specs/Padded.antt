@@ -33,7 +33,7 @@ pub record Padded-header (r : Record) (bytes : List ℕ) : Type 0 where
   -- "NumPy's format document asks that prefix plus text be a multiple of 64", with document 01's "fewest spaces"
   pub multiple : length bytes % 64 ≡ 0
   pub fewest : (k : ℕ) → (textStart version + length (bareText r) + k + 1) % 64 ≡ 0 → spaces ≤ k
-  -- "The version choice reads from the new padding"
+  -- "Unpadded dict text of 65,525 bytes is written as (1,0); 65,526 as (2,0)", and so for every length; "Any non-ASCII byte: (3,0)."
   pub short : isAscii (bareText r) ≡ true → length (bareText r) ≤ 65525 → version ≡ one-zero
   pub long : isAscii (bareText r) ≡ true → 65526 ≤ length (bareText r) → version ≡ two-zero
   pub not-ascii : isAscii (bareText r) ≡ false → version ≡ three-zero

@@ -9,18 +9,15 @@ use lib.ListN.{length}
 use lib.Dec.{eqb, leb, ltb}
 use borrow.Author.Tests.{leb-true, ltb-true, eqb-true, eqb-false, ne-eqb, not-true}
 use Rattle.literal_grammar.specs.Bytes.{isBlank}
+use Rattle.literal_grammar.proofs.Texts.{above-blanks}
 use Rattle.counts.proofs.Alike.{and-left, and-right}
 use Rattle.literal_bytes.specs.Text.{byteAt, skip}
 use Rattle.literal_bytes.proofs.Positions.{past-stop, past-more}
 use Rattle.literal_bytes.specs.Gaps.{gapAt, thenAt, commaSpaceItemAt, shutAt}
 use Rattle.literal_bytes.specs.declared.Gap.the-variants.{Shut, Item}
 
--- no byte above the space is a blank
 above-blank : (b : ℕ) → ltb 32 b ≡ true → isBlank b ≡ false
-unfolding isBlank
-above-blank b h =
-    let lt = ltb-true 32 b h in
-    rw (ne-eqb b 32 (λ e. absurd (omega (arith, e, lt))), ne-eqb b 9 (λ e. absurd (omega (arith, e, lt))), ne-eqb b 10 (λ e. absurd (omega (arith, e, lt))), ne-eqb b 13 (λ e. absurd (omega (arith, e, lt))))
+above-blank b h = above-blanks b (ltb-true 32 b h)
 
 comma-no-blank : isBlank 44 ≡ false
 unfolding isBlank

@@ -3,15 +3,15 @@
 use Prim.Native.Nat.{ℕ, _≤_}
 use native.Mathlib.Omega.{arith}
 use mathlib.Core.Path.{_≡_, refl, sym, ap, subst, _∙_}
-use mathlib.Core.Logic.{_⊎_, inl, inr}
 use mathlib.Core.List.{List, [], _∷_, _++_, append-assoc, append-nil}
 use mathlib.Core.Bool.{true, false}
+use Rattle.counts.proofs.Alike.{true-false}
 use Rattle.decimal.specs.Decimal.{isDigit}
 use Rattle.decimal.proofs.Runs.{digit-low}
 use Rattle.literal_grammar.specs.Bytes.{isBlank}
 use Rattle.literal_grammar.specs.Value.{Value}
 use Rattle.literal_grammar.specs.Grammar.{All, Natural, nought, nonzero, Quoted, closed, raw, escaped, Plain, in-quotes, unsigned, minus-sign, word-true, word-false, word-none, Gives, plain, around, in-square, in-round, in-braces}
-use Rattle.literal_grammar.proofs.Texts.{case-of, Blanks, all-append, blank-by, quote-by}
+use Rattle.literal_grammar.proofs.Texts.{Blanks, all-append, above-blanks, quote-by}
 
 -- ---- texts that end in a byte that is no blank
 record Solid (s : List ℕ) : Type 0 where
@@ -20,15 +20,8 @@ record Solid (s : List ℕ) : Type 0 where
   is : s ≡ front ++ last ∷ []
   no-blank : isBlank last ≡ false
 
-over-blanks : (b : ℕ) → 33 ≤ b → isBlank b ≡ false
-over-blanks b h = go (case-of (isBlank b))
-  where
-    go : (isBlank b ≡ true) ⊎ (isBlank b ≡ false) → isBlank b ≡ false
-    go (inl e) = absurd (blank-by (λ c. 33 ≤ c → ⊥) (λ k. omega arith) (λ k. omega arith) (λ k. omega arith) (λ k. omega arith) b e h)
-    go (inr e) = e
-
 ends : (s front : List ℕ) (last : ℕ) → 33 ≤ last → s ≡ front ++ last ∷ [] → Solid s
-ends s front last h e = record { front = front; last = last; is = e; no-blank = over-blanks last h }
+ends s front last h e = record { front = front; last = last; is = e; no-blank = above-blanks last h }
 
 solid-after : (b : ℕ) {s : List ℕ} → Solid s → Solid (b ∷ s)
 solid-after b x = record { front = b ∷ x .front; last = x .last; is = ap (λ y. b ∷ y) (x .is); no-blank = x .no-blank }
@@ -90,7 +83,7 @@ trimmed {s} (in-braces u e l) = as-it-is s (in-braces u e l) (ends s (123 ∷ u)
 not-among : (front : List ℕ) (last : ℕ) (after blanks : List ℕ) → isBlank last ≡ false → Blanks blanks → front ++ last ∷ after ≡ blanks → ⊥
 not-among [] last after [] solid h e = let z : _≡_ {A = ℕ} 0 1 = cc in omega arith
 not-among [] last after (c ∷ blanks) solid h e =
-    let same : last ≡ c = cc in let blank : isBlank last ≡ true = ap isBlank same ∙ h .0 in let z : true ≡ false = sym blank ∙ solid in let w : _≡_ {A = ℕ} 0 1 = cc in omega arith
+    let same : last ≡ c = cc in true-false (sym (ap isBlank same ∙ h .0) ∙ solid)
 not-among (f ∷ front) last after [] solid h e = let z : _≡_ {A = ℕ} 0 1 = cc in omega arith
 not-among (f ∷ front) last after (c ∷ blanks) solid h e = not-among front last after blanks solid (h .1) cc
 

@@ -1,6 +1,6 @@
 -- Laws on texts: the next byte, blanks at the front, and texts that continue alike. The end of a text counts as the next byte 256, which is no byte; a law that must
 -- distinguish the two requires texts to be `Alike`.
-use Prim.Native.Nat.{ℕ, _<_}
+use Prim.Native.Nat.{ℕ, _<_, _≤_}
 use native.Mathlib.Omega.{arith}
 use mathlib.Core.Path.{_≡_, refl, sym, ap, subst}
 use mathlib.Core.Logic.{_⊎_, inl, inr}
@@ -81,6 +81,14 @@ blank-by P space tab lf cr b h = by-cr (or-true (eqb b 32 || eqb b 9 || eqb b 10
     by-cr : ((eqb b 32 || eqb b 9 || eqb b 10) ≡ true) ⊎ (eqb b 13 ≡ true) → P b
     by-cr (inl e) = by-lf (or-true (eqb b 32 || eqb b 9) (eqb b 10) e)
     by-cr (inr e) = is 13 cr e
+
+-- no byte above the space is a blank
+pub above-blanks : (b : ℕ) → 33 ≤ b → isBlank b ≡ false
+above-blanks b h = go (case-of (isBlank b))
+  where
+    go : (isBlank b ≡ true) ⊎ (isBlank b ≡ false) → isBlank b ≡ false
+    go (inl e) = absurd (blank-by (λ c. 33 ≤ c → ⊥) (λ k. omega arith) (λ k. omega arith) (λ k. omega arith) (λ k. omega arith) b e h)
+    go (inr e) = e
 
 pub quote-by : (P : ℕ → Type 0) → P 39 → P 34 → (b : ℕ) → isQuote b ≡ true → P b
 unfolding isQuote

@@ -1,13 +1,14 @@
 -- The version, the spaces and the lengths that a text is written with: nothing wraps, and each is what record defines.
 use Prim.Native.Nat.{ℕ, _+_, _≤_, _<_}
 use native.Mathlib.Omega.{arith}
-use mathlib.Core.Path.{_≡_, refl, ap, _∙_}
+use mathlib.Core.Path.{_≡_, refl, sym, ap, _∙_}
 use mathlib.Core.Bool.{Bool, true, false}
-use borrow.Author.Tests.{le-leb, lt-leb, lt-ltb, le-ltb, ltb-true, ltb-false}
-use lib.Dec.{leb, ltb}
+use borrow.Author.Tests.{lt-ltb, le-ltb, ltb-true, ltb-false}
+use lib.Dec.{ltb}
 use Rattle.counts.specs.Outcome.{gives, refused, unless}
 use Rattle.record.specs.Prefix.{Version, one-zero, two-zero, three-zero, lengthWidth, textStart, most-text}
 use Rattle.record.specs.Padding.{padding-unit, spacesAfter, paddedLength, most-short, versionFor}
+use Rattle.record.proofs.Padded.{short-is-one-zero, long-is-two-zero, as-three-zero}
 use Rattle.header_prefix.specs.declared.Version.{Version as Chosen}
 use Rattle.header_prefix.specs.declared.Version.the-variants.{OneZero, TwoZero, ThreeZero}
 use Rattle.header_prefix.specs.Answer.{versionIs}
@@ -24,18 +25,13 @@ chosen-back two-zero = refl
 chosen-back three-zero = refl
 
 pub version-three : (n : ℕ) (ascii : Bool) → ascii ≡ false → ThreeZero ≡ chosen (versionFor ascii n)
-unfolding versionFor
-version-three n ascii e = rw e
+version-three n ascii e = rw e (ap chosen (sym (as-three-zero n)))
 
 pub version-one : (n k : ℕ) (ascii : Bool) → ascii ≡ true → k ≡ spacesAfter (10 + n) → n + (k + 1) ≤ most-short → OneZero ≡ chosen (versionFor ascii n)
-unfolding versionFor
-version-one n k ascii e z l =
-    let y : leb (paddedLength one-zero n) most-short ≡ true = le-leb (paddedLength one-zero n) most-short (omega arith) in rw (e, y)
+version-one n k ascii e z l = rw e (ap chosen (sym (short-is-one-zero n (omega (arith, z, l)))))
 
 pub version-two : (n k : ℕ) (ascii : Bool) → ascii ≡ true → k ≡ spacesAfter (10 + n) → most-short < n + (k + 1) → TwoZero ≡ chosen (versionFor ascii n)
-unfolding versionFor
-version-two n k ascii e z l =
-    let y : leb (paddedLength one-zero n) most-short ≡ false = lt-leb (paddedLength one-zero n) most-short (omega arith) in rw (e, y)
+version-two n k ascii e z l = rw e (ap chosen (sym (long-is-two-zero n (omega (arith, z, l)))))
 
 -- ---- 4
 pub planned-4 : (ascii : Bool) (n : ℕ) → most-text < paddedLength (versionFor ascii n) n → refused 4 ≡ planned ascii n

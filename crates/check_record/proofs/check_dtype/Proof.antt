@@ -5,6 +5,7 @@ use Rattle.check_table.specs.Reading.{readDtype}
 use Rattle.dtype.specs.Dtype.{Dtype}
 use Rattle.counts.specs.Outcome.{gives}
 use borrow.Author.Tests.{not-true, not-false}
+use native.Mathlib.Omega.{arith}
 use mathlib.Core.Path.{_≡_, refl, sym, _∙_}
 use borrow.Author.Needs.{needs}
 use Rattle.check_record.proofs.check_dtype.Statement.{statement}
@@ -21,7 +22,7 @@ returns : tie.Need-returns
 returns c = check-27 _ _ _ (read-27 _ _ (not-false _ (sym (c .before .is-dtype .ensures) ∙ not-true _ (c .if1 .taken))))
 
 returns-2 : tie.Need-returns-2
-returns-2 c = let r = read (c .before) in check-13 _ _ _ (r .0) (r .1) _ refl (c .if2 .taken)
+returns-2 c = let r = read (c .before) in check-13 _ _ _ (r .0) (r .1) _ refl (omega (arith, c .if2 .taken))
 
 too-deep-requires : tie.Need-too-deep-requires
 too-deep-requires c κs = search needs
@@ -30,22 +31,22 @@ returns-3 : tie.Need-returns-3
 returns-3 c = let r = read (c .before .before .before) in check-13-levels _ _ _ (r .0) (r .1) _ refl (sym (c .if3 .taken) ∙ c .before .too-deep .ensures)
 
 returns-4 : tie.Need-returns-4
-returns-4 c = let r = read (c .before .before .before .before) in check-20 _ _ _ (r .0) (r .1) _ refl (c .before .before .before .if2 .left) (sym (c .before .if3 .left) ∙ c .before .before .too-deep .ensures) (c .if4 .taken)
+returns-4 c = let r = read (c .before .before .before .before) in check-20 _ _ _ (r .0) (r .1) _ refl (omega (arith, c .before .before .before .if2 .left)) (sym (c .before .if3 .left) ∙ c .before .before .too-deep .ensures) (c .if4 .taken)
 
 returns-5 : tie.Need-returns-5
-returns-5 c = let r = read (c .before .before .before .before .before) in check-20-names _ _ _ (r .0) (r .1) _ refl (c .before .before .before .before .if2 .left) (sym (c .before .before .if3 .left) ∙ c .before .before .before .too-deep .ensures) (c .if5 .taken)
+returns-5 c = let r = read (c .before .before .before .before .before) in check-20-names _ _ _ (r .0) (r .1) _ refl (omega (arith, c .before .before .before .before .if2 .left)) (sym (c .before .before .if3 .left) ∙ c .before .before .before .too-deep .ensures) (c .if5 .taken)
 
 over-size-requires : tie.Need-over-size-requires
 over-size-requires c κs = let r = read (c .before .before .before .before .before) in agrees-all _ _ (c .before .before .before .before .before .before .before .before .before .before .args .shape .now) (r .0) (r .1) _ refl
 
 returns-6 : tie.Need-returns-6
-returns-6 c = let r = read (c .before .before .before .before .before .before .before) in check-21 _ _ _ (r .0) (r .1) _ refl (c .before .before .before .before .before .before .if2 .left) (sym (c .before .before .before .before .if3 .left) ∙ c .before .before .before .before .before .too-deep .ensures) (c .before .before .before .if4 .left) (c .before .before .if5 .left) (sym (c .if6 .taken) ∙ c .before .over-size .ensures)
+returns-6 c = let r = read (c .before .before .before .before .before .before .before) in check-21 _ _ _ (r .0) (r .1) _ refl (omega (arith, c .before .before .before .before .before .before .if2 .left)) (sym (c .before .before .before .before .if3 .left) ∙ c .before .before .before .before .before .too-deep .ensures) (c .before .before .before .if4 .left) (c .before .before .if5 .left) (sym (c .if6 .taken) ∙ c .before .over-size .ensures)
 
 item-size-requires : tie.Need-item-size-requires
 item-size-requires c κs = search needs
 
 returns-7 : tie.Need-returns-7
-returns-7 c = let r = read (c .before .before .before .before .before .before .before .before) in check-within _ _ _ (r .0) (r .1) _ refl (c .before .before .before .before .before .before .before .if2 .left) (sym (c .before .before .before .before .before .if3 .left) ∙ c .before .before .before .before .before .before .too-deep .ensures) (c .before .before .before .before .if4 .left) (c .before .before .before .if5 .left) (sym (c .before .if6 .left) ∙ c .before .before .over-size .ensures) _ (c .item-size .ensures)
+returns-7 c = let r = read (c .before .before .before .before .before .before .before .before) in check-within _ _ _ (r .0) (r .1) _ refl (omega (arith, c .before .before .before .before .before .before .before .if2 .left)) (sym (c .before .before .before .before .before .if3 .left) ∙ c .before .before .before .before .before .before .too-deep .ensures) (c .before .before .before .before .if4 .left) (c .before .before .before .if5 .left) (sym (c .before .if6 .left) ∙ c .before .before .over-size .ensures) _ (c .item-size .ensures)
 
 pub check-dtype-spec : {M : Type 1} → statement M
 check-dtype-spec =

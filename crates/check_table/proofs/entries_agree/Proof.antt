@@ -32,7 +32,7 @@ loop-less : tie.Need-loop-less Inv-loop μ-loop
 loop-less c = search needs
 
 loop-again : tie.Need-loop-again Inv-loop μ-loop
-loop-again c = let a = c .before .before .before .before .before .args in (omega arith, one-more (SoundEntry (a .table .now) (a .n)) (a .n) (c .before .before .before .loop .e) (c .before .before .loop-test .taken) (c .before .before .before .loop .inv .1) (c .before .entry-agrees .ensures .only (not-false _ (c .if1 .left))))
+loop-again c = let a = c .before .before .before .before .before .args in (omega arith, one-more (SoundEntry (a .table .now) (a .n)) (a .n) (c .before .before .before .loop .e) (omega (arith, c .before .before .loop-test .taken)) (c .before .before .before .loop .inv .1) (c .before .entry-agrees .ensures .only (not-false _ (c .if1 .left))))
 
 returns-2 : tie.Need-returns-2 Inv-loop μ-loop
 returns-2 c = record { only = λ q k l. c .before .loop .inv .1 k (omega (arith, c .loop-test .left)) l; all = λ h. refl }

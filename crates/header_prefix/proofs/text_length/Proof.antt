@@ -1,5 +1,6 @@
 -- The length field: missing, over, too long, or a length.
 use Prim.Native.Nat.{_<_, _≤_}
+use native.Mathlib.Omega.{arith}
 use mathlib.Core.Path.{sym, subst, _∙_}
 use lib.ListN.{length}
 use Rattle.header_prefix.specs.Answer.{versionIs}
@@ -48,7 +49,7 @@ returns-3 c =
     let v = versionIs (a .version) in
     let le = subst (λ n. n ≤ length (a .file .now)) (c .before .before .before .before .before .before .before .text-start .ensures) (c .before .before .before .before .before .before .if1 .left) in
     let h = field-number v (a .file .now) _ _ (c .before .before .before .before .before .before .before .text-start .ensures) (c .before .before .before .before .read .ensures) in
-    sym (is-long-4 v (a .file .now) _ le (sym h ∙ c .before .before .n .given .1) (c .if2 .taken))
+    sym (is-long-4 v (a .file .now) _ le (sym h ∙ c .before .before .n .given .1) (omega (arith, c .if2 .taken)))
 
 returns-4 : tie.Need-returns-4
 returns-4 c =
@@ -56,7 +57,7 @@ returns-4 c =
     let v = versionIs (a .version) in
     let le = subst (λ n. n ≤ length (a .file .now)) (c .before .before .before .before .before .before .before .text-start .ensures) (c .before .before .before .before .before .before .if1 .left) in
     let h = field-number v (a .file .now) _ _ (c .before .before .before .before .before .before .before .text-start .ensures) (c .before .before .before .before .read .ensures) in
-    sym (is-length v (a .file .now) _ le (sym h ∙ c .before .before .n .given .1) (c .if2 .left))
+    sym (is-length v (a .file .now) _ le (sym h ∙ c .before .before .n .given .1) (omega (arith, c .if2 .left)))
 
 pub text-length-spec : {M : Type 1} → statement M
 text-length-spec =

@@ -33,7 +33,7 @@ shared-slice-read-if2-2 : tie.Need-shared-slice-read-if2-2 Inv-loop μ-loop
 shared-slice-read-if2-2 c = search needs
 
 returns-2 : tie.Need-returns-2 Inv-loop μ-loop
-returns-2 c = out-at (c .before .before .before .before .before .before .args .shape .now) (c .before .before .before .before .before .before .args .index .now) (c .before .before .before .before .loop .k) (c .before .before .before .before .before .if1 .left) (c .before .before .before .loop-test .taken) (c .if2 .taken)
+returns-2 c = out-at (c .before .before .before .before .before .before .args .shape .now) (c .before .before .before .before .before .before .args .index .now) (c .before .before .before .before .loop .k) (c .before .before .before .before .before .if1 .left) (c .before .before .before .loop-test .taken) (omega (arith, c .if2 .taken))
 
 add-k : tie.Need-add-k Inv-loop μ-loop
 add-k c = search needs
@@ -42,7 +42,7 @@ loop-less : tie.Need-loop-less Inv-loop μ-loop
 loop-less c = search needs
 
 loop-again : tie.Need-loop-again Inv-loop μ-loop
-loop-again c = (omega arith, below-more _ _ (c .before .before .before .before .loop .inv .1) (c .if2 .left))
+loop-again c = (omega arith, below-more _ _ (c .before .before .before .before .loop .inv .1) (omega (arith, c .if2 .left)))
 
 returns-3 : tie.Need-returns-3 Inv-loop μ-loop
 returns-3 c = all-in (c .before .before .before .args .shape .now) (c .before .before .before .args .index .now) (c .before .before .if1 .left) (λ j l. c .before .loop .inv .1 j (omega (arith, c .loop-test .left)))
