@@ -4,10 +4,12 @@
     bench/numpy_times.py FOLDER         lines `numpy WHAT INPUT NUMBER`: the median of nanoseconds for one call; or `numpy WHAT INPUT refuses`
 
 Reading is `read_magic` and `read_array_header_1_0` or `_2_0` of numpy.lib.format, with the limit on a header's length raised; writing is `write_array_header_1_0` or `_2_0`. NumPy has no function for the
-place of an element: `places` takes 1,000 elements by index and field name from an array in memory, without their values being looked at. Time is the thread's own on the processor.
+place of an element: `places` takes 1,000 elements by index and field name from an array in memory, without their values being looked at; `values` takes 1,000 that have a value here (no S, U, V) and calls `item()` of
+each. Time is the thread's own on the processor.
 """
 import functools
 import io
+import itertools
 import operator
 import os
 import statistics
@@ -53,7 +55,7 @@ def read(file):
 
 
 def path_to(dtype, k):
-    """The path of bench/times.c to a plain type, as names and indices."""
+    """The path of bench/times.c to a plain type, as names and indices, and that type."""
     path = []
     while dtype.names or dtype.shape:
         if dtype.shape:
@@ -62,18 +64,31 @@ def path_to(dtype, k):
         else:
             path.append(dtype.names[0 if dtype[0].names else k % len(dtype.names)])
             dtype = dtype[path[-1]]
-    return path
+    return path, dtype
 
 
 def places(file):
     """A function that takes 1,000 elements, those that bench/times.c asks for."""
     shape, _, dtype = read(file)
     array = np.zeros(shape, dtype)
-    asked = [(np.unravel_index(k % array.size, shape), path_to(dtype, k)) for k in range(PLACES)]
+    asked = [(np.unravel_index(k % array.size, shape), path_to(dtype, k)[0]) for k in range(PLACES)]
 
     def take():
         for index, path in asked:
             functools.reduce(operator.getitem, path, array[index])
+    return take
+
+
+def values(file):
+    """A function that takes the values of 1,000 elements, those that bench/times.c asks for."""
+    shape, _, dtype = read(file)
+    array = np.zeros(shape, dtype)
+    numbers = (k for k in itertools.count() if path_to(dtype, k)[1].kind not in 'SUV')
+    asked = [(np.unravel_index(k % array.size, shape), path_to(dtype, k)[0]) for k in itertools.islice(numbers, PLACES)]
+
+    def take():
+        for index, path in asked:
+            functools.reduce(operator.getitem, path, array[index]).item()
     return take
 
 
@@ -92,6 +107,7 @@ def main():
         write = npy.write_array_header_1_0 if len(file) < 60_000 else npy.write_array_header_2_0
         tell('write', name, lambda: write(io.BytesIO(), record))
         tell('places', name, places(file))
+        tell('values', name, values(file))
 
 
 if __name__ == '__main__':

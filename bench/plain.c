@@ -1,4 +1,4 @@
-// A plain reader of NPY headers (plain.h). The text is read once to see that it is UTF-8, and once more for everything else: the literal's faults, which go before
+// A plain reader of NPY headers and of values (plain.h). The text is read once to see that it is UTF-8, and once more for everything else: the literal's faults, which go before
 // all that is judged of the record, and the record itself, which is kept here until the last refusal is ruled out and is then written to the lent rooms. A name stays in
 // the text until then. No heap; some 30 KiB of stack.
 #include "plain.h"
@@ -663,4 +663,75 @@ uint8_t plain_read_held(const uint8_t *file, size_t file_len, bool longer, uint6
 uint8_t plain_read(const uint8_t *file, size_t file_len, uint64_t *table, size_t table_len, uint8_t *names, size_t names_len, uint64_t *shape, size_t shape_len, uint64_t said[6])
 {
     return plain_read_held(file, file_len, false, table, table_len, names, names_len, shape, shape_len, said);
+}
+
+// ---- values
+
+uint32_t plain_half(uint16_t half)
+{
+    uint32_t sign = (uint32_t)(half & 0x8000) << 16, exponent = half >> 10 & 31, fraction = half & 1023, shift;
+    if (exponent == 31)
+        return sign | 0x7F800000 | fraction << 13;
+    if (exponent > 0)
+        return sign | (exponent + 112) << 23 | fraction << 13;
+    if (fraction == 0)
+        return sign;
+    // the leading one goes to the place that it has in a normal number
+    shift = (uint32_t)__builtin_clz(fraction) - 21;
+    return sign | (113 - shift) << 23 | (fraction << shift & 1023) << 13;
+}
+
+static inline uint64_t number(const uint8_t *run, size_t length, uint64_t order)
+{
+    uint64_t n = 0;
+    for (size_t i = 0; i < length; i++)
+        n = n << 8 | run[order == '>' ? i : length - 1 - i];
+    return n;
+}
+
+// Whether a type string gives these numbers.
+static bool is_type(uint64_t order, uint64_t letter, uint64_t size, uint64_t units)
+{
+    bool time = letter == 'm' || letter == 'M';
+    if ((order != '<' && order != '>' && order != '|') || (time ? units < 1 || units > 13 : units != 0))
+        return false;
+    switch (letter) {
+    case 'O': return size == 0;
+    case 'S': case 'V': return true;
+    case 'U': return order != '|';
+    case 'b': case 'i': case 'u': case 'f': case 'c': case 'm': case 'M': return (order != '|' || size == 1) && allowed((uint8_t)letter, size);
+    default: return false;
+    }
+}
+
+static inline uint8_t give(uint64_t said[4], uint64_t kind, uint64_t first, uint64_t second, uint64_t units)
+{
+    said[0] = kind;
+    said[1] = first;
+    said[2] = second;
+    said[3] = units;
+    return 0;
+}
+
+uint8_t plain_value(const uint8_t *run, size_t run_len, uint64_t order, uint64_t letter, uint64_t size, uint64_t units, uint64_t said[4])
+{
+    uint64_t n, half = size / 2;
+    if (!is_type(order, letter, size, units))
+        return 27;
+    if (letter == 'S' || letter == 'U' || letter == 'V' || letter == 'O' || (letter == 'f' && size == 16) || (letter == 'c' && size == 32))
+        return 31;
+    if (run_len != size)
+        return 27;
+    if (letter == 'c')
+        return give(said, size == 8 ? 5 : 6, number(run, half, order), number(run + half, half, order), 0);
+    n = number(run, size, order);
+    switch (letter) {
+    case 'b': return n > 1 ? 32 : give(said, 0, n, 0, 0);
+    case 'u': return give(said, 2, n, 0, 0);
+    case 'f': return size == 8 ? give(said, 4, n, 0, 0) : give(said, 3, size == 2 ? plain_half((uint16_t)n) : n, 0, 0);
+    default: break;
+    }
+    // two's complement
+    n = (uint64_t)((int64_t)(n << (64 - 8 * size)) >> (64 - 8 * size));
+    return letter == 'i' ? give(said, 1, n, 0, 0) : give(said, 7, n, 0, units);
 }

@@ -64,7 +64,9 @@ def goals(found, names):
         yield f'{name}: within {WITHIN_C} times of the C reader', f'{ratio:.2f}', ratio <= WITHIN_C
     for name, ratio in found['doubled']['read'].items():
         yield f'{name.removesuffix("128")}: doubling the text takes at most {MOST_DOUBLED} times the time', f'{ratio:.2f}', ratio <= MOST_DOUBLED
-    for what in ('read', 'write', 'places'):
+    for name, ratio in found['ratio']['half'].items():
+        yield f'half floats, {name}, converted: within {WITHIN_C} times of plain C', f'{ratio:.2f}', ratio <= WITHIN_C
+    for what in ('read', 'write', 'places', 'values'):
         most = max(found['stack'][what].values())
         yield f'stack of {what}: under {MOST_STACK:,} bytes', f'{most:,.0f}', most < MOST_STACK
     asked = found['asks']['symbol']
@@ -127,12 +129,26 @@ Each call checks the whole record that it is given before it answers. NumPy has 
 '''
     yield table(('Input', 'Ours', 'NumPy', 'NumPy / ours'), [(name, time_text(mine), time_text(numpy['places'].get(name)), times(numpy['places'].get(name), mine)) for name, mine in ours['places'].items()])
     yield '''
+## 1,000 values
+
+The first 1,000 of these places, round and round, that have a value (no S, U, V), in a file whose data is zeros. NumPy takes the element as above and calls its `item()`.
+'''
+    yield table(('Input', 'Ours', 'NumPy', 'NumPy / ours'), [(name, time_text(mine), time_text(numpy['values'].get(name)), times(numpy['values'].get(name), mine)) for name, mine in ours['values'].items()])
+    yield '''
+## A half float
+
+`npy_read_value` of a run of two bytes, and the conversion `value_float::from_half` alone; with `plain_value` and `plain_half` of `bench/plain.c`. The half floats come in no order: any, normal ones of exponents 14 and 15, and subnormal ones.
+All 65,536 had the same bits, in both byte orders, and types of every letter and size the same value or refusal.
+'''
+    yield table(('Half floats', 'Conversion', 'plain C', 'ours / C', 'Value', 'plain C', 'ours / C'),
+                [(name, *(cell for what in ('half', 'half-value') for cell in (time_text(ours[what][name]), time_text(found['plain'][what][name]), f'{found["ratio"][what][name]:.2f}'))) for name in ours['half']])
+    yield '''
 ## Memory
 
 Beside the rooms that a caller lends, the stack: a thread's stack is painted before a call, and what has lost its paint was used.
 '''
     stack = found['stack']
-    yield table(('Input', 'Reading', 'Writing', 'Places', 'C reader'), [(name, *(f'{stack[what][name]:,.0f}' if name in stack[what] else '–' for what in ('read', 'write', 'places', 'plain'))) for name in names])
+    yield table(('Input', 'Reading', 'Writing', 'Places', 'Values', 'C reader'), [(name, *(f'{stack[what][name]:,.0f}' if name in stack[what] else '–' for what in ('read', 'write', 'places', 'values', 'plain'))) for name in names])
     yield f"\nOutside functions that the library calls: {', '.join(f'`{one}`' for one in sorted(found['asks']['symbol'])) or 'none'}.\n"
     yield f"\n## The gate's time for each crate\n\n{KEPT[0]}\n{kept}\n{KEPT[1]}\n"
 

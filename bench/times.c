@@ -1,9 +1,10 @@
-// Times the proved library against the plain C reader, in one process and in turns, and measures the library's stack.
+// Times the proved library against the plain C reader, in one process and in turns, and measures the library's stack. Half floats are timed by themselves.
 //
 //     times FOLDER         the files of bench/inputs.py, named in FOLDER/names.txt
 //
 // Writes lines `WHO WHAT INPUT NUMBER`: the median of nanoseconds for one call (`ours`, `plain`), the median of the pairs' ratios (`ratio`), that of an input of 128 KiB to the one of
-// 64 KiB, which is before it (`doubled`), bytes of stack (`stack`), or what was found (`bytes`, `entries`, `refused`). Time is the thread's own on the processor. The two readers must give the same answer and the same rooms, or the exit status is 1.
+// 64 KiB, which is before it (`doubled`), bytes of stack (`stack`), or what was found (`bytes`, `entries`, `refused`). Of half floats a call is one of them. Time is the thread's own on the processor. The two readers
+// must give the same answer and the same rooms, and the same values, or the exit status is 1.
 #define _GNU_SOURCE
 #include "../include/npy.h"
 #include "plain.h"
@@ -16,7 +17,10 @@
 #include <sys/mman.h>
 #include <time.h>
 
-enum { PAIRS = 41, SAMPLE_NS = 2000000, MOST_FILE = 200000, MOST_NUMBERS = 9 * 512, MOST_NAMES = 65536, MOST_RANK = 32, PLACES = 1000, STACK = 262144, PAINT = 0xA5 };
+enum { PAIRS = 41, SAMPLE_NS = 2000000, MOST_FILE = 200000, MOST_NUMBERS = 9 * 512, MOST_NAMES = 65536, MOST_RANK = 32, PLACES = 1000, MOST_DATA = 1 << 28, HALVES = 65536, STACK = 262144, PAINT = 0xA5 };
+
+// The proved conversion of a half float, value_float::from_half, by itself (bench/run).
+uint32_t half_bits(uint16_t half);
 
 // A file, and the record that was read of it.
 struct input {
@@ -38,6 +42,11 @@ typedef void call(struct input *in);
 static struct question asked[PLACES];
 static uint64_t table[MOST_NUMBERS], shape[MOST_RANK], said[6], written, run[6];
 static uint8_t names[MOST_NAMES], out[MOST_FILE];
+// the file of an input, with zeros for its data
+static uint8_t *data;
+static size_t data_length;
+static uint16_t halves[HALVES];
+static uint8_t runs[HALVES][2];
 static unsigned sink;
 
 static void read_ours(struct input *in)
@@ -83,6 +92,47 @@ static void places_ours(struct input *in)
 {
     for (size_t k = 0; k < PLACES; k++)
         sink += place_ours(in, &asked[k]);
+}
+
+static uint8_t value_ours(struct input *in, const struct question *q)
+{
+    return npy_element_value(data, data_length, in->said[5], in->table, 9 * in->said[3], in->names, in->said[4], in->shape, in->said[2], (uint8_t)in->said[1], q->index, in->said[2], q->path, q->length, run);
+}
+
+static void values_ours(struct input *in)
+{
+    for (size_t k = 0; k < PLACES; k++)
+        sink += value_ours(in, &asked[k]);
+}
+
+// Half floats, converted and read as values.
+
+static void halves_ours(struct input *in)
+{
+    (void)in;
+    for (size_t i = 0; i < HALVES; i++)
+        sink += half_bits(halves[i]);
+}
+
+static void halves_plain(struct input *in)
+{
+    (void)in;
+    for (size_t i = 0; i < HALVES; i++)
+        sink += plain_half(halves[i]);
+}
+
+static void half_values_ours(struct input *in)
+{
+    (void)in;
+    for (size_t i = 0; i < HALVES; i++)
+        sink += npy_read_value(runs[i], 2, '<', 'f', 2, 0, run) + (unsigned)run[1];
+}
+
+static void half_values_plain(struct input *in)
+{
+    (void)in;
+    for (size_t i = 0; i < HALVES; i++)
+        sink += plain_value(runs[i], 2, '<', 'f', 2, 0, run) + (unsigned)run[1];
 }
 
 static double now(void)
@@ -131,19 +181,20 @@ static void time_alone(const char *what, call *one, struct input *in)
     printf("ours %s %s %.1f\n", what, in->name, median(found));
 }
 
-static void time_pair(struct input *in)
+// Two calls in turns, each of which does so many of what is timed.
+static void time_pair(const char *what, call *one, call *other, struct input *in, int many)
 {
     double ours[PAIRS], plain[PAIRS], ratio[PAIRS];
-    long of_ours = calls(read_ours, in), of_plain = calls(read_plain, in);
+    long of_ours = calls(one, in), of_plain = calls(other, in);
     for (int i = 0; i < PAIRS; i++) {
         if (i % 2)
-            plain[i] = sample(read_plain, in, of_plain);
-        ours[i] = sample(read_ours, in, of_ours);
+            plain[i] = sample(other, in, of_plain);
+        ours[i] = sample(one, in, of_ours);
         if (i % 2 == 0)
-            plain[i] = sample(read_plain, in, of_plain);
+            plain[i] = sample(other, in, of_plain);
         ratio[i] = ours[i] / plain[i];
     }
-    printf("ours read %s %.1f\nplain read %s %.1f\nratio read %s %.3f\n", in->name, median(ours), in->name, median(plain), in->name, median(ratio));
+    printf("ours %s %s %.*f\nplain %s %s %.*f\nratio %s %s %.3f\n", what, in->name, many > 1 ? 3 : 1, median(ours) / many, what, in->name, many > 1 ? 3 : 1, median(plain) / many, what, in->name, median(ratio));
 }
 
 // An input and the one that has twice its text, in turns.
@@ -227,11 +278,32 @@ static void stack_of(const char *what, call *one, struct input *in)
     printf("stack %s %s %zu\n", what, in->name, with > alone ? with - alone : 0);
 }
 
+// The values of 1,000 elements: of the questions for places the first that have one, round and round.
+static void measure_values(struct input *in)
+{
+    uint64_t check[NPY_CHECK_SAID];
+    size_t found = 0;
+    if (npy_check(in->table, 9 * in->said[3], in->names, in->said[4], in->shape, in->said[2], in->said[1], check) || check[NPY_CHECK_ITEM] == 0 || check[NPY_CHECK_COUNT] > MOST_DATA / check[NPY_CHECK_ITEM])
+        fail("no room for its data", in->name);
+    data_length = in->said[5] + check[NPY_CHECK_COUNT] * check[NPY_CHECK_ITEM];
+    if (!(data = calloc(data_length, 1)))
+        fail("no memory", in->name);
+    for (uint64_t k = 0; found < PLACES; k++) {
+        question(in, k, &asked[found]);
+        found += value_ours(in, &asked[found]) == 0;
+        if (k > 100 * PLACES)
+            fail("no values", in->name);
+    }
+    time_alone("values", values_ours, in);
+    stack_of("values", values_ours, in);
+    free(data);
+}
+
 // All that is asked of one input.
 static void measure(struct input *in)
 {
     read_both(in);
-    time_pair(in);
+    time_pair("read", read_ours, read_plain, in, 1);
     stack_of("read", read_ours, in);
     stack_of("plain", read_plain, in);
     if (in->refusal)
@@ -253,6 +325,56 @@ static void measure(struct input *in)
     }
     time_alone("places", places_ours, in);
     stack_of("places", places_ours, in);
+    measure_values(in);
+}
+
+// Whether the two give the same value or refusal, and leave what is not theirs.
+static bool alike(const uint8_t *bytes, size_t length, uint64_t order, uint64_t letter, uint64_t size, uint64_t units)
+{
+    uint64_t one[4] = { 9, 9, 9, 9 }, other[4] = { 9, 9, 9, 9 };
+    uint8_t ours = npy_read_value(bytes, length, order, letter, size, units, one), plain = plain_value(bytes, length, order, letter, size, units, other);
+    return ours == plain && memcmp(one, other, sizeof one) == 0;
+}
+
+// All half floats in both byte orders, and types of all letters and sizes, some of them none, with three runs of each of three lengths.
+static void compare_values(void)
+{
+    static const uint64_t sizes[] = { 0, 1, 2, 3, 4, 8, 16, 32, 64, UINT64_MAX };
+    static const char orders[] = "<>|=", letters[] = "biufcmMSUVOa";
+    uint8_t bytes[65];
+    uint32_t next = 1;
+    for (uint32_t i = 0; i < HALVES; i++) {
+        uint8_t little[2] = { (uint8_t)i, (uint8_t)(i >> 8) };
+        if (half_bits((uint16_t)i) != plain_half((uint16_t)i) || !alike(little, 2, '<', 'f', 2, 0) || !alike(little, 2, '>', 'f', 2, 0))
+            fail("differ", "half floats");
+    }
+    for (size_t s = 0; s < sizeof sizes / sizeof *sizes; s++)
+        for (const char *order = orders; *order; order++)
+            for (const char *letter = letters; *letter; letter++)
+                for (uint64_t units = 0; units < 15; units++)
+                    for (int turn = 0; turn < 9; turn++) {
+                        size_t length = sizes[s] < 65 ? sizes[s] : 1;
+                        for (size_t i = 0; i < sizeof bytes; i++)
+                            bytes[i] = turn % 3 == 0 ? (uint8_t)(turn / 3) : (uint8_t)((next = 1664525 * next + 1013904223) >> 24);
+                        if (!alike(bytes, turn < 3 ? length : turn < 6 ? length + 1 : length / 2, (uint64_t)*order, (uint64_t)*letter, sizes[s], units))
+                            fail("differ", "values");
+                    }
+}
+
+// Half floats of one sort, in an order that a processor cannot guess.
+static void measure_halves(const char *name, uint16_t kept, uint16_t set)
+{
+    static struct input sort;
+    uint32_t next = 1;
+    snprintf(sort.name, sizeof sort.name, "%s", name);
+    for (size_t i = 0; i < HALVES; i++) {
+        next = 1664525 * next + 1013904223;
+        halves[i] = (uint16_t)(((next >> 16) & kept) | set);
+        runs[i][0] = (uint8_t)halves[i];
+        runs[i][1] = (uint8_t)(halves[i] >> 8);
+    }
+    time_pair("half", halves_ours, halves_plain, &sort, HALVES);
+    time_pair("half-value", half_values_ours, half_values_plain, &sort, HALVES);
 }
 
 int main(int argc, char **argv)
@@ -279,5 +401,9 @@ int main(int argc, char **argv)
             time_doubled(before, in);
     }
     fclose(list);
+    compare_values();
+    measure_halves("any", 0xFFFF, 0);
+    measure_halves("normal", 0x87FF, 0x3800);
+    measure_halves("subnormal", 0x83FF, 0);
     return 0;
 }

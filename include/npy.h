@@ -1,8 +1,8 @@
-/* Headers, type strings, places and string elements of NPY files, from C.
+/* Headers, type strings, places, string elements and values of NPY files, from C.
  *
  * Every function takes any bytes, numbers and rooms and has a proved, complete contract (crates/npy). It returns
  *     NPY_OK, 0                       and has written its values, or
- *     a refusal's number, 1 to 30,    and has left all that it was lent as it was.
+ *     a refusal's number, 1 to 32,    and has left all that it was lent as it was.
  * docs/RULES.md says when each refusal is given, and which one where several apply.
  *
  * A room is a pointer and a count of its elements; room beyond what was needed is left as it was. No function allocates, keeps a pointer, or
@@ -60,10 +60,12 @@ enum npy_refusal {
     NPY_HAS_OBJECT = 24,      /* a place is asked for, and the type contains an object (O) */
     NPY_SHORT_FILE = 25,      /* the file ends before its data does */
     NPY_NOWHERE = 26,         /* index or path names no element, or none of the kind asked for */
-    NPY_NO_READING = 27,      /* the caller's record, type or order is none that a header could give */
+    NPY_NO_READING = 27,      /* the caller's record, type or order is none that a header could give; or a run whose value is asked is not as long as its type */
     NPY_OUTPUT_ROOM = 28,     /* the room for the output is too small */
     NPY_SCALAR = 29,          /* a U element, or a value to be written to one, has a number that is no Unicode scalar value */
-    NPY_MISFIT = 30           /* the value does not fit the element's size */
+    NPY_MISFIT = 30,          /* the value does not fit the element's size */
+    NPY_NO_VALUE = 31,        /* the element has a type without values: S, U, V, a float of 16 bytes, a complex of 32; by itself also O */
+    NPY_BOOL_BYTE = 32        /* the byte of a bool is above 1 */
 };
 
 enum npy_order { NPY_ORDER_C = 0, NPY_ORDER_FORTRAN = 1 };
@@ -115,6 +117,26 @@ enum npy_run {
     NPY_RUN_SIZE = 4,
     NPY_RUN_UNITS = 5,
     NPY_RUN = 6               /* how many there are */
+};
+
+/* The values of npy_element_value and npy_read_value: `said`. A number that a kind does not use is 0. */
+enum npy_value_said {
+    NPY_VALUE_KIND = 0,       /* enum npy_value_kind */
+    NPY_VALUE_FIRST = 1,      /* the value, as enum npy_value_kind says; of a pair the real part */
+    NPY_VALUE_SECOND = 2,     /* of a pair the imaginary part */
+    NPY_VALUE_UNITS = 3,      /* of a time its units, 1 to 13 */
+    NPY_VALUE_SAID = 4        /* how many there are */
+};
+enum npy_value_kind {
+    NPY_VALUE_BOOL = 0,       /* 0 or 1 */
+    NPY_VALUE_SIGNED = 1,     /* two's complement in 64 bits: (int64_t)said[NPY_VALUE_FIRST] */
+    NPY_VALUE_UNSIGNED = 2,
+    NPY_VALUE_SINGLE = 3,     /* the 32 bits of a float; of a half float ('f2') those of the float of the same number, an infinity stays
+                               * one, and a NaN has its sign and its ten bits at the top of the fraction */
+    NPY_VALUE_DOUBLE = 4,     /* the 64 bits of a double */
+    NPY_VALUE_SINGLE_PAIR = 5, /* the 32 bits of each part of a complex */
+    NPY_VALUE_DOUBLE_PAIR = 6, /* the 64 bits of each part */
+    NPY_VALUE_TIME = 7        /* a count of units, as NPY_VALUE_SIGNED; NumPy's NaT is the smallest, -2^63 */
 };
 
 #ifdef __cplusplus
@@ -180,16 +202,25 @@ uint8_t npy_element_points(const uint8_t *file, size_t file_len, uint64_t start,
                            size_t names_len, const uint64_t *shape, size_t shape_len, uint64_t order, const uint64_t *index, size_t index_len,
                            const uint64_t *path, size_t path_len, uint32_t *out, size_t out_len, uint64_t count[1]);
 
-/* ---- string elements by themselves: 27 for no type, 26 for another type. */
+/* The value of the element at a place: then 31, 32. Either byte order. The bits of a float are those stored, a NaN's sign and payload too; an 'f2' has the bits
+ * of the float that it becomes (NPY_VALUE_SINGLE). said: enum npy_value_said. */
+uint8_t npy_element_value(const uint8_t *file, size_t file_len, uint64_t start, const uint64_t *table, size_t table_len, const uint8_t *names,
+                          size_t names_len, const uint64_t *shape, size_t shape_len, uint64_t order, const uint64_t *index, size_t index_len,
+                          const uint64_t *path, size_t path_len, uint64_t said[NPY_VALUE_SAID]);
 
-/* Reading a run of bytes: then 29 (U), 23. The run is all that is read: size is not compared with run_len. count: how many bytes (S, V) or code points (U)
+/* ---- string elements and values by themselves: 27 for no type, and of a string element 26 for another type. */
+
+/* Reading a string element from a run of bytes: then 29 (U), 23. The run is all that is read: size is not compared with run_len. count: how many bytes (S, V) or code points (U)
  * were written. run_len bytes, or run_len / 4 code points, are always enough. */
 uint8_t npy_read_bytes(const uint8_t *run, size_t run_len, uint64_t order, uint64_t letter, uint64_t size, uint64_t units,
                        uint8_t *out, size_t out_len, uint64_t count[1]);
 uint8_t npy_read_points(const uint8_t *run, size_t run_len, uint64_t order, uint64_t letter, uint64_t size, uint64_t units,
                         uint32_t *out, size_t out_len, uint64_t count[1]);
 
-/* Writing one: then 29 (U), 30, 28. count: how many bytes: size for S and V, 4 * size for U. */
+/* The value in a run of bytes: then 31, 27 where run_len is not the size, 32. said: enum npy_value_said. */
+uint8_t npy_read_value(const uint8_t *run, size_t run_len, uint64_t order, uint64_t letter, uint64_t size, uint64_t units, uint64_t said[NPY_VALUE_SAID]);
+
+/* Writing a string element: then 29 (U), 30, 28. count: how many bytes: size for S and V, 4 * size for U. */
 uint8_t npy_write_bytes(uint64_t order, uint64_t letter, uint64_t size, uint64_t units, const uint8_t *value, size_t value_len,
                         uint8_t *out, size_t out_len, uint64_t count[1]);
 uint8_t npy_write_points(uint64_t order, uint64_t letter, uint64_t size, uint64_t units, const uint32_t *value, size_t value_len,

@@ -164,6 +164,69 @@ static void elements(void) {
     IS(untouched() && count[0] == 7);
 }
 
+/* The value in a run of bytes, by its type string: the refusal, and `said` as it is to be. */
+static uint8_t value_in(const char *text, const char *run, size_t n, uint64_t said[NPY_VALUE_SAID]) {
+    uint64_t type[4] = {0};
+    IS(npy_type_read((const uint8_t *)text, strlen(text), type) == 0);
+    return npy_read_value((const uint8_t *)run, n, type[0], type[1], type[2], type[3], said);
+}
+
+static int is_value(const char *text, const char *run, size_t n, uint64_t kind, uint64_t first, uint64_t second, uint64_t units) {
+    uint64_t said[NPY_VALUE_SAID] = {9, 9, 9, 9};
+    const uint64_t want[NPY_VALUE_SAID] = {kind, first, second, units};
+    return value_in(text, run, n, said) == 0 && memcmp(said, want, sizeof want) == 0;
+}
+
+/* Whether a run is refused by that number, and `said` is left as it was. */
+static int is_refused(const char *text, const char *run, size_t n, uint8_t refusal) {
+    uint64_t said[NPY_VALUE_SAID] = {9, 9, 9, 9};
+    const uint64_t before[NPY_VALUE_SAID] = {9, 9, 9, 9};
+    return value_in(text, run, n, said) == refusal && memcmp(said, before, sizeof before) == 0;
+}
+
+static void values(void) {
+    IS(is_value("|b1", "\0", 1, NPY_VALUE_BOOL, 0, 0, 0) && is_value("<b1", "\1", 1, NPY_VALUE_BOOL, 1, 0, 0));
+    IS(is_value("|i1", "\xff", 1, NPY_VALUE_SIGNED, UINT64_MAX, 0, 0) && is_value("|u1", "\xff", 1, NPY_VALUE_UNSIGNED, 255, 0, 0));
+    IS(is_value("<i2", "\0\x80", 2, NPY_VALUE_SIGNED, UINT64_MAX - 32767, 0, 0) && is_value(">i2", "\0\x80", 2, NPY_VALUE_SIGNED, 128, 0, 0));
+    IS(is_value("<u8", "\1\2\3\4\5\6\7\x80", 8, NPY_VALUE_UNSIGNED, 0x8007060504030201, 0, 0) && is_value(">i8", "\x80\0\0\0\0\0\0\0", 8, NPY_VALUE_SIGNED, 1ull << 63, 0, 0));
+    IS(is_value("<f2", "\0\x3c", 2, NPY_VALUE_SINGLE, 0x3F800000, 0, 0) && is_value("<f4", "\0\0\x80\x3f", 4, NPY_VALUE_SINGLE, 0x3F800000, 0, 0));
+    IS(is_value(">f2", "\x7c\1", 2, NPY_VALUE_SINGLE, 0x7F802000, 0, 0) && is_value(">f2", "\0\1", 2, NPY_VALUE_SINGLE, 0x33800000, 0, 0) && is_value("<f2", "\0\x80", 2, NPY_VALUE_SINGLE, 0x80000000, 0, 0));
+    IS(is_value(">f4", "\xff\x80\0\1", 4, NPY_VALUE_SINGLE, 0xFF800001, 0, 0) && is_value(">f8", "\x7f\xf0\0\0\0\0\0\1", 8, NPY_VALUE_DOUBLE, 0x7FF0000000000001, 0, 0));
+    IS(is_value(">c8", "\0\1\2\3\4\5\6\7", 8, NPY_VALUE_SINGLE_PAIR, 0x00010203, 0x04050607, 0) && is_value("<c8", "\0\1\2\3\4\5\6\7", 8, NPY_VALUE_SINGLE_PAIR, 0x03020100, 0x07060504, 0));
+    IS(is_value(">c16", "\0\1\2\3\4\5\6\7\x8\x9\xa\xb\xc\xd\xe\xf", 16, NPY_VALUE_DOUBLE_PAIR, 0x0001020304050607, 0x08090A0B0C0D0E0F, 0));
+    IS(is_value("<M8[us]", "\xff\xff\xff\xff\xff\xff\xff\xff", 8, NPY_VALUE_TIME, UINT64_MAX, 0, 9) && is_value(">m8[as]", "\0\0\0\0\0\0\0\7", 8, NPY_VALUE_TIME, 7, 0, 13));
+    IS(is_refused("|b1", "\2", 1, NPY_BOOL_BYTE) && is_refused(">b1", "\xff", 1, NPY_BOOL_BYTE) && is_refused("|b1", "\2\2", 2, NPY_NO_READING) && is_refused("<i4", "abc", 3, NPY_NO_READING));
+    IS(is_refused("|S1", "a", 1, NPY_NO_VALUE) && is_refused("<U1", "a\0\0", 4, NPY_NO_VALUE) && is_refused("|V1", "a", 1, NPY_NO_VALUE) && is_refused("|O", "", 0, NPY_NO_VALUE));
+    IS(is_refused("<f16", "", 0, NPY_NO_VALUE) && is_refused(">c32", "", 0, NPY_NO_VALUE));
+    uint64_t said[NPY_VALUE_SAID] = {9, 9, 9, 9};
+    const uint64_t before[NPY_VALUE_SAID] = {9, 9, 9, 9};
+    IS(npy_read_value((const uint8_t *)"abcd", 4, '|', 'i', 4, 0, said) == NPY_NO_READING && npy_read_value((const uint8_t *)"abcd", 4, '<', 'i', 4, 1, said) == NPY_NO_READING);
+    IS(memcmp(said, before, sizeof before) == 0);
+}
+
+/* Two items of `a` |b1, `b` >i2 twice and `c` |S1, the second with a bool of 2, after 3 bytes. */
+static void values_at_places(void) {
+    const char text[] = "{'descr': [('a', '|b1'), ('b', '>i2', (2,)), ('c', '|S1')], 'fortran_order': False, 'shape': (2, )}", data[] = "xyz\1\0\1\xff\xfez\2\0\3\0\4y";
+    const uint8_t *file = (const uint8_t *)data;
+    const size_t length = sizeof data - 1;
+    uint64_t index[2] = {0, 0}, path[2] = {0, 1}, *said = now.said;
+    mark();
+    IS(npy_read_text((const uint8_t *)text, sizeof text - 1, now.table, 5 * NPY_ENTRY, now.names, 3, now.shape, 1, said) == 0 && said[NPY_TEXT_ENTRIES] == 5 && length == 15);
+#define MIXED now.table, 5 * NPY_ENTRY, now.names, 3, now.shape, 1
+    IS(npy_element_value(file, length, 3, MIXED, 0, index, 1, path, 1, said) == 0 && said[NPY_VALUE_KIND] == NPY_VALUE_BOOL && said[NPY_VALUE_FIRST] == 1 && said[NPY_VALUE_SECOND] == 0 && said[NPY_VALUE_UNITS] == 0);
+    path[0] = 1;
+    IS(npy_element_value(file, length, 3, MIXED, 0, index, 1, path, 2, said) == 0 && said[NPY_VALUE_KIND] == NPY_VALUE_SIGNED && said[NPY_VALUE_FIRST] == UINT64_MAX - 1 && said[NPY_VALUE_SECOND] == 0);
+    memset(said, 9, sizeof now.said);
+    marks = now;
+    IS(npy_element_value(file, length, 3, MIXED, 2, index, 1, path, 2, said) == NPY_NO_READING && npy_element_value(file, length, 3, now.table, 5 * NPY_ENTRY - 1, now.names, 3, now.shape, 1, 0, index, 1, path, 2, said) == NPY_NO_READING);
+    IS(npy_element_value(file, length - 1, 3, MIXED, 0, index, 1, path, 2, said) == NPY_SHORT_FILE && npy_element_value(file, length, 3, MIXED, 0, index, 2, path, 2, said) == NPY_NOWHERE);
+    path[0] = 2, index[0] = 1;
+    IS(npy_element_value(file, length, 3, MIXED, 0, index, 1, path, 1, said) == NPY_NO_VALUE && npy_element_value(file, length, 3, MIXED, 0, index, 1, path, 2, said) == NPY_NOWHERE);
+    path[0] = 0;
+    IS(npy_element_value(file, length, 3, MIXED, 0, index, 1, path, 1, said) == NPY_BOOL_BYTE && npy_element_value(file, length, 3, MIXED, 0, index, 1, path, 2, said) == NPY_NOWHERE);
+    IS(npy_element_value(file, length - 1, 3, MIXED, 0, index, 1, path, 1, said) == NPY_SHORT_FILE && untouched());
+}
+
 static uint8_t type_read(const char *text, uint64_t type[4]) { return npy_type_read((const uint8_t *)text, strlen(text), type); }
 
 static void types(void) {
@@ -184,6 +247,8 @@ int main(void) {
     shapes();
     places();
     elements();
+    values();
+    values_at_places();
     types();
     printf("%d asked, %d wrong\n", asked, wrong);
     return wrong != 0;

@@ -136,13 +136,15 @@ static void replay(uint8_t operation)
     case 14: tell(npy_write_points(a, b, c, d, points, count, out, room, values), 1); break;
     case 15: tell(npy_type_print(a, b, c, d, out, room, values), 1); break;
     case 16: tell(npy_write_header(RECORD, a, out, room, values), 1); break;
-    default: tell(npy_list(c, b, RECORD, a, out, room, values), 1); break;
+    case 17: tell(npy_list(c, b, RECORD, a, out, room, values), 1); break;
+    case 18: tell(npy_element_value(BYTES, b, RECORD, a, PLACE, values), NPY_VALUE_SAID); break;
+    default: tell(npy_read_value(BYTES, a, b, c, d, values), NPY_VALUE_SAID); break;
     }
     if (operation < 3) {
         show(table_out, MOST_TABLE);
         show_bytes(NPY_MOST_NAMES);
         show(shape_out, MOST_SHAPE);
-    } else if (operation > 5) {
+    } else if (operation > 5 && operation < 18) {
         show(table_out, MOST_FEW);
         show_bytes(MOST_BYTES);
         show_points();

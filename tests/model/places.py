@@ -56,10 +56,10 @@ def item_number(shape, fortran, index):
     return 'item %d' % sum(i * stride for i, stride in zip(index, strides))
 
 
-def element(record, file, index, path, read, room):
-    """"A string element is read after its place: 29, 23." `read` is elements.read_bytes or elements.read_points."""
+def element(record, file, index, path, read, *room):
+    """"A string element is read after its place: 29, 23." And of a value 31, 32: "both after 26, 31 first". `read` is elements.read_bytes or elements.read_points with a room, or elements.read_value."""
     found = place(record, len(file), index, path)
     if isinstance(found, int):
         return found
     start, length, text = found
-    return read(rule.type_string(text.encode()), file[start:start + length], room)
+    return read(rule.type_string(text.encode()), file[start:start + length], *room)

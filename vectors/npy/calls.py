@@ -1,4 +1,4 @@
-"""The cases of run_npy (docs/FRAMES.md), one for each call of a function of include/npy.h, and document 01's answers by the models of tests/model."""
+"""The cases of run_npy (docs/FRAMES.md), one for each call of a function of include/npy.h, and the answers of documents 01 and 02 by the models of tests/model."""
 import collections
 import os
 import struct
@@ -15,7 +15,9 @@ import rule
 import writer
 
 OPERATIONS = ('read read_held read_text type_read check place count item_number strides element_bytes element_points read_bytes read_points write_bytes write_points type_print '
-              'write_header list').split()
+              'write_header list element_value read_value').split()
+# Those that lend no room but that of their values.
+VALUES_ALONE = 'type_read check place element_value read_value'.split()
 # What the program lends at most: bytes; numbers, or code points; and of a record the table's numbers, name bytes, dimensions.
 MOST_BYTES, MOST_NUMBERS, MOST_TABLE, MOST_NAMES, MOST_SHAPE = 131_088, 1_024, 4_608, 65_536, 64
 
@@ -72,7 +74,12 @@ def room_line(number, count=None, members=(), written=b'', points=()):
     return f'{number}{values};{decimal(room_of(members))};{bytes(room_of(written)).hex()};{decimal(room_of(points))}'
 
 
-# ---- document 01's answers
+def value_line(found):
+    """The line of a value, or of its refusal."""
+    return str(found) if isinstance(found, int) else '0' + decimal(found)
+
+
+# ---- the answers of documents 01 and 02
 
 def answer(case):
     operation, given, *parts = parts_of(case)
@@ -80,7 +87,7 @@ def answer(case):
         return ANSWERS[operation](given, *parts)
     except reader.Refused as refusal:
         number = refusal.args[0]
-    if OPERATIONS.index(operation) in (3, 4, 5):
+    if operation in VALUES_ALONE:
         return str(number)
     return f'{number};;;'
 
@@ -200,8 +207,16 @@ def listed(given, file, shape, index, table, names, path):
     return put(text if len(text) <= min(given[4], MOST_BYTES) else 28)
 
 
+def element_value(given, file, shape, index, table, names, path):
+    return value_line(places.element(record_of(given[0], table, names, shape, given[1]), file, index, path, elements.read_value))
+
+
+def read_value(given, run, *_):
+    return value_line(elements.read_value(writer.plain(*given[:4]), run))
+
+
 ANSWERS = dict(zip(OPERATIONS, (read, lambda *case: read(*case, held=True), read_text, type_read, check, place, count, item_number, strides, element_bytes, element_points,
-                                read_bytes, read_points, write_bytes, write_points, type_print, write_header, listed)))
+                                read_bytes, read_points, write_bytes, write_points, type_print, write_header, listed, element_value, read_value)))
 
 
 # ---- the recorded cases, in the order of the operations

@@ -28,10 +28,10 @@ def given(found, shape, fortran, start, file=b''):
 
 # ---- every byte's owner
 
-def small(rng, depth):
+def small(rng, depth, types):
     if depth == 0 or rng.random() < 0.3:
-        return records.plain(rng.choice(PLAIN))
-    field = lambda: records.array([rng.choice((0, 1, 2, 2, 3)) for _ in range(rng.choice((0, 0, 1, 2)))], small(rng, depth - 1))
+        return records.plain(rng.choice(types))
+    field = lambda: records.array([rng.choice((0, 1, 2, 2, 3)) for _ in range(rng.choice((0, 0, 1, 2)))], small(rng, depth - 1, types))
     return records.record(*[(rng.choice((b'', b'a', b'bc')), field()) for _ in range(rng.choice((0, 1, 2, 2, 3)))])
 
 
@@ -70,11 +70,11 @@ def file_of(rng, owners, start):
     return bytes(file)
 
 
-def owned(count=LAID_OUT, seed=6):
-    """Every index and path of so many small records, with the answers of the layout; and after them what is in no place."""
+def owned(count=LAID_OUT, seed=6, types=PLAIN):
+    """Every index and path of so many small records of these types, with the answers of the layout; and after them what is in no place."""
     rng, made = random.Random(seed), 0
     while made < count:
-        found, shape, fortran = small(rng, rng.choice((0, 1, 2, 2, 3))), [rng.choice((0, 1, 2, 2, 3, 4)) for _ in range(rng.choice((0, 1, 1, 2, 2, 3)))], rng.random() < 0.5
+        found, shape, fortran = small(rng, rng.choice((0, 1, 2, 2, 3)), types), [rng.choice((0, 1, 2, 2, 3, 4)) for _ in range(rng.choice((0, 1, 1, 2, 2, 3)))], rng.random() < 0.5
         start = rng.choice((0, 1, 16, 80))
         owners = list(laid_out(found, shape, fortran, start))
         if len(owners) > MOST_LEAVES or not owners and rng.random() < 0.8:

@@ -1,4 +1,4 @@
-"""Records with a file and what is asked of them: the cases of run_npy (docs/FRAMES.md), and document 01's answers by the models of tests/model."""
+"""Records with a file and what is asked of them: the cases of run_npy (docs/FRAMES.md), and the answers of documents 01 and 02 by the models of tests/model."""
 import collections
 import os
 import sys
@@ -9,7 +9,7 @@ import calls
 
 # A record as a caller lends it, with its data start and the bytes of the file.
 Given = collections.namedtuple('Given', 'table names shape fortran start file')
-# `n` for a place, `i` for the item's number, `b` for bytes, `p` for code points; the room; the file's length; index and path.
+# `n` for a place, `i` for the item's number, `b` for bytes, `p` for code points, `v` for a value; the room; the file's length; index and path.
 Ask = collections.namedtuple('Ask', 'operation room length index path')
 
 
@@ -19,11 +19,13 @@ def case_of(given, ask):
         return calls.case_of('item_number', [order], shape=given.shape, index=ask.index)
     if ask.operation == 'n':
         return calls.case_of('place', [order, given.start, ask.length], **record)
+    if ask.operation == 'v':
+        return calls.case_of('element_value', [order, given.start], given.file[:ask.length], **record)
     return calls.case_of('element_bytes' if ask.operation == 'b' else 'element_points', [order, given.start, 0, 0, ask.room], given.file[:ask.length], **record)
 
 
 def answers(given, asks):
-    """Document 01's answers, by the models."""
+    """The answers of documents 01 and 02, by the models."""
     return [calls.answer(case_of(given, ask)) for ask in asks]
 
 

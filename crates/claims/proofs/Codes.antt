@@ -33,9 +33,10 @@ use Rattle.list_record.specs.Answer.{listed}
 use Rattle.npy_codes.specs.Codes.{Returns, oneNumber, orderFor, typeFor, typeValues, textValues, headerValues, summaryValues, runValues}
 use Rattle.npy.specs.Calls.{Puts}
 use Rattle.claims.specs.Beyond.{Same-rest}
+use Rattle.npy_codes.specs.Values.{valueValues}
 use Rattle.claims.specs.Codes.{Coded, Zero-answers, Refused-alone, Alone-in-C, Rest-in-C}
 use Rattle.record.proofs.Numbers.{Numbered, then-numbered, each-numbered, type-numbered}
-use Rattle.claims.proofs.Numbers.{held-header-numbered, text-numbered, for-numbered, version-for-numbered, type-for-numbered, record-checked-numbered, header-written-numbered, listed-numbered, type-printed-numbered, count-numbered, strides-numbered, item-numbered, place-numbered, read-bytes-numbered, read-points-numbered, write-bytes-numbered, write-points-numbered, element-bytes-numbered, element-points-numbered}
+use Rattle.claims.proofs.Numbers.{held-header-numbered, text-numbered, for-numbered, version-for-numbered, type-for-numbered, record-checked-numbered, header-written-numbered, listed-numbered, type-printed-numbered, count-numbered, strides-numbered, item-numbered, place-numbered, read-bytes-numbered, read-points-numbered, write-bytes-numbered, write-points-numbered, element-bytes-numbered, element-points-numbered, read-value-numbered, element-value-numbered}
 use Rattle.claims.proofs.Refusals.{strides-left}
 use Rattle.claims.proofs.Beyond.{holding-rest, strides-rest}
 
@@ -114,6 +115,10 @@ zero-answers =
       npy-read-points = λ run order letter size units room count r new matched c.
           puts-coded _ room count r new matched
           (then-numbered (typeFor order letter size units) _ (type-for-numbered order letter size units) (λ t. read-points-numbered t run room)) c;
+      npy-element-value = λ file start t ns s order i p said r x c.
+          returned-coded valueValues _ said r x (then-numbered (orderFor order) _ (for-numbered order) (λ o. element-value-numbered file start t ns s o i p)) (c .answered);
+      npy-read-value = λ run order letter size units said r x c.
+          returned-coded valueValues _ said r x (then-numbered (typeFor order letter size units) _ (type-for-numbered order letter size units) (λ t. read-value-numbered t run)) (c .answered);
       npy-write-bytes = λ order letter size units value room count r new matched c.
           puts-coded _ room count r new matched
           (then-numbered (typeFor order letter size units) _ (type-for-numbered order letter size units) (λ t. write-bytes-numbered t value room)) c;
@@ -145,6 +150,8 @@ alone-in-c =
       npy-element-points = λ file start t ns s order x p out count r room′ said′ h. coded-alone (zero-answers .npy-element-points file start t ns s order x p out count r room′ said′ h);
       npy-read-bytes = λ run order letter size units out count r room′ said′ h. coded-alone (zero-answers .npy-read-bytes run order letter size units out count r room′ said′ h);
       npy-read-points = λ run order letter size units out count r room′ said′ h. coded-alone (zero-answers .npy-read-points run order letter size units out count r room′ said′ h);
+      npy-element-value = λ file start t ns s order x p said r said′ h. coded-alone (zero-answers .npy-element-value file start t ns s order x p said r said′ h);
+      npy-read-value = λ run order letter size units said r said′ h. coded-alone (zero-answers .npy-read-value run order letter size units said r said′ h);
       npy-write-bytes = λ order letter size units value out count r room′ said′ h. coded-alone (zero-answers .npy-write-bytes order letter size units value out count r room′ said′ h);
       npy-write-points = λ order letter size units value out count r room′ said′ h. coded-alone (zero-answers .npy-write-points order letter size units value out count r room′ said′ h);
       npy-type-read = λ text said r said′ h. coded-alone (zero-answers .npy-type-read text said r said′ h);

@@ -36,7 +36,7 @@ use Rattle.check_record.specs.Checked.{checkedRecord}
 use Rattle.check_record.proofs.Accepts.{checked-valid, valid-checked}
 use Rattle.judge.specs.Judged.{reading}
 use Rattle.judge.proofs.Top.{reading-keeps}
-use Rattle.header.specs.Reads.{HeaderInfo, headerInfo, infoOf, heldInto}
+use Rattle.header.specs.Reads.{HeaderInfo, headerInfo, heldInto}
 use Rattle.write.specs.Writes.{headerWritten}
 use Rattle.place_area.specs.declared.Run.{Run}
 use Rattle.place.specs.Place as place
@@ -45,11 +45,11 @@ use Rattle.counts.specs.Owes.{roomed, Owes}
 use Rattle.counts.proofs.Owes.{roomed-whole}
 use Rattle.string_value.specs.Elements.{bytesIn, pointsIn}
 use Rattle.string_value.specs.Runs.{bytesOut, pointsOut}
-use Rattle.string_value.specs.Rooms.{readBytes, readPoints, writeBytes, writePoints}
+use Rattle.string_value.specs.Rooms.{writeBytes, writePoints}
 use Rattle.element.specs.Bytes.{runBytes}
 use Rattle.element.specs.Element.{elementBytes, elementPoints}
 use Rattle.element.proofs.Typed.{bytes-after, points-after}
-use Rattle.npy_codes.specs.Codes.{oneNumber, orderNumber, orderFor, typeFor, typeValues, textValues, headerValues, runValues}
+use Rattle.npy_codes.specs.Codes.{oneNumber, orderNumber, orderFor, typeFor, typeValues, headerValues, runValues}
 use Rattle.npy.specs.Calls.{Puts}
 use Rattle.claims.specs.Doors.{Door, in-rattle, in-c}
 use Rattle.claims.specs.Exact.{In-text, In-file, Fits, Reads-exactly, Writable, Writes-exactly, Place-is, Element, Takes-exactly, By-itself, By-number, By-order, By-type, Exact, Exact-in-C}
@@ -57,7 +57,7 @@ use Rattle.claims.proofs.Found.{order-named, order-back, type-for-value
 use Rattle.claims.proofs.Printable.{printable-shallow, printable-short, shallow-printable}
 use Rattle.claims.proofs.Doors.{Fails, rattle-fails, c-fails, c-returned, exactly-by}
 use Rattle.record.proofs.Numbers.{Numbered, each-numbered, then-numbered}
-use Rattle.claims.proofs.Numbers.{for-numbered, held-header-numbered, text-numbered, header-written-numbered, place-numbered, element-bytes-numbered, type-for-numbered, read-bytes-numbered, read-points-numbered, write-bytes-numbered, write-points-numbered, element-points-numbered}
+use Rattle.claims.proofs.Numbers.{for-numbered, held-header-numbered, header-written-numbered, place-numbered, element-bytes-numbered, type-for-numbered, write-bytes-numbered, write-points-numbered, element-points-numbered}
 use Rattle.claims.proofs.Roomy.{roomy-fits, fits-roomy}
 
 -- ---- reading
@@ -174,13 +174,13 @@ writes-exactly door Due room y room′ put is held fails due back =
 
 -- ---- places
 module _ (file start : ℕ) (t ns s : List ℕ) (o : Order) (x p : List ℕ) where
-  named-place : (a : Record × TypeStr) → Place-is file start t ns s o x p (a .0) (a .1) → place.placeOf file start t ns s o x p ≡ gives (place.runFrom (place start (a .0) x p) (a .1))
+  pub named-place : (a : Record × TypeStr) → Place-is file start t ns s o x p (a .0) (a .1) → place.placeOf file start t ns s o x p ≡ gives (place.runFrom (place start (a .0) x p) (a .1))
   unfolding place.placed
   named-place a n =
       sym (place-given file start t ns s o x p (a .0) (valid-checked t ns s o (a .0) (n .valid)))
       ∙ rw (place.placed, n .no-object, le-ltb _ _ (n .long), n .in-range, n .leads)
 
-  place-named : (u : Run) → place.placeOf file start t ns s o x p ≡ gives u
+  pub place-named : (u : Run) → place.placeOf file start t ns s o x p ≡ gives u
       → (a : Record × TypeStr) × Place-is file start t ns s o x p (a .0) (a .1) × (place.runFrom (place start (a .0) x p) (a .1) ≡ u)
   unfolding place.placeOf place.placed
   place-named u e =
@@ -274,7 +274,7 @@ order-names order Due =
       back = λ o e. ap (λ (n : ℕ). n ∷ []) (order-named order o e);
     }
 
-type-names : {A : Type 0} (order letter size units : ℕ) (Due : TypeStr → A → Type 0) → ((k : TypeStr) (a : A) → Due k a → isType k ≡ true)
+pub type-names : {A : Type 0} (order letter size units : ℕ) (Due : TypeStr → A → Type 0) → ((k : TypeStr) (a : A) → Due k a → isType k ≡ true)
     → Names (typeFor order letter size units) (order ∷ letter ∷ size ∷ units ∷ []) typeValues Due
 type-names order letter size units Due typed =
     record {
@@ -285,10 +285,10 @@ type-names order letter size units Due typed =
     }
 
 module _ {N A B : Type 0} (named : Outcome N) (numbers : List ℕ) (values : N → List ℕ) (Due : N → A → Type 0) (names : Names named numbers values Due) (next : N → Outcome B) where
-  by-number : (value : A → B) → ((n : N) (a : A) → Due n a → next n ≡ gives (value a)) → (a : A) → By-number numbers values Due a → then named next ≡ gives (value a)
+  pub by-number : (value : A → B) → ((n : N) (a : A) → Due n a → next n ≡ gives (value a)) → (a : A) → By-number numbers values Due a → then named next ≡ gives (value a)
   by-number value due a (n, is, d) = ap (λ (g : Outcome N). then g next) (names .is n a is d) ∙ due n a d
 
-  number-by : ((n : N) (b : B) → next n ≡ gives b → (a : A) × Due n a) → (b : B) → then named next ≡ gives b → (a : A) × By-number numbers values Due a
+  pub number-by : ((n : N) (b : B) → next n ≡ gives b → (a : A) × Due n a) → (b : B) → then named next ≡ gives b → (a : A) × By-number numbers values Due a
   number-by back b e =
       let (n, named-is, given-is) = then-back named next b e in
       let (a, d) = back n b given-is in

@@ -11,6 +11,7 @@ pub mod Further
 pub mod WasRead
 pub mod RoundTrips
 pub mod Padded
+pub mod Values
 pub mod Places
 pub mod Held
 pub mod Program

@@ -1,4 +1,4 @@
--- The numbers of all refusals are document 01's, 1 to 30: along the composition of each definition, by one law for each way of composing outcomes. Those of reading a file are
+-- The numbers of all refusals are from 1 to the last: along the composition of each definition, by one law for each way of composing outcomes. Those of reading a file are
 -- record/proofs/Numbers.antt.
 use Prim.Native.Nat.{ℕ, zero, suc, _+_}
 use mathlib.Core.Path.{refl}
@@ -42,7 +42,13 @@ use Rattle.string_value.specs.Runs.{zeroFilled, bytesOut, pointBytes, pointsOut
 use Rattle.counts.specs.Owes.{roomed}
 use Rattle.string_value.specs.Rooms.{readBytes, readPoints, writeBytes, writePoints}
 use Rattle.element.specs.Bytes.{runBytes}
-use Rattle.element.specs.Element.{elementBytes, elementPoints}
+use Rattle.type_units.specs.declared.TimeUnits.{TimeUnits}
+use Rattle.value_float.specs.Floats.{singleOf, doubleOf}
+use Rattle.value_float.specs.Half.{halfOf}
+use Rattle.value.specs.declared.Value.{Value}
+use Rattle.value.specs.declared.Form.{Form}
+use Rattle.value.specs.Values.{formOf, hasNoValue, signedIn, singlePair, doublePair, valueBy, readValue}
+use Rattle.element.specs.Element.{elementBytes, elementPoints, elementValue}
 use Rattle.record.specs.Header.{afterPrefixBy, heldBy, textBy}
 use Rattle.write.specs.Writes.{headerWritten}
 use Rattle.list_text.specs.Listing.{listing}
@@ -227,3 +233,29 @@ pub element-points-numbered : (file : List ℕ) (start : ℕ) (t ns s : List ℕ
 unfolding elementPoints
 element-points-numbered file start t ns s o x p room =
     then-numbered (placeOf (length file) start t ns s o x p) _ (place-numbered (length file) start t ns s o x p) (λ u. read-points-numbered (u .kind) (runBytes file u) room)
+
+-- ---- of a value
+value-by-numbered : (f : Form) (o : Endianness) (u : TimeUnits) (run : List ℕ) → Numbered (valueBy f o u run)
+unfolding valueBy
+value-by-numbered Form.Bool o u run = unless-numbered (ltb 1 (inOrder o run)) 32 (refl, refl) (an-answer (Value.Bool (eqb (inOrder o run) 1)))
+value-by-numbered Form.Signed o u run = an-answer (Value.Signed (signedIn o run))
+value-by-numbered Form.Unsigned o u run = an-answer (Value.Unsigned (inOrder o run))
+value-by-numbered Form.Half o u run = an-answer (Value.Single (halfOf (inOrder o run)))
+value-by-numbered Form.Single o u run = an-answer (Value.Single (singleOf (inOrder o run)))
+value-by-numbered Form.Double o u run = an-answer (Value.Double (doubleOf (inOrder o run)))
+value-by-numbered Form.SinglePair o u run = an-answer (singlePair o run)
+value-by-numbered Form.DoublePair o u run = an-answer (doublePair o run)
+value-by-numbered Form.Time o u run = an-answer (Value.Time (signedIn o run) u)
+value-by-numbered Form.NoValue o u run = a-number (refl, refl)
+
+pub read-value-numbered : (t : TypeStr) (run : List ℕ) → Numbered (readValue t run)
+unfolding readValue
+read-value-numbered t run =
+    unless-numbered (not (isType t)) 27 (refl, refl)
+    (unless-numbered (hasNoValue (formOf (t .letter) (t .size))) 31 (refl, refl)
+    (unless-numbered (not (eqb (length run) (t .size))) 27 (refl, refl) (value-by-numbered (formOf (t .letter) (t .size)) (t .order) (t .units) run)))
+
+pub element-value-numbered : (file : List ℕ) (start : ℕ) (t ns s : List ℕ) (o : Order) (x p : List ℕ) → Numbered (elementValue file start t ns s o x p)
+unfolding elementValue
+element-value-numbered file start t ns s o x p =
+    then-numbered (placeOf (length file) start t ns s o x p) _ (place-numbered (length file) start t ns s o x p) (λ u. read-value-numbered (u .kind) (runBytes file u))

@@ -19,13 +19,16 @@ use Rattle.list_file.proofs.Outcomes.{report-one, report-whole-one}
 use Rattle.place_item.proofs.Outcomes.{item-number-one}
 use Rattle.place.proofs.Outcomes.{place-one}
 use Rattle.string_element.proofs.Outcomes as string-element
+use Rattle.element_text.proofs.Outcomes.{put-one}
+use Rattle.get_file.proofs.Outcomes.{find-one, numbers-one}
+use Rattle.value.proofs.Outcomes as value
 use Rattle.element.proofs.Outcomes as element
 use Rattle.npy.proofs.Outcomes as npy
 use Rattle.record.specs.Rooms.{Lent}
 use Rattle.claims.specs.Functions.{Read-held}
 use Rattle.claims.specs.InC.{Npy-read-held}
 use Rattle.claims.specs.Outcomes.{Beside, Beside-both, One-outcome, One-outcome-in-C}
-use Rattle.claims.proofs.Readings.{report-same, text-moved}
+use Rattle.claims.proofs.Readings.{report-same, text-moved, find-moved}
 
 held-one : (longer : Bool) (file : List ℕ) (l : Lent) → Beside (Read-held longer file l)
 held-one longer file l x y p q =
@@ -53,6 +56,10 @@ one-outcome =
           report-whole-one file out x y
           (record { answered = p .answered reading reading-keeps ∙ ap length same; after = p .after reading reading-keeps ∙ ap (λ (text : List ℕ). atFront text out) same })
           (record { answered = q .answered reading reading-keeps ∙ ap length same; after = q .after reading reading-keeps ∙ ap (λ (text : List ℕ). atFront text out) same });
+      find = λ longer held file x p y z h k.
+          find-one longer held file x p y z (find-moved longer held file x p y (h reading reading-keeps)) (find-moved longer held file x p z (k reading reading-keeps));
+      numbers-listed = λ text out. numbers-one text out;
+      put-element = λ run k out. put-one k run out;
       check = λ t ns s o x y p q. check-one t ns s o x y (p .answered) (q .answered);
       write-header = λ t ns s o out x y p q. write-header-one t ns s o out x y (p .writes) (q .writes);
       list = λ v start t ns s o out. list-one v start t ns s o out;
@@ -62,6 +69,8 @@ one-outcome =
       place = λ file start t ns s o x p. place-one file start t ns s o x p;
       element-bytes = λ file start t ns s o x p out. element.read-bytes-one file start t ns s o x p out;
       element-points = λ file start t ns s o x p out. element.read-points-one file start t ns s o x p out;
+      element-value = λ file start t ns s o x p y z h k. element.read-value-one file start t ns s o x p y z (h .answered) (k .answered);
+      read-value = λ run k y z h j. value.read-one run k y z (h .answered) (j .answered);
       read-bytes = λ run k out. string-element.read-bytes-one k run out;
       read-points = λ run k out. string-element.read-points-one k run out;
       write-bytes = λ k value out. string-element.write-bytes-one k value out;
@@ -88,6 +97,8 @@ one-outcome-in-c =
       npy-place = λ file start t ns s order x p run. npy.call-one _ _ run;
       npy-element-bytes = λ file start t ns s order x p out count. npy.puts-one _ out count;
       npy-element-points = λ file start t ns s order x p out count. npy.puts-one _ out count;
+      npy-element-value = λ file start t ns s order x p said y z h k. npy.call-one _ _ said y z (h .answered) (k .answered);
+      npy-read-value = λ run order letter size units said y z h k. npy.call-one _ _ said y z (h .answered) (k .answered);
       npy-read-bytes = λ run order letter size units out count. npy.puts-one _ out count;
       npy-read-points = λ run order letter size units out count. npy.puts-one _ out count;
       npy-write-bytes = λ order letter size units value out count. npy.puts-one _ out count;

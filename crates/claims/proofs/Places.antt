@@ -7,19 +7,17 @@ use mathlib.Core.Bool.{Bool, true, false, not}
 use mathlib.Core.List.{List}
 use lib.ListN.{length}
 use mathlib.Core.Logic.{_⊎_, inl, inr}
-use borrow.Author.Tests.{le-ltb, not-false}
+use borrow.Author.Tests.{le-ltb}
 use Rattle.counts.specs.Outcome.{Outcome, gives, refused, then, each, unless, afterwards}
-use Rattle.counts.proofs.Holds.{unless-back, each-back}
 use Rattle.counts.proofs.OneOutcome.{pair-of}
 use Rattle.refusal.specs.declared.Refusal.{Refusal}
 use Rattle.type_str.specs.declared.TypeStr.{TypeStr}
 use Rattle.dtype.specs.declared.Order.{Order}
 use Rattle.dtype.specs.Entries.{hasObject}
-use Rattle.dtype.specs.PlainBytes.{plainBytes}
 use Rattle.dtype.specs.Shape.{inRange}
 use Rattle.dtype.specs.Record.{Record}
 use Rattle.dtype.specs.Places.{plainAt, dataBytes, place, Ask}
-use Rattle.dtype.proofs.Runs.{Belongs, Path-to, runOf, run}
+use Rattle.dtype.proofs.Runs.{Belongs, Path-to, run-plain}
 use Rattle.dtype.proofs.Items.{range-true}
 use Rattle.dtype.proofs.Paths.{path-plain}
 use Rattle.dtype.proofs.Places.{run-inside, owned, owned-once}
@@ -41,8 +39,7 @@ use Rattle.claims.specs.Places.{Owns, Owned, Record-owned, Record-owned-
 use Rattle.claims.proofs.WasRead.{values-one, valid-own}
 use Rattle.claims.specs.Doors.{in-rattle}
 use Rattle.claims.proofs.Doors.{rattle-fails, succeeded}
-use Rattle.claims.proofs.Found.{found-value, order-back, read-was, npy-read-was}
-use Rattle.claims.proofs.Numbers.{place-numbered}
+use Rattle.claims.proofs.Found.{order-back, read-was, npy-read-was}
 
 -- ---- a path to a plain type, or 26
 plain-or : (r : Record) (p : List ℕ) → ((k : TypeStr) → plainAt (r .dtype) p ≡ gives k → ⊥) → plainAt (r .dtype) p ≡ refused 26
@@ -51,9 +48,6 @@ plain-or r p f = go (path-or-none (r .dtype) p)
     go : Path-to (r .dtype) p ⊎ (plainAt (r .dtype) p ≡ refused 26) → plainAt (r .dtype) p ≡ refused 26
     go (inl g) = let k = path-plain (r .dtype) p g in absurd (f (k .0) (k .1))
     go (inr e) = e
-
-run-is : (r : Record) (p : List ℕ) (k : TypeStr) → plainAt (r .dtype) p ≡ gives k → run (r .dtype) p ≡ plainBytes k
-run-is r p k e = ap (λ (c : Outcome TypeStr). runOf c) e
 
 -- ---- past 24 and 25 the outcome is document 01's formula, or 26
 abbrev formula : (start : ℕ) → Record → (x p : List ℕ) → Outcome Run
@@ -82,7 +76,7 @@ owns-belongs start r a b w =
     record {
       in-range = range-of (r .shape) (a .index) (w .in-range);
       is-path = plain-path (r .dtype) (a .path) (w .kind) (w .leads);
-      in-run = omega (arith, w .in-run, run-is r (a .path) (w .kind) (w .leads));
+      in-run = omega (arith, w .in-run, run-plain (r .dtype) (a .path) (w .kind) (w .leads));
       is-byte = w .is-byte;
     }
 
@@ -93,7 +87,7 @@ belongs-owns start r a b w =
       kind = k;
       in-range = range-true (r .shape) (a .index) (w .in-range);
       leads = leads;
-      in-run = omega (arith, w .in-run, run-is r (a .path) k leads);
+      in-run = omega (arith, w .in-run, run-plain (r .dtype) (a .path) k leads);
       is-byte = w .is-byte;
     }
 
@@ -109,7 +103,7 @@ area-owned Call at nowhere outcome start r answers is =
     record {
       by-formula = λ x p k g e y c. answers .run-is x p y _ c (is x p ∙ formula-named start r x p k g e);
       inside = λ x p k g e.
-          (omega arith, omega (arith, run-inside start r x p (range-of (r .shape) x g) (plain-path (r .dtype) p k e), run-is r p k e));
+          (omega arith, omega (arith, run-inside start r x p (range-of (r .shape) x g) (plain-path (r .dtype) p k e), run-plain (r .dtype) p k e));
       elsewhere = λ x p f y c. answers .none-is x p y c (is x p ∙ formula-none start r x p f);
       each-byte = λ b g. let (a, w) = owned start r b g in (a, belongs-owns start r a (start + b) w);
       once = λ b a a′ w w′. owned-once start r b a a′ (owns-belongs start r a b w) (owns-belongs start r a′ b w′);

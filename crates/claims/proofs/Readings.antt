@@ -8,7 +8,7 @@ use lib.Dec.{ltb}
 use lib.ListN.{length, take}
 use Rattle.counts.specs.declared.Bytes.{Bytes}
 use Rattle.counts.specs.Lists.{atFront}
-use Rattle.counts.specs.Outcome.{Outcome, each, afterwards}
+use Rattle.counts.specs.Outcome.{Outcome, each, afterwards, then}
 use Rattle.refusal.specs.declared.BytesAnswer.{BytesAnswer}
 use Rattle.dtype.specs.Record.{Record}
 use Rattle.record.specs.Rooms.{Lent, roomsOf, holding}
@@ -23,7 +23,11 @@ use Rattle.list_file.specs.Report.{held-bytes, fresh, textFor, reportOf, Report
 use Rattle.list_file.specs.Enough.{WritesReport}
 use Rattle.npy_codes.proofs.Then.{returns-same}
 use Rattle.npy.specs.Calls as npy
-use Rattle.claims.specs.Functions.{Read, Read-held, Read-text, reportBy, Report, Report-whole}
+use Rattle.place.specs.declared.Placed.{Placed}
+use Rattle.place.specs.Answer as place
+use Rattle.place.specs.Place.{placed}
+use Rattle.get_file.specs.Found.{ample, foundIn}
+use Rattle.claims.specs.Functions.{Read, Read-held, Read-text, reportBy, Report, Report-whole, Find}
 use Rattle.claims.specs.InC.{Npy-read, Npy-read-held, Npy-read-text}
 
 -- ---- the definitions with another reading
@@ -69,6 +73,16 @@ report-whole-tied file out n out′ h =
       answered = λ other keeps. h .answered ∙ ap length (report-same other keeps file);
       after = λ other keeps. h .after ∙ ap (λ (text : List ℕ). atFront text out) (report-same other keeps file);
     }
+
+-- the place that is found, by the literal's own reading and by any other
+pub find-tied : (longer : Bool) (held : List ℕ) (file : ℕ) (x p : List ℕ) (y : Placed) → place.answer y ≡ foundIn longer held file x p → Find longer held file x p y
+unfolding foundIn
+find-tied longer held file x p y h = λ other keeps. h ∙ ap (λ (o : Outcome header.Header). then o (λ a. placed file (a .data-start) (a .says) x p)) (held-same other keeps longer held ample)
+
+pub find-moved : (longer : Bool) (held : List ℕ) (file : ℕ) (x p : List ℕ) (y : Placed) → place.answer y ≡ then (header.heldBy reading longer held ample) (λ h. placed file (h .data-start) (h .says) x p)
+    → place.answer y ≡ foundIn longer held file x p
+unfolding foundIn
+find-moved longer held file x p y h = h
 
 -- ---- the same in C
 pub npy-read-held-tied : (longer : Bool) (file : List ℕ) (l : Lent) (said : List ℕ) (r : ℕ) (l′ : Lent) (said′ : List ℕ)

@@ -1,4 +1,4 @@
--- The C interface. include/npy.h: "It returns NPY_OK, 0 and has written its values, or a refusal's number, 1 to 30, and has left all that it was lent as it was",
+-- The C interface. include/npy.h: "It returns NPY_OK, 0 and has written its values, or a refusal's number, 1 to 32, and has left all that it was lent as it was",
 -- and "room beyond what was needed is left as it was"; document 01, "The refusal numbers": "Each returns its number only; every lent buffer stays unchanged." So 0 always
 -- means success, and any other number a refusal. Stated of each function of crate npy by its predicate (InC.antt). t, ns and s are a caller's table, names and
 -- shape, x an index and p a path; said, count, item and run are the numbers lent for the values; primed names are the lent memory after the call.
@@ -24,11 +24,13 @@ use Rattle.header.specs.Reads as header
 use Rattle.write.specs.Writes.{headerWritten}
 use Rattle.list_record.specs.Answer.{listed}
 use Rattle.string_value.specs.Rooms.{readBytes, readPoints, writeBytes, writePoints}
-use Rattle.element.specs.Element.{elementBytes, elementPoints}
+use Rattle.value.specs.Values.{readValue}
+use Rattle.element.specs.Element.{elementBytes, elementPoints, elementValue}
 use Rattle.npy_codes.specs.Codes.{oneNumber, orderFor, typeFor, typeValues, textValues, headerValues, summaryValues, runValues}
+use Rattle.npy_codes.specs.Values.{valueValues}
 use Rattle.claims.specs.Beyond.{Same-rest}
 use Rattle.claims.specs.Functions.{By-grammar}
-use Rattle.claims.specs.InC.{Npy-read-held, Npy-read-text, Npy-check, Npy-write-header, Npy-list, Npy-count, Npy-strides, Npy-item-number, Npy-place, Npy-element-bytes, Npy-element-points, Npy-read-bytes, Npy-read-points, Npy-write-bytes, Npy-write-points, Npy-type-read, Npy-type-print}
+use Rattle.claims.specs.InC.{Npy-read-held, Npy-read-text, Npy-check, Npy-write-header, Npy-list, Npy-count, Npy-strides, Npy-item-number, Npy-place, Npy-element-bytes, Npy-element-points, Npy-element-value, Npy-read-bytes, Npy-read-points, Npy-read-value, Npy-write-bytes, Npy-write-points, Npy-type-read, Npy-type-print}
 
 -- a refusal: the definition refuses with r, which is one of the numbers from 1 to the last, and all lent memory is as it was
 pub record Refuses {A M : Type 0} (o : Outcome A) (before : M) (r : ℕ) (after : M) : Type 0 where
@@ -82,6 +84,10 @@ pub record Zero-answers : Type 0 where
       → CodedPuts (then (typeFor order letter size units) (λ k. readBytes k run out)) (Npy-read-bytes run order letter size units out count) out count
   pub npy-read-points : (run : List ℕ) (order letter size units : ℕ) (out count : List ℕ)
       → CodedPuts (then (typeFor order letter size units) (λ k. readPoints k run out)) (Npy-read-points run order letter size units out count) out count
+  pub npy-element-value : (file : List ℕ) (start : ℕ) (t ns s : List ℕ) (order : ℕ) (x p said : List ℕ)
+      → CodedAlone valueValues (then (orderFor order) (λ o. elementValue file start t ns s o x p)) (Npy-element-value file start t ns s order x p said) said
+  pub npy-read-value : (run : List ℕ) (order letter size units : ℕ) (said : List ℕ)
+      → CodedAlone valueValues (then (typeFor order letter size units) (λ k. readValue k run)) (Npy-read-value run order letter size units said) said
   pub npy-write-bytes : (order letter size units : ℕ) (value out count : List ℕ)
       → CodedPuts (then (typeFor order letter size units) (λ k. writeBytes k value out)) (Npy-write-bytes order letter size units value out count) out count
   pub npy-write-points : (order letter size units : ℕ) (value out count : List ℕ)
@@ -116,6 +122,8 @@ pub record Alone-in-C : Type 0 where
   pub npy-element-points : (file : List ℕ) (start : ℕ) (t ns s : List ℕ) (order : ℕ) (x p out count : List ℕ) → AloneBeside (Npy-element-points file start t ns s order x p out count) out count
   pub npy-read-bytes : (run : List ℕ) (order letter size units : ℕ) (out count : List ℕ) → AloneBeside (Npy-read-bytes run order letter size units out count) out count
   pub npy-read-points : (run : List ℕ) (order letter size units : ℕ) (out count : List ℕ) → AloneBeside (Npy-read-points run order letter size units out count) out count
+  pub npy-element-value : (file : List ℕ) (start : ℕ) (t ns s : List ℕ) (order : ℕ) (x p said : List ℕ) → AloneValues (Npy-element-value file start t ns s order x p said) said
+  pub npy-read-value : (run : List ℕ) (order letter size units : ℕ) (said : List ℕ) → AloneValues (Npy-read-value run order letter size units said) said
   pub npy-write-bytes : (order letter size units : ℕ) (value out count : List ℕ) → AloneBeside (Npy-write-bytes order letter size units value out count) out count
   pub npy-write-points : (order letter size units : ℕ) (value out count : List ℕ) → AloneBeside (Npy-write-points order letter size units value out count) out count
   pub npy-type-read : (text said : List ℕ) → AloneValues (Npy-type-read text said) said

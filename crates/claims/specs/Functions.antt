@@ -10,8 +10,8 @@ use mathlib.Core.List.{List}
 use lib.Dec.{ltb}
 use lib.ListN.{length, take}
 use Rattle.counts.specs.declared.Bytes.{Bytes}
-use Rattle.counts.specs.Lists.{atFront}
-use Rattle.counts.specs.Outcome.{each, afterwards}
+use Rattle.counts.specs.Lists.{atFront, AllBytes}
+use Rattle.counts.specs.Outcome.{then, each, afterwards}
 use Rattle.counts.specs.Owes.{Owes}
 use Rattle.refusal.specs.declared.ItemsAnswer.{ItemsAnswer}
 use Rattle.refusal.specs.declared.BytesAnswer.{BytesAnswer}
@@ -41,9 +41,16 @@ use Rattle.list_file.specs.Report.{WritesText, held-bytes, fresh, textFor}
 use Rattle.place_item.specs.Item.{itemOf}
 use Rattle.place.specs.declared.Placed.{Placed}
 use Rattle.place.specs.Answer as place
-use Rattle.place.specs.Place.{placeOf}
+use Rattle.place.specs.Place.{placed, placeOf}
 use Rattle.string_value.specs.Rooms.{readBytes, readPoints, writeBytes, writePoints}
-use Rattle.element.specs.Element.{elementBytes, elementPoints}
+use Rattle.value.specs.declared.ValueAnswer.{ValueAnswer}
+use Rattle.value.specs.Values.{readValue}
+use Rattle.value.specs.Answer.{valueAnswer}
+use Rattle.element.specs.Element.{elementBytes, elementPoints, elementValue}
+use Rattle.element_text.specs.Puts.{PutsElement}
+use Rattle.get_file.specs.declared.Listed.{Listed}
+use Rattle.get_file.specs.Found.{ample}
+use Rattle.get_file.specs.Numbers.{numbersIn, listedAnswer}
 
 -- a statement of every reading that keeps the promise
 abbrev pub By-grammar : (Reading → Type 0) → Type 0
@@ -76,6 +83,19 @@ Report file out x out′ = By-grammar (λ reading. WritesText (reportBy reading 
 pub record Report-whole (file out : List ℕ) (n : Bytes) (out′ : List ℕ) : Type 0 where
   pub answered : By-grammar (λ reading. n .0 ≡ length (reportBy reading file))
   pub after : By-grammar (λ reading. out′ ≡ atFront (reportBy reading file) out)
+
+-- ---- the program that prints one element
+-- `get_file::find`: of the first bytes of a file of this length, which is longer or is not
+abbrev pub Find : (longer : Bool) (held : List ℕ) (file : ℕ) (x p : List ℕ) (y : Placed) → Type 0
+Find longer held file x p y = By-grammar (λ reading. place.answer y ≡ then (heldBy reading longer held ample) (λ h. placed file (h .data-start) (h .says) x p))
+
+-- `get_file::numbers`
+abbrev pub Numbers-listed : (text out : List ℕ) (y : Listed) (out′ : List ℕ) → Type 0
+Numbers-listed text out y = Owes (numbersIn text out) out (listedAnswer y)
+
+-- `element_text::put`
+abbrev pub Put-element : (run : List ℕ) (k : TypeStr) (out : List ℕ) (y : BytesAnswer) (out′ : List ℕ) → Type 0
+Put-element run k = PutsElement k run
 
 -- ---- a caller's record; the numbers of its table and shape are below 2^64, as every u64 is
 -- `check_record::check`
@@ -131,6 +151,15 @@ Write-bytes k value out y = Owes (writeBytes k value out) out (bytesAnswer y)
 
 abbrev pub Write-points : (k : TypeStr) (value out : List ℕ) (y : BytesAnswer) (out′ : List ℕ) → Type 0
 Write-points k value out y = Owes (writePoints k value out) out (bytesAnswer y)
+
+-- `element::read_value`, `value::read`; the bytes of the file or the run are below 256, as every u8 is
+pub record Element-value (file : List ℕ) (start : ℕ) (t ns s : List ℕ) (o : Order) (x p : List ℕ) (y : ValueAnswer) : Type 0 where
+  pub bytes : AllBytes file
+  pub answered : valueAnswer y ≡ elementValue file start t ns s o x p
+
+pub record Read-value (run : List ℕ) (k : TypeStr) (y : ValueAnswer) : Type 0 where
+  pub bytes : AllBytes run
+  pub answered : valueAnswer y ≡ readValue k run
 
 -- ---- types and characters
 -- `type_read::parse`

@@ -5,6 +5,7 @@ use Prim.Native.Nat.{ℕ}
 use mathlib.Core.Path.{_≡_}
 use mathlib.Core.Bool.{Bool, false}
 use mathlib.Core.List.{List}
+use Rattle.counts.specs.Lists.{AllBytes}
 use Rattle.counts.specs.Outcome.{then, each, afterwards}
 use Rattle.type_str.specs.TypeString.{typeString}
 use Rattle.shape.specs.Count.{itemCount}
@@ -17,8 +18,10 @@ use Rattle.header.specs.Reads as header
 use Rattle.place_item.specs.Item.{itemOf}
 use Rattle.place.specs.Place.{placeOf}
 use Rattle.string_value.specs.Rooms.{readBytes, readPoints, writeBytes, writePoints}
-use Rattle.element.specs.Element.{elementBytes, elementPoints}
+use Rattle.value.specs.Values.{readValue}
+use Rattle.element.specs.Element.{elementBytes, elementPoints, elementValue}
 use Rattle.npy_codes.specs.Codes.{Returns, oneNumber, orderFor, typeFor, typeValues, textValues, headerValues, summaryValues, runValues}
+use Rattle.npy_codes.specs.Values.{valueValues}
 use Rattle.npy.specs.Calls as npy
 use Rattle.claims.specs.Functions.{By-grammar}
 
@@ -93,6 +96,15 @@ Npy-write-bytes order letter size units value out = npy.Puts (then (typeFor orde
 
 abbrev pub Npy-write-points : (order letter size units : ℕ) (value out count : List ℕ) (r : ℕ) (out′ count′ : List ℕ) → Type 0
 Npy-write-points order letter size units value out = npy.Puts (then (typeFor order letter size units) (λ k. writePoints k value out)) out
+
+-- `npy_element_value`, `npy_read_value`; the bytes of the file or the run are below 256, as every uint8_t is
+pub record Npy-element-value (file : List ℕ) (start : ℕ) (t ns s : List ℕ) (order : ℕ) (x p said : List ℕ) (r : ℕ) (said′ : List ℕ) : Type 0 where
+  pub bytes : AllBytes file
+  pub answered : Returns valueValues (then (orderFor order) (λ o. elementValue file start t ns s o x p)) said r said′
+
+pub record Npy-read-value (run : List ℕ) (order letter size units : ℕ) (said : List ℕ) (r : ℕ) (said′ : List ℕ) : Type 0 where
+  pub bytes : AllBytes run
+  pub answered : Returns valueValues (then (typeFor order letter size units) (λ k. readValue k run)) said r said′
 
 -- ---- types
 -- `npy_type_read`

@@ -6,6 +6,7 @@ pub mod Exact
 pub mod Further
 pub mod RoundTrips
 pub mod Padded
+pub mod Values
 pub mod Places
 pub mod Refusals
 pub mod Accepted

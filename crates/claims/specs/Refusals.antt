@@ -12,7 +12,8 @@ use Rattle.dtype.specs.declared.Order.{Order}
 use Rattle.record.specs.Prefix.{Version}
 use Rattle.record.specs.Rooms.{Lent}
 use Rattle.header.specs.Reads.{answer, textAnswer}
-use Rattle.claims.specs.Functions.{Read-held, Read-text, Report, Write-header, List-record, Strides, Element-bytes, Element-points, Read-bytes, Read-points, Write-bytes, Write-points, Type-print, Encode}
+use Rattle.get_file.specs.Numbers.{listedAnswer}
+use Rattle.claims.specs.Functions.{Read-held, Read-text, Report, Write-header, List-record, Strides, Element-bytes, Element-points, Read-bytes, Read-points, Write-bytes, Write-points, Type-print, Encode, Numbers-listed, Put-element}
 
 -- of a function with this predicate, from its result and the memory afterwards: if `answer` says that the result is a refusal, the memory is as it was before
 abbrev pub Leaves : {A B M : Type 0} → (answer : A → Outcome B) → (Call : A → M → Type 0) → (before : M) → Type 0
@@ -27,6 +28,9 @@ pub record Unchanged : Type 0 where
   pub write-header : (t ns s : List ℕ) (o : Order) (out : List ℕ) → Leaves bytesAnswer (Write-header t ns s o out) out
   pub list : (v : Version) (start : ℕ) (t ns s : List ℕ) (o : Order) (out : List ℕ) → Leaves bytesAnswer (List-record v start t ns s o out) out
   pub report : (file out : List ℕ) → Leaves bytesAnswer (Report file out) out
+  -- `get_file::numbers`, `element_text::put`
+  pub numbers-listed : (text out : List ℕ) → Leaves listedAnswer (Numbers-listed text out) out
+  pub put-element : (run : List ℕ) (k : TypeStr) (out : List ℕ) → Leaves bytesAnswer (Put-element run k out) out
   -- `string_element::read_bytes`, `read_points`, `write_bytes`, `write_points`
   pub read-bytes : (run : List ℕ) (k : TypeStr) (out : List ℕ) → Leaves bytesAnswer (Read-bytes run k out) out
   pub read-points : (run : List ℕ) (k : TypeStr) (out : List ℕ) → Leaves pointsAnswer (Read-points run k out) out

@@ -1,10 +1,11 @@
 // The customer's demands, stated in specs/ about predicates of the functions that a customer calls, and proved in proofs/. Here each predicate is tied to its function: each
 // function below calls the customer's function with its own arguments, in the same order, and promises the predicate that the claims use. Nobody calls these; the checker
 // proves them, so a function whose contract drifts from what the claims say of it fails here. (A type has a type_letters::Endianness, a type_letters::TypeChar and a
-// type_units::TimeUnits; an answer a refusal::Refusal, counts::Items, counts::Points, check_record::Summary, place_area::Run or header::Header.)
+// type_units::TimeUnits; an answer a refusal::Refusal, counts::Items, counts::Points, check_record::Summary, place_area::Run or header::Header; a value a value_float::Single or a value_float::Double.)
 use check_record::Checked;
 use counts::Bytes;
 use dtype::Order;
+use get_file::Listed;
 use header::HeaderRead;
 use header::TextRead;
 use header_prefix::Version;
@@ -15,10 +16,11 @@ use refusal::ItemsAnswer;
 use refusal::PointsAnswer;
 use type_str::TypeRead;
 use type_str::TypeStr;
+use value::ValueAnswer;
 ghost use Rattle.header_prefix.specs.Answer.{versionIs};
 ghost use Rattle.header.specs.Reads.{lent};
-ghost use Rattle.claims.specs.Functions.{Read, Read-held, Read-text, Report, Report-whole, Check, Write-header, List-record, Count, Strides, Item-number, Place, Element-bytes, Element-points, Read-bytes, Read-points, Write-bytes, Write-points, Type-read, Type-print, Encode};
-ghost use Rattle.claims.specs.InC.{Npy-read, Npy-read-held, Npy-read-text, Npy-check, Npy-write-header, Npy-list, Npy-count, Npy-strides, Npy-item-number, Npy-place, Npy-element-bytes, Npy-element-points, Npy-read-bytes, Npy-read-points, Npy-write-bytes, Npy-write-points, Npy-type-read, Npy-type-print};
+ghost use Rattle.claims.specs.Functions.{Read, Read-held, Read-text, Report, Report-whole, Find, Numbers-listed, Put-element, Check, Write-header, List-record, Count, Strides, Item-number, Place, Element-bytes, Element-points, Element-value, Read-bytes, Read-points, Read-value, Write-bytes, Write-points, Type-read, Type-print, Encode};
+ghost use Rattle.claims.specs.InC.{Npy-read, Npy-read-held, Npy-read-text, Npy-check, Npy-write-header, Npy-list, Npy-count, Npy-strides, Npy-item-number, Npy-place, Npy-element-bytes, Npy-element-points, Npy-element-value, Npy-read-bytes, Npy-read-points, Npy-read-value, Npy-write-bytes, Npy-write-points, Npy-type-read, Npy-type-print};
 
 // ---- the Rattle functions
 
@@ -56,6 +58,24 @@ fn list_file_report_whole(file: &[u8], out: &mut [u8; ROOM]) -> Bytes
     ensures { λ r. ⌜ Report-whole (now (file .entry)) (now (out .entry)) r (now (out .exit)) ⌝ }
 {
     list_file::report_whole(file, out)
+}
+
+fn get_file_find(held: &[u8], longer: bool, length: Bytes, index: &[u64], path: &[u64]) -> Placed
+    ensures { λ r. ⌜ Find longer (now (held .entry)) (length .0) (now (index .entry)) (now (path .entry)) r ⌝ }
+{
+    get_file::find(held, longer, length, index, path)
+}
+
+fn get_file_numbers(text: &[u8], out: &mut [u64]) -> Listed
+    ensures { λ r. ⌜ Numbers-listed (now (text .entry)) (now (out .entry)) r (now (out .exit)) ⌝ }
+{
+    get_file::numbers(text, out)
+}
+
+fn element_text_put(run: &[u8], t: TypeStr, out: &mut [u8]) -> BytesAnswer
+    ensures { λ r. ⌜ Put-element (now (run .entry)) t (now (out .entry)) r (now (out .exit)) ⌝ }
+{
+    element_text::put(run, t, out)
 }
 
 fn check_record_check(table: &[u64], names: &[u8], shape: &[u64], order: Order) -> Checked
@@ -153,6 +173,27 @@ fn element_read_points(
     ensures { λ r. ⌜ Element-points (now (file .entry)) (start .0) (now (table .entry)) (now (names .entry)) (now (shape .entry)) order (now (index .entry)) (now (path .entry)) (now (out .entry)) r (now (out .exit)) ⌝ }
 {
     element::read_points(file, start, table, names, shape, order, index, path, out)
+}
+
+fn element_read_value(
+    file: &[u8],
+    start: Bytes,
+    table: &[u64],
+    names: &[u8],
+    shape: &[u64],
+    order: Order,
+    index: &[u64],
+    path: &[u64],
+) -> ValueAnswer
+    ensures { λ r. ⌜ Element-value (now (file .entry)) (start .0) (now (table .entry)) (now (names .entry)) (now (shape .entry)) order (now (index .entry)) (now (path .entry)) r ⌝ }
+{
+    element::read_value(file, start, table, names, shape, order, index, path)
+}
+
+fn value_read(run: &[u8], t: TypeStr) -> ValueAnswer
+    ensures { λ r. ⌜ Read-value (now (run .entry)) t r ⌝ }
+{
+    value::read(run, t)
 }
 
 fn string_element_read_bytes(run: &[u8], t: TypeStr, out: &mut [u8]) -> BytesAnswer
@@ -358,6 +399,35 @@ fn npy_element_points(
         out,
         count,
     )
+}
+
+fn npy_element_value(
+    file: &[u8],
+    start: u64,
+    table: &[u64],
+    names: &[u8],
+    shape: &[u64],
+    order: u64,
+    index: &[u64],
+    path: &[u64],
+    said: &mut [u64; 4],
+) -> u8
+    ensures { λ r. ⌜ Npy-element-value (now (file .entry)) start (now (table .entry)) (now (names .entry)) (now (shape .entry)) order (now (index .entry)) (now (path .entry)) (now (said .entry)) r (now (said .exit)) ⌝ }
+{
+    npy::npy_element_value(file, start, table, names, shape, order, index, path, said)
+}
+
+fn npy_read_value(
+    run: &[u8],
+    order: u64,
+    letter: u64,
+    size: u64,
+    units: u64,
+    said: &mut [u64; 4],
+) -> u8
+    ensures { λ r. ⌜ Npy-read-value (now (run .entry)) order letter size units (now (said .entry)) r (now (said .exit)) ⌝ }
+{
+    npy::npy_read_value(run, order, letter, size, units, said)
 }
 
 fn npy_read_bytes(

@@ -1,6 +1,6 @@
 -- How many bytes a path selects, and which byte of the file an index, a path and a byte of the plain type describe.
 use Prim.Native.Nat.{ℕ, _+_, _<_, zero, suc}
-use mathlib.Core.Path.{_≡_}
+use mathlib.Core.Path.{_≡_, ap}
 use mathlib.Core.List.{List, [], _∷_}
 use Rattle.dtype.specs.Record.{Record}
 use Rattle.dtype.specs.Places.{plainAt, place, Ask}
@@ -39,6 +39,10 @@ runOf (refused n) = 0
 -- how many bytes a path selects
 abbrev pub run : Dtype → List ℕ → ℕ
 run d p = runOf (plainAt d p)
+
+-- .. are those of the plain type that it leads to
+pub run-plain : (d : Dtype) (p : List ℕ) (t : TypeStr) → plainAt d p ≡ gives t → run d p ≡ plainBytes t
+run-plain d p t e = ap runOf e
 
 -- byte b of the file is the byte that a describes
 pub record Belongs (start : ℕ) (r : Record) (b : ℕ) (a : Ask) : Type 0 where

@@ -36,7 +36,7 @@ use Rattle.judge.proofs.Top.{reading-keeps}
 use Rattle.header.specs.Reads.{afterPrefix, heldInto}
 use Rattle.list_file.specs.Report.{held-bytes, fresh, textFor, reportOf, Reports}
 use Rattle.list_file.specs.Enough.{WritesReport}
-use Rattle.list_file.proofs.Whole.{held-whole}
+use Rattle.read_back.proofs.Held.{held-whole}
 
 -- the report of a file's first 65,537 bytes is the report of the file
 abbrev pub Front-reports : Type 0

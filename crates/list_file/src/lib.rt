@@ -7,13 +7,12 @@ use header::Header;
 use header::HeaderRead;
 use refusal::BytesAnswer;
 use refusal::Refusal;
-ghost use Prim.Native.Nat.{_*_};
 ghost use mathlib.Core.Path.{_≡_};
 ghost use mathlib.Core.List.{[]};
 ghost use lib.ListN.{take};
 ghost use Rattle.refusal.specs.Numbers.{numberOf};
 ghost use Rattle.emit.specs.Emits.{Emits};
-ghost use Rattle.dtype.specs.Record.{entry-width, Record};
+ghost use Rattle.dtype.specs.Record.{Record};
 ghost use Rattle.header_prefix.specs.Answer.{versionIs};
 ghost use Rattle.list_text.specs.Listing.{listing};
 ghost use Rattle.header.specs.Reads.{lent};
@@ -77,45 +76,12 @@ fn list_header(h: Header, table: &[u64], names: &[u8], shape: &[u64], out: &mut 
     list_record::list(
         version,
         start,
-        table_of(table, info.entries),
-        names_of(names, info.names),
-        shape_of(shape, info.rank),
+        read_back::table_of(table, info.entries),
+        read_back::names_of(names, info.names),
+        read_back::shape_of(shape, info.rank),
         order,
         out,
     )
-}
-
-// The entries at the front of their room.
-fn table_of(table: &[u64], entries: usize) -> &[u64]
-    ensures { λ r. ⌜ now r ≡ take (entry-width * entries) (now (table .entry)) ⌝ }
-{
-    if entries <= table.len() / dtype::ENTRY {
-        return &table[..dtype::ENTRY * entries];
-    }
-    // not reached by the only caller: the header was stored in this room
-    table
-}
-
-// The name bytes at the front of their room.
-fn names_of(names: &[u8], bytes: usize) -> &[u8]
-    ensures { λ r. ⌜ now r ≡ take bytes (now (names .entry)) ⌝ }
-{
-    if bytes <= names.len() {
-        return &names[..bytes];
-    }
-    // not reached by the only caller: the header was stored in this room
-    names
-}
-
-// The dimensions at the front of their room.
-fn shape_of(shape: &[u64], rank: usize) -> &[u64]
-    ensures { λ r. ⌜ now r ≡ take rank (now (shape .entry)) ⌝ }
-{
-    if rank <= shape.len() {
-        return &shape[..rank];
-    }
-    // not reached by the only caller: the header was stored in this room
-    shape
 }
 
 // Puts `refused` and the number: the text is measured on a scratch byte, and put where there is room.

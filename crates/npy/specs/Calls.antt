@@ -1,4 +1,4 @@
--- What each function of the C interface owes: the definitions of the crates below, as 0 and values or as document 01's number alone. An order, a version and a
+-- What each function of the C interface owes: the definitions of the crates below, as 0 and values or as the refusal's number alone. An order, a version and a
 -- type are given by numbers; a number that names none is refused before anything else, by 27 or, a version, by 2. Document 01, "The refusal numbers": "Each returns
 -- its number only; every lent buffer stays unchanged. On success, room beyond what was needed is unchanged."
 use Prim.Native.Nat.{ℕ}

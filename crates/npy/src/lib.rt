@@ -1,6 +1,7 @@
 // The C interface (include/npy.h): each function calls one function of the crates below and returns its answer as numbers. Called from C, and by run_npy, run_header and claims.
-// It returns 0 and writes its values, or returns document 01's number and leaves all that it was lent as it was. Orders, versions and types are given by their numbers, and any
-// number is an input. (A refusal::Refusal is returned as its number; a type has a type_letters::Endianness, a type_letters::TypeChar and a type_units::TimeUnits.)
+// It returns 0 and writes its values, or returns the refusal's number and leaves all that it was lent as it was. Orders, versions and types are given by their numbers, and any
+// number is an input. (A refusal::Refusal is returned as its number; a type has a type_letters::Endianness, a type_letters::TypeChar and a type_units::TimeUnits, a value a value_float::Single or a
+// value_float::Double.)
 use counts::Bytes;
 use header_prefix::Version;
 use npy_codes::OrderGiven;
@@ -14,10 +15,12 @@ ghost use Rattle.check_record.specs.Checked.{checkedRecord};
 ghost use Rattle.place_item.specs.Item.{itemOf};
 ghost use Rattle.place.specs.Place.{placeOf};
 ghost use Rattle.string_value.specs.Rooms.{readBytes, readPoints, writeBytes, writePoints};
-ghost use Rattle.element.specs.Element.{elementBytes, elementPoints};
+ghost use Rattle.value.specs.Values.{readValue};
+ghost use Rattle.element.specs.Element.{elementBytes, elementPoints, elementValue};
 ghost use Rattle.header_prefix.specs.Answer.{versionIs};
 ghost use Rattle.header.specs.Reads.{lent};
 ghost use Rattle.npy_codes.specs.Codes.{Returns, oneNumber, orderFor, typeFor, typeValues, summaryValues, runValues};
+ghost use Rattle.npy_codes.specs.Values.{valueValues};
 ghost use Rattle.npy.specs.Calls.{ReadsInC, ReadsHeldInC, ReadsTextInC, WritesInC, ListsInC, ListsAsInC, StridesInC, PrintsInC, Puts};
 
 // The header of a file. Its record goes to the three lent rooms; `said` is its version, order, rank, entries, name bytes and where the data starts.
@@ -275,6 +278,30 @@ pub extern "C" fn npy_element_points(
     }
 }
 
+// The value of the element at its place in a file; `said` is its kind, its bits as two numbers, and its units.
+#[no_mangle]
+pub extern "C" fn npy_element_value(
+    file: &[u8],
+    start: u64,
+    table: &[u64],
+    names: &[u8],
+    shape: &[u64],
+    order: u64,
+    index: &[u64],
+    path: &[u64],
+    said: &mut [u64; 4],
+) -> u8
+    ensures { λ r. ⌜ Returns valueValues (then (orderFor order) (λ o. elementValue (now (file .entry)) start (now (table .entry)) (now (names .entry)) (now (shape .entry)) o (now (index .entry)) (now (path .entry)))) (now (said .entry)) r (now (said .exit)) ⌝ }
+{
+    match npy_codes::order_for(order) {
+        OrderGiven::Is(o) => npy_codes::return_value(
+            element::read_value(file, Bytes(start), table, names, shape, o, index, path),
+            said,
+        ),
+        OrderGiven::Refused(why) => why.number(),
+    }
+}
+
 // The element S or V in a run of bytes, at the front of `out`; `count` is how many bytes were written.
 #[no_mangle]
 pub extern "C" fn npy_read_bytes(
@@ -315,6 +342,24 @@ pub extern "C" fn npy_read_points(
             string_element::read_points(run, t, out),
             count,
         ),
+        TypeRead::Refused(why) => why.number(),
+    }
+}
+
+// The value in a run of bytes; `said` is its kind, its bits as two numbers, and its units.
+#[no_mangle]
+pub extern "C" fn npy_read_value(
+    run: &[u8],
+    order: u64,
+    letter: u64,
+    size: u64,
+    units: u64,
+    said: &mut [u64; 4],
+) -> u8
+    ensures { λ r. ⌜ Returns valueValues (then (typeFor order letter size units) (λ t. readValue t (now (run .entry)))) (now (said .entry)) r (now (said .exit)) ⌝ }
+{
+    match npy_codes::type_for(order, letter, size, units) {
+        TypeRead::Read(t) => npy_codes::return_value(value::read(run, t), said),
         TypeRead::Refused(why) => why.number(),
     }
 }

@@ -1,3 +1,6 @@
+mod Complement
+pub mod Said
+pub mod ValueEdges
 pub mod Returned
 mod Given
 pub mod Then

@@ -1,4 +1,4 @@
--- How an outcome is returned in C: 0 and its values, or document 01's number, with the room for the values as it was. Document 01, "The refusal numbers": "Each returns
+-- How an outcome is returned in C: 0 and its values, or the refusal's number, with the room for the values as it was. Document 01, "The refusal numbers": "Each returns
 -- its number only; every lent buffer stays unchanged."
 -- The numbers of the C interface: how a caller names an order, a version and a type, and the values of each answer. An order is 0 for C and 1 for Fortran; a version is its major byte; a type is the four numbers of
 -- its entry in the dtype table. A number that names none is refused: an order or a type with 27, document 01's "caller's record or type that no reading gives"; a version

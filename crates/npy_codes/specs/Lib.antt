@@ -1,2 +1,4 @@
 pub mod Codes
+pub mod Values
+pub mod ValueEdges
 pub mod Given

@@ -1,4 +1,4 @@
-// The numbers of the C interface: what a caller's number for an order, a version or a type names, and each answer as 0 and its values or as document 01's number alone.
+// The numbers of the C interface: what a caller's number for an order, a version or a type names, and each answer as 0 and its values or as the refusal's number alone.
 // Crate npy calls these.
 use check_record::Checked;
 use check_record::ItemSize;
@@ -17,14 +17,21 @@ use refusal::PointsAnswer;
 use refusal::Refusal;
 use table_entry::EntryType;
 use type_str::TypeRead;
+use value::Value;
+use value::ValueAnswer;
 ghost use mathlib.Core.Path.{_≡_};
+ghost use mathlib.Core.Bool.{cond};
 ghost use Rattle.refusal.specs.Answers.{itemsAnswer, bytesAnswer, pointsAnswer};
 ghost use Rattle.record.specs.Prefix.{versionOf};
 ghost use Rattle.type_str.specs.Answer as typed;
 ghost use Rattle.check_record.specs.Answer as checked;
 ghost use Rattle.place.specs.Answer as placed;
 ghost use Rattle.header.specs.Reads as header;
+ghost use Rattle.value.specs.Values.{mostOf};
+ghost use Rattle.value.specs.Stored.{complement};
+ghost use Rattle.value.specs.Answer.{valueAnswer};
 ghost use Rattle.npy_codes.specs.Codes.{Returns, oneNumber, orderNumber, orderFor, typeFor, typeValues, textValues, headerValues, summaryValues, runValues};
+ghost use Rattle.npy_codes.specs.Values.{fourNumbers, valueNumbers, valueValues};
 ghost use Rattle.npy_codes.specs.Given.{orderGiven, versionGiven};
 
 // An order that a caller gives by its number.
@@ -37,6 +44,14 @@ pub enum OrderGiven {
 pub enum VersionGiven {
     Is(Version),
     Refused(Refusal),
+}
+
+// The four numbers of a value.
+pub struct ValueNumbers {
+    pub kind: u64,
+    pub first: u64,
+    pub second: u64,
+    pub units: u64,
 }
 
 // The order that a number names: 0 is C, 1 is Fortran.
@@ -238,5 +253,64 @@ pub fn return_place(a: Placed, said: &mut [u64; 6]) -> u8
             0
         }
         Placed::Refused(why) => why.number(),
+    }
+}
+
+// Writes the four numbers of a value to `said` and returns 0, or returns the refusal's number.
+pub fn return_value(a: ValueAnswer, said: &mut [u64; 4]) -> u8
+    ensures { λ r. ⌜ Returns valueValues (valueAnswer a) (now (said .entry)) r (now (said .exit)) ⌝ }
+{
+    match a {
+        ValueAnswer::Is(v) => {
+            let n = value_numbers(v);
+            *said = [n.kind, n.first, n.second, n.units];
+            0
+        }
+        ValueAnswer::Refused(why) => why.number(),
+    }
+}
+
+// The four numbers of a value: which kind it is, its bits (of a pair in two numbers), its units. (A float is a value_float::Single or a value_float::Double, units are a
+// type_units::TimeUnits.)
+fn value_numbers(v: Value) -> ValueNumbers
+    ensures { λ r. ⌜ r ≡ valueNumbers v ⌝ }
+{
+    match v {
+        Value::Bool(b) => numbers(0, bit(b), 0, 0),
+        Value::Signed(z) => numbers(1, twos_complement(z), 0, 0),
+        Value::Unsigned(n) => numbers(2, n, 0, 0),
+        Value::Single(x) => numbers(3, x.bits as u64, 0, 0),
+        Value::Double(x) => numbers(4, x.bits, 0, 0),
+        Value::SinglePair(x, y) => numbers(5, x.bits as u64, y.bits as u64, 0),
+        Value::DoublePair(x, y) => numbers(6, x.bits, y.bits, 0),
+        Value::Time(z, u) => numbers(7, twos_complement(z), 0, table_entry::units_number(u)),
+    }
+}
+
+fn numbers(kind: u64, first: u64, second: u64, units: u64) -> ValueNumbers
+    ensures { λ r. ⌜ r ≡ fourNumbers kind first second units ⌝ }
+{
+    ValueNumbers {
+        kind,
+        first,
+        second,
+        units,
+    }
+}
+
+fn bit(b: bool) -> u64
+    ensures { λ r. ⌜ r ≡ cond b 1 0 ⌝ }
+{
+    if b { 1 } else { 0 }
+}
+
+// The two's complement of a number in 64 bits.
+fn twos_complement(z: i64) -> u64
+    ensures { λ r. ⌜ r ≡ complement (mostOf 8) z ⌝ }
+{
+    if z < 0 {
+        u64::MAX - ((-1 - z) as u64)
+    } else {
+        z as u64
     }
 }

@@ -1,2 +1,4 @@
 pub mod Accepted
 pub mod Rooms
+pub mod Held
+pub mod Outcomes

@@ -1,4 +1,4 @@
--- THE NUMBERS OF A READING'S REFUSALS ARE DOCUMENT 01'S, 1 to `last-number`: along the composition of each definition, by one law for each way of composing outcomes.
+-- THE NUMBERS OF A READING'S REFUSALS ARE FROM 1 TO `last-number`: along the composition of each definition, by one law for each way of composing outcomes.
 use Prim.Native.Nat.{ℕ, zero, suc, _^_}
 use mathlib.Core.Path.{_≡_, refl}
 use mathlib.Core.Bool.{Bool, true, false, cond, not, _&&_, _||_}
@@ -34,7 +34,7 @@ use Rattle.record.specs.Prefix.{Version, one-zero, two-zero, three-zero,
 use Rattle.record.specs.Rooms.{Rooms, needs, tooSmall}
 use Rattle.record.specs.Header.{Reading, valueRead, recordIn, stored}
 
--- one of document 01's numbers
+-- one of the numbers
 abbrev pub Number : ℕ → Type 0
 Number n = (leb 1 n ≡ true) × (leb n last-number ≡ true)
 

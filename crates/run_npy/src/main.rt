@@ -146,7 +146,7 @@ fn front(numbers: &[u64], count: usize) -> &[u64] {
     &numbers[..end]
 }
 
-// ---- the calls, by what is lent: three rooms for a record; only the values; a room of numbers, bytes or code points
+// ---- the calls, by what is lent: three rooms for a record; a room of numbers, bytes or code points; only the values
 
 fn ask(
     op: u8,
@@ -160,12 +160,25 @@ fn ask(
 ) {
     if op < 3 {
         lend_record(op, given, bytes);
-        return;
-    }
-    if op > 5 {
+    } else if op < 6 {
+        lend_values(op, given, bytes, table, names, shape, index, path);
+    } else if op < 18 {
         lend_room(op, given, bytes, table, names, shape, index, path);
-        return;
+    } else {
+        lend_value(op, given, bytes, table, names, shape, index, path);
     }
+}
+
+fn lend_values(
+    op: u8,
+    given: &[u64; 7],
+    bytes: &[u8],
+    table: &[u64],
+    names: &[u8],
+    shape: &[u64],
+    index: &[u64],
+    path: &[u64],
+) {
     let a = given[0];
     let b = given[1];
     let c = given[2];
@@ -184,6 +197,29 @@ fn ask(
             tell6(r, &six);
         }
     }
+}
+
+// The value of an element, at a place or in a run of bytes.
+fn lend_value(
+    op: u8,
+    given: &[u64; 7],
+    bytes: &[u8],
+    table: &[u64],
+    names: &[u8],
+    shape: &[u64],
+    index: &[u64],
+    path: &[u64],
+) {
+    let a = given[0];
+    let b = given[1];
+    let c = given[2];
+    let d = given[3];
+    let mut said = [5u64; 4];
+    let r = match op {
+        18 => npy::npy_element_value(bytes, b, table, names, shape, a, index, path, &mut said),
+        _ => npy::npy_read_value(bytes, a, b, c, d, &mut said),
+    };
+    tell4(r, &said);
 }
 
 fn lend_record(op: u8, given: &[u64; 7], bytes: &[u8]) {

@@ -11,6 +11,8 @@ use Rattle.dtype.specs.Agrees.{entryAt}
 use Rattle.table_entry.specs.EntryType.{typeOf}
 use Rattle.table_entry.specs.Answer.{typeAnswer}
 use Rattle.table_entry.specs.declared.EntryType.{EntryType}
+use Rattle.type_units.specs.declared.TimeUnits.{TimeUnits}
+use Rattle.dtype.specs.TypeNumbers.{unitsNumber}
 use Rattle.dtype.specs.Dtype.{plain}
 use Rattle.dtype.specs.EntryOf.{entryOf}
 
@@ -31,3 +33,6 @@ type-of-one e = by-inverse typeAnswer type-back type-same (typeOf e)
 
 pub plain-entry-one : (t : TypeStr) (up m : ℕ) → OneOutcome {A = Entry} (λ r. r ≡ entryOf (plain t) up m)
 plain-entry-one t up m = by-equation (entryOf (plain t) up m)
+
+pub units-number-one : (u : TimeUnits) → OneOutcome {A = ℕ} (λ n. n ≡ unitsNumber u)
+units-number-one u = by-equation (unitsNumber u)

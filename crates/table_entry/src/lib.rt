@@ -154,7 +154,7 @@ pub fn plain_entry(t: TypeStr, parent: u64, name: u64) -> Entry
 }
 
 // 0 for no units, then from 1 on in document 01's order.
-fn units_number(u: TimeUnits) -> u64
+pub fn units_number(u: TimeUnits) -> u64
     ensures { λ r. ⌜ r ≡ unitsNumber u ⌝ }
 {
     match u {

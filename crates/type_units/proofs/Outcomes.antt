@@ -2,12 +2,12 @@
 use Prim.Native.Nat.{ℕ, _^_, _<_}
 use mathlib.Core.Path.{_≡_, refl}
 use mathlib.Core.Bool.{Bool}
-use mathlib.Core.List.{List}
+use mathlib.Core.List.{List, _++_}
 use Rattle.counts.specs.OneOutcome.{OneOutcome}
 use Rattle.counts.proofs.OneOutcome.{by-equation, by-inverse}
 use Rattle.emit.specs.Emits.{Emits}
 use Rattle.emit.proofs.Outcomes.{emits-one}
-use Rattle.type_units.specs.Units.{unitText, isAbsent, unitsOf}
+use Rattle.type_units.specs.Units.{unitName, unitText, isAbsent, unitsOf}
 use Rattle.type_units.specs.declared.TimeUnits.{TimeUnits}
 use Rattle.counts.specs.Outcome.{Outcome, gives, refused}
 use Rattle.type_units.specs.Answer.{unitsAnswer}
@@ -18,6 +18,9 @@ is-absent-one u = by-equation (isAbsent u)
 
 pub units-put-one : (u : TimeUnits) (old : List ℕ) (at : ℕ) → OneOutcome {A = List ℕ × ℕ} (λ r. Emits (unitText u) old at (r .0) (r .1) × (r .1 < 2 ^ 64))
 units-put-one u = emits-one (unitText u)
+
+pub units-put-name-one : (u : TimeUnits) (old : List ℕ) (at : ℕ) → OneOutcome {A = List ℕ × ℕ} (λ r. Emits (λ x. unitName u ++ x) old at (r .0) (r .1) × (r .1 < 2 ^ 64))
+units-put-name-one u = emits-one (λ x. unitName u ++ x)
 
 -- the result with a given outcome
 units-back : Outcome TimeUnits → UnitsRead

@@ -4,7 +4,7 @@ ghost use mathlib.Core.Path.{_≡_};
 ghost use lib.ListN.{getD};
 ghost use Rattle.emit.specs.Emits.{Emits};
 ghost use Rattle.type_units.specs.Units.{unitName, isOne, unitText, isAbsent, unitsOf};
-ghost use mathlib.Core.List.{[], _∷_};
+ghost use mathlib.Core.List.{[], _∷_, _++_};
 ghost use Rattle.type_units.specs.Answer.{unitsAnswer};
 
 // Y M W D h m s ms us ns ps fs as, in this order, after none at all.
@@ -47,12 +47,23 @@ impl TimeUnits {
         if self.is_absent() {
             return at;
         }
-        let after_open = emit::put(out, at, b'[');
-        let after_letter = emit::put(out, after_open, self.first_letter());
-        if self.is_one_letter() {
-            return emit::put(out, after_letter, b']');
+        let inside = emit::put(out, at, b'[');
+        let after_name = self.put_name(out, inside);
+        emit::put(out, after_name, b']')
+    }
+
+    // Writes the name of the units, nothing if absent, and returns the place after it.
+    pub fn put_name(self, out: &mut [u8], at: usize) -> usize
+        ensures { λ r. ⌜ Emits (λ x. unitName self ++ x) (now (out .entry)) at (now (out .exit)) r ⌝ }
+    {
+        if self.is_absent() {
+            return at;
         }
-        emit::put_bytes(out, after_letter, b"s]")
+        let after_letter = emit::put(out, at, self.first_letter());
+        if self.is_one_letter() {
+            return after_letter;
+        }
+        emit::put(out, after_letter, b's')
     }
 
     fn first_letter(self) -> u8

@@ -1,0 +1,7 @@
+mod Pieces
+pub mod Signed
+mod Values
+mod Strings
+mod Lines
+pub mod Enough
+pub mod Outcomes

@@ -1,0 +1,4 @@
+pub mod Hexadecimal
+pub mod Floats
+pub mod Text
+pub mod Puts

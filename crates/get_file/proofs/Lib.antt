@@ -1,0 +1,4 @@
+mod Lists
+mod Finds
+pub mod Inside
+pub mod Outcomes

@@ -1,0 +1,7 @@
+mod Complement
+pub mod Runs
+pub mod Forms
+pub mod Stored
+pub mod Sorts
+pub mod Edges
+pub mod Outcomes
