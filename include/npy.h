@@ -128,15 +128,15 @@ enum npy_value_said {
     NPY_VALUE_SAID = 4        /* how many there are */
 };
 enum npy_value_kind {
-    NPY_VALUE_BOOL = 0,       /* 0 or 1 */
-    NPY_VALUE_SIGNED = 1,     /* two's complement in 64 bits: (int64_t)said[NPY_VALUE_FIRST] */
-    NPY_VALUE_UNSIGNED = 2,
-    NPY_VALUE_SINGLE = 3,     /* the 32 bits of a float; of a half float ('f2') those of the float of the same number, an infinity stays
+    NPY_IS_BOOL = 0,          /* 0 or 1 */
+    NPY_IS_SIGNED = 1,        /* two's complement in 64 bits: (int64_t)said[NPY_VALUE_FIRST] */
+    NPY_IS_UNSIGNED = 2,
+    NPY_IS_SINGLE = 3,        /* the 32 bits of a float; of a half float ('f2') those of the float of the same number, an infinity stays
                                * one, and a NaN has its sign and its ten bits at the top of the fraction */
-    NPY_VALUE_DOUBLE = 4,     /* the 64 bits of a double */
-    NPY_VALUE_SINGLE_PAIR = 5, /* the 32 bits of each part of a complex */
-    NPY_VALUE_DOUBLE_PAIR = 6, /* the 64 bits of each part */
-    NPY_VALUE_TIME = 7        /* a count of units, as NPY_VALUE_SIGNED; NumPy's NaT is the smallest, -2^63 */
+    NPY_IS_DOUBLE = 4,        /* the 64 bits of a double */
+    NPY_IS_SINGLE_PAIR = 5,   /* the 32 bits of each part of a complex */
+    NPY_IS_DOUBLE_PAIR = 6,   /* the 64 bits of each part */
+    NPY_IS_TIME = 7           /* a count of units, as NPY_IS_SIGNED; NumPy's NaT is the smallest, -2^63 */
 };
 
 #ifdef __cplusplus
@@ -203,7 +203,7 @@ uint8_t npy_element_points(const uint8_t *file, size_t file_len, uint64_t start,
                            const uint64_t *path, size_t path_len, uint32_t *out, size_t out_len, uint64_t count[1]);
 
 /* The value of the element at a place: then 31, 32. Either byte order. The bits of a float are those stored, a NaN's sign and payload too; an 'f2' has the bits
- * of the float that it becomes (NPY_VALUE_SINGLE). said: enum npy_value_said. */
+ * of the float that it becomes (NPY_IS_SINGLE). said: enum npy_value_said. */
 uint8_t npy_element_value(const uint8_t *file, size_t file_len, uint64_t start, const uint64_t *table, size_t table_len, const uint8_t *names,
                           size_t names_len, const uint64_t *shape, size_t shape_len, uint64_t order, const uint64_t *index, size_t index_len,
                           const uint64_t *path, size_t path_len, uint64_t said[NPY_VALUE_SAID]);

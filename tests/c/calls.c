@@ -185,16 +185,16 @@ static int is_refused(const char *text, const char *run, size_t n, uint8_t refus
 }
 
 static void values(void) {
-    IS(is_value("|b1", "\0", 1, NPY_VALUE_BOOL, 0, 0, 0) && is_value("<b1", "\1", 1, NPY_VALUE_BOOL, 1, 0, 0));
-    IS(is_value("|i1", "\xff", 1, NPY_VALUE_SIGNED, UINT64_MAX, 0, 0) && is_value("|u1", "\xff", 1, NPY_VALUE_UNSIGNED, 255, 0, 0));
-    IS(is_value("<i2", "\0\x80", 2, NPY_VALUE_SIGNED, UINT64_MAX - 32767, 0, 0) && is_value(">i2", "\0\x80", 2, NPY_VALUE_SIGNED, 128, 0, 0));
-    IS(is_value("<u8", "\1\2\3\4\5\6\7\x80", 8, NPY_VALUE_UNSIGNED, 0x8007060504030201, 0, 0) && is_value(">i8", "\x80\0\0\0\0\0\0\0", 8, NPY_VALUE_SIGNED, 1ull << 63, 0, 0));
-    IS(is_value("<f2", "\0\x3c", 2, NPY_VALUE_SINGLE, 0x3F800000, 0, 0) && is_value("<f4", "\0\0\x80\x3f", 4, NPY_VALUE_SINGLE, 0x3F800000, 0, 0));
-    IS(is_value(">f2", "\x7c\1", 2, NPY_VALUE_SINGLE, 0x7F802000, 0, 0) && is_value(">f2", "\0\1", 2, NPY_VALUE_SINGLE, 0x33800000, 0, 0) && is_value("<f2", "\0\x80", 2, NPY_VALUE_SINGLE, 0x80000000, 0, 0));
-    IS(is_value(">f4", "\xff\x80\0\1", 4, NPY_VALUE_SINGLE, 0xFF800001, 0, 0) && is_value(">f8", "\x7f\xf0\0\0\0\0\0\1", 8, NPY_VALUE_DOUBLE, 0x7FF0000000000001, 0, 0));
-    IS(is_value(">c8", "\0\1\2\3\4\5\6\7", 8, NPY_VALUE_SINGLE_PAIR, 0x00010203, 0x04050607, 0) && is_value("<c8", "\0\1\2\3\4\5\6\7", 8, NPY_VALUE_SINGLE_PAIR, 0x03020100, 0x07060504, 0));
-    IS(is_value(">c16", "\0\1\2\3\4\5\6\7\x8\x9\xa\xb\xc\xd\xe\xf", 16, NPY_VALUE_DOUBLE_PAIR, 0x0001020304050607, 0x08090A0B0C0D0E0F, 0));
-    IS(is_value("<M8[us]", "\xff\xff\xff\xff\xff\xff\xff\xff", 8, NPY_VALUE_TIME, UINT64_MAX, 0, 9) && is_value(">m8[as]", "\0\0\0\0\0\0\0\7", 8, NPY_VALUE_TIME, 7, 0, 13));
+    IS(is_value("|b1", "\0", 1, NPY_IS_BOOL, 0, 0, 0) && is_value("<b1", "\1", 1, NPY_IS_BOOL, 1, 0, 0));
+    IS(is_value("|i1", "\xff", 1, NPY_IS_SIGNED, UINT64_MAX, 0, 0) && is_value("|u1", "\xff", 1, NPY_IS_UNSIGNED, 255, 0, 0));
+    IS(is_value("<i2", "\0\x80", 2, NPY_IS_SIGNED, UINT64_MAX - 32767, 0, 0) && is_value(">i2", "\0\x80", 2, NPY_IS_SIGNED, 128, 0, 0));
+    IS(is_value("<u8", "\1\2\3\4\5\6\7\x80", 8, NPY_IS_UNSIGNED, 0x8007060504030201, 0, 0) && is_value(">i8", "\x80\0\0\0\0\0\0\0", 8, NPY_IS_SIGNED, 1ull << 63, 0, 0));
+    IS(is_value("<f2", "\0\x3c", 2, NPY_IS_SINGLE, 0x3F800000, 0, 0) && is_value("<f4", "\0\0\x80\x3f", 4, NPY_IS_SINGLE, 0x3F800000, 0, 0));
+    IS(is_value(">f2", "\x7c\1", 2, NPY_IS_SINGLE, 0x7F802000, 0, 0) && is_value(">f2", "\0\1", 2, NPY_IS_SINGLE, 0x33800000, 0, 0) && is_value("<f2", "\0\x80", 2, NPY_IS_SINGLE, 0x80000000, 0, 0));
+    IS(is_value(">f4", "\xff\x80\0\1", 4, NPY_IS_SINGLE, 0xFF800001, 0, 0) && is_value(">f8", "\x7f\xf0\0\0\0\0\0\1", 8, NPY_IS_DOUBLE, 0x7FF0000000000001, 0, 0));
+    IS(is_value(">c8", "\0\1\2\3\4\5\6\7", 8, NPY_IS_SINGLE_PAIR, 0x00010203, 0x04050607, 0) && is_value("<c8", "\0\1\2\3\4\5\6\7", 8, NPY_IS_SINGLE_PAIR, 0x03020100, 0x07060504, 0));
+    IS(is_value(">c16", "\0\1\2\3\4\5\6\7\x8\x9\xa\xb\xc\xd\xe\xf", 16, NPY_IS_DOUBLE_PAIR, 0x0001020304050607, 0x08090A0B0C0D0E0F, 0));
+    IS(is_value("<M8[us]", "\xff\xff\xff\xff\xff\xff\xff\xff", 8, NPY_IS_TIME, UINT64_MAX, 0, 9) && is_value(">m8[as]", "\0\0\0\0\0\0\0\7", 8, NPY_IS_TIME, 7, 0, 13));
     IS(is_refused("|b1", "\2", 1, NPY_BOOL_BYTE) && is_refused(">b1", "\xff", 1, NPY_BOOL_BYTE) && is_refused("|b1", "\2\2", 2, NPY_NO_READING) && is_refused("<i4", "abc", 3, NPY_NO_READING));
     IS(is_refused("|S1", "a", 1, NPY_NO_VALUE) && is_refused("<U1", "a\0\0", 4, NPY_NO_VALUE) && is_refused("|V1", "a", 1, NPY_NO_VALUE) && is_refused("|O", "", 0, NPY_NO_VALUE));
     IS(is_refused("<f16", "", 0, NPY_NO_VALUE) && is_refused(">c32", "", 0, NPY_NO_VALUE));
@@ -213,9 +213,9 @@ static void values_at_places(void) {
     mark();
     IS(npy_read_text((const uint8_t *)text, sizeof text - 1, now.table, 5 * NPY_ENTRY, now.names, 3, now.shape, 1, said) == 0 && said[NPY_TEXT_ENTRIES] == 5 && length == 15);
 #define MIXED now.table, 5 * NPY_ENTRY, now.names, 3, now.shape, 1
-    IS(npy_element_value(file, length, 3, MIXED, 0, index, 1, path, 1, said) == 0 && said[NPY_VALUE_KIND] == NPY_VALUE_BOOL && said[NPY_VALUE_FIRST] == 1 && said[NPY_VALUE_SECOND] == 0 && said[NPY_VALUE_UNITS] == 0);
+    IS(npy_element_value(file, length, 3, MIXED, 0, index, 1, path, 1, said) == 0 && said[NPY_VALUE_KIND] == NPY_IS_BOOL && said[NPY_VALUE_FIRST] == 1 && said[NPY_VALUE_SECOND] == 0 && said[NPY_VALUE_UNITS] == 0);
     path[0] = 1;
-    IS(npy_element_value(file, length, 3, MIXED, 0, index, 1, path, 2, said) == 0 && said[NPY_VALUE_KIND] == NPY_VALUE_SIGNED && said[NPY_VALUE_FIRST] == UINT64_MAX - 1 && said[NPY_VALUE_SECOND] == 0);
+    IS(npy_element_value(file, length, 3, MIXED, 0, index, 1, path, 2, said) == 0 && said[NPY_VALUE_KIND] == NPY_IS_SIGNED && said[NPY_VALUE_FIRST] == UINT64_MAX - 1 && said[NPY_VALUE_SECOND] == 0);
     memset(said, 9, sizeof now.said);
     marks = now;
     IS(npy_element_value(file, length, 3, MIXED, 2, index, 1, path, 2, said) == NPY_NO_READING && npy_element_value(file, length, 3, now.table, 5 * NPY_ENTRY - 1, now.names, 3, now.shape, 1, 0, index, 1, path, 2, said) == NPY_NO_READING);

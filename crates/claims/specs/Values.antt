@@ -81,7 +81,7 @@ pub record Values-exact-in-C : Type 0 where
       → Values-exactly (in-c valueValues said) (By-type order letter size units (Value-by-itself run)) (r, said′)
 
 -- "bool (byte 0 or 1), signed, unsigned, a single or double float, a complex pair of either, or a time count with its unit": a value that was returned is of the kind of its type, a number
--- fits the type's size, each float is the one of its bits, and a time has the type's unit; with values, floats and the numbers of values at the edges
+-- is in the range of the type's size, each float is the one of its bits, and a time has the type's unit; with values, floats and the numbers of values at the edges
 pub record Values-sorted : Type 0 where
   pub element-value : (file : List ℕ) (start : ℕ) (t ns s : List ℕ) (o : Order) (x p : List ℕ) (v : Value) → Element-value file start t ns s o x p (ValueAnswer.Is v)
       → (k : TypeStr) (bytes : List ℕ) → Element-is file start t ns s o x p k bytes → ValueSort (k .letter) (k .size) (k .units) v

@@ -1,5 +1,5 @@
 -- The exact text of a float, from its bits (IEEE 754's interchange formats): `-` where the sign bit is set; then `inf`, `nan(0x400000)` with the fraction of the NaN, or the
--- number in hexadecimal, as C's printf has it with %a: `0x1.800000p+3` is 1.5 times 2^3. One definition for all formats. Each text comes before whatever follows.
+-- number in hexadecimal, in the form that C's strtod reads: `0x1.800000p+3` is 1.5 times 2^3. One definition for all formats. Each text comes before whatever follows.
 use Prim.Native.Nat.{ℕ, _+_, _*_, _-_, _/_, _%_, _^_}
 use mathlib.Core.Bool.{cond}
 use mathlib.Core.List.{List, _∷_}

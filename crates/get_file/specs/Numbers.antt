@@ -21,7 +21,7 @@ unfoldable pub listNumbers : (n : ℕ) → List ℕ → List ℕ
 listNumbers n [] = capped n ∷ []
 listNumbers n (b ∷ s) = cond (eqb b 44) (capped n ∷ listNumbers 0 s) (listNumbers (10 * n + (b - 48)) s)
 
--- the numbers of a text; 0, which is no refusal of document 01's, where it is no list
+-- the numbers of a text; 0, which is no refusal of document 01's or 02's, where it is no list
 unfoldable pub numbersFrom : List ℕ → Outcome (List ℕ)
 numbersFrom text = cond (same text (45 ∷ [])) (gives []) (unless (not (isList false text)) 0 (gives (listNumbers 0 text)))
 

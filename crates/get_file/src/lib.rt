@@ -26,10 +26,10 @@ ghost use Rattle.get_file.specs.Found.{foundIn};
 ghost use Rattle.get_file.specs.Numbers.{isList, numbersIn, listedAnswer};
 ghost use Rattle.get_file.specs.Puts.{PutsListed};
 
-// How many numbers of an index are told apart: one more than any shape has dimensions. A longer index is cut to that, which is of wrong length for every shape, as the whole is.
+// How many numbers of an index are kept: one more than any shape has dimensions. A longer index is cut to that, which is of wrong length for every shape, as the whole is.
 pub const INDEX: usize = 33;
 
-// How many numbers of a path are told apart: as many as a table has entries, of which the first is the item's. A longer path is cut to that, which leads nowhere, as the whole does.
+// How many numbers of a path are kept: as many as a table has entries, of which the first is the item's. A longer path is cut to that, which leads nowhere, as the whole does.
 pub const PATH: usize = 512;
 
 // How many numbers were written; or a text that is no list of numbers.

@@ -56,7 +56,7 @@ wide o n (negsuc k) w l = ap (leastFirst o) (low n w k l)
 said-same : (o : Endianness) (l : TypeChar) (n : ℕ) (u : TimeUnits) (v : Value) → allows l n ≡ true → ValueSort l n u v → saidBytes o n (valueNumbers v) ≡ valueBytes o n v
 said-same o Boolean n u v a (b, e) = subst (λ (w : Value). saidBytes o n (valueNumbers w) ≡ valueBytes o n w) (sym e) refl
 said-same o Int n u v a (z, e, l) = subst (λ (w : Value). saidBytes o n (valueNumbers w) ≡ valueBytes o n w) (sym e) (wide o n z a l)
-said-same o Uint n u v a (k, e) = subst (λ (w : Value). saidBytes o n (valueNumbers w) ≡ valueBytes o n w) (sym e) refl
+said-same o Uint n u v a (k, e, l) = subst (λ (w : Value). saidBytes o n (valueNumbers w) ≡ valueBytes o n w) (sym e) refl
 said-same o Floating n u v a (s2, s4, s8, s16) =
     or-elim (eqb n 2 || eqb n 4 || eqb n 8) (eqb n 16) a
     (λ x. or-elim (eqb n 2 || eqb n 4) (eqb n 8) x

@@ -1,5 +1,5 @@
 // Prints the element at a place of the NPY file on standard input: `npy_get INDEX PATH`, each numbers separated by commas, `-` for none. The program reads, calls and writes; which
-// bytes are the element's is get_file's, and what is printed of them element_text's. It holds the file's header and the element, and seeks to both, so the file may be of any size.
+// bytes are the element's is get_file's, and what is printed of them element_text's. It reads the first bytes, which hold the header, and those from the element on, so the file may be of any size.
 // Where it prints nothing to standard output, standard error says why.
 use counts::Bytes;
 use get_file::Listed;
@@ -32,11 +32,11 @@ fn main() {
     let mut index = [0u64; get_file::INDEX];
     let mut path = [0u64; get_file::PATH];
     let Listed::Are(rank) = argument(1, &mut index) else {
-        say(b"npy-get: INDEX is not numbers separated by commas, or `-`\n");
+        say(b"npy-get: INDEX is not numbers separated by commas, or `-`, or is too long\n");
         return;
     };
     let Listed::Are(depth) = argument(2, &mut path) else {
-        say(b"npy-get: PATH is not numbers separated by commas, or `-`\n");
+        say(b"npy-get: PATH is not numbers separated by commas, or `-`, or is too long\n");
         return;
     };
     print_element(&index[..rank], &path[..depth]);
@@ -65,10 +65,23 @@ fn print_element(index: &[u64], path: &[u64]) {
     let mut file = [0u8; HELD];
     let held = io::read_full(STDIN_FILENO, &mut file);
     let bytes = length as u64;
+    if is_cut(held, bytes) {
+        say(b"npy-get: the file could not be read, or was cut while it was read\n");
+        return;
+    }
     let longer = (HELD as u64) < bytes;
     match get_file::find(&file[..held], longer, Bytes(bytes), index, path) {
         Placed::At(run) => print_run(run),
         Placed::Refused(why) => print_refused(why),
+    }
+}
+
+// Whether fewer bytes were read than are there to be held.
+fn is_cut(held: usize, bytes: u64) -> bool {
+    if held < HELD {
+        (held as u64) < bytes
+    } else {
+        false
     }
 }
 
@@ -89,7 +102,7 @@ fn print_run(run: Run) {
     libc::lseek(STDIN_FILENO, first.0 as i64, libc::SEEK_SET);
     let mut element = [0u8; ELEMENT];
     if io::read_full(STDIN_FILENO, &mut element) < count {
-        say(b"npy-get: the file was cut while it was read\n");
+        say(b"npy-get: the file could not be read, or was cut while it was read\n");
         return;
     }
     print_line(&element[..count], kind);

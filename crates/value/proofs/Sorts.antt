@@ -13,6 +13,7 @@ use Rattle.counts.specs.Lists.{AllBytes}
 use Rattle.counts.specs.Outcome.{Outcome, gives, unless}
 use Rattle.counts.proofs.Apart.{gives-apart, refused-gives}
 use Rattle.number_bytes.specs.Numbers.{inOrder}
+use Rattle.number_bytes.proofs.Widths.{in-below}
 use Rattle.type_str.specs.Rules.{allows}
 use Rattle.type_str.specs.declared.TypeStr.{TypeStr}
 use Rattle.type_str.specs.Text.{isType}
@@ -53,7 +54,7 @@ module _ (o : Endianness) (u : TimeUnits) (run : List ℕ) (bytes : AllBytes run
       go true h = refused-gives h
       go false h = (eqb (inOrder o run) 1, sym (gives-apart h))
   sort-by Int n a e h = (signedIn o run, sym (gives-apart h), signed-within n e a)
-  sort-by Uint n a e h = (inOrder o run, sym (gives-apart h))
+  sort-by Uint n a e h = (inOrder o run, sym (gives-apart h), subst (λ (k : ℕ). inOrder o run < 256 ^ k) e (in-below o run bytes))
   sort-by Floating n a e h = (
     λ k. (halfOf (inOrder o run), sym (gives-apart (at k)), half-becomes (inOrder o run) .of-bits),
     λ k. (singleOf (inOrder o run), sym (gives-apart (at k)), refl),

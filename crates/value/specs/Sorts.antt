@@ -28,7 +28,7 @@ OfBits64 x = x .number ≡ ofBits binary64 (x .bits)
 abbrev pub ValueSort : TypeChar → (size : ℕ) → TimeUnits → Value → Type 0
 ValueSort Boolean n u v = (b : Truth) × (v ≡ Value.Bool b)
 ValueSort Int n u v = (z : ℤ) × (v ≡ Value.Signed z) × InSize n z
-ValueSort Uint n u v = (k : ℕ) × (v ≡ Value.Unsigned k)
+ValueSort Uint n u v = (k : ℕ) × (v ≡ Value.Unsigned k) × (k < 256 ^ n)
 ValueSort Floating n u v =
     (n ≡ 2 → (x : Single) × (v ≡ Value.Single x) × OfBits32 x) × (n ≡ 4 → (x : Single) × (v ≡ Value.Single x) × OfBits32 x) × (n ≡ 8 → (x : Double) × (v ≡ Value.Double x) × OfBits64 x) × (n ≡ 16 → ⊥)
 ValueSort Complex n u v =

@@ -1,6 +1,6 @@
 // The value of an element, from its bytes and its type (document 02, wish 1): a bool, an integer, a float or a pair of them with their exact bits, or a time count with its unit;
-// or 27 for a type that no reading gives, 31 for one without values, 27 for bytes that are not as many as the type's, 32 for a bool byte above 1. Called by element and
-// by the C interface.
+// or 27 for a type that no reading gives, 31 for one without values, 27 for bytes that are not as many as the type's, 32 for a bool byte above 1. Called by element,
+// element_text and the C interface.
 use counts::Number;
 use refusal::Refusal;
 use type_letters::Endianness;

@@ -6,7 +6,7 @@ ghost use lib.Ieee.Exact.{HasValue};
 ghost use Rattle.value_float.specs.Floats.{singleOf, doubleOf};
 ghost use Rattle.value_float.specs.Half.{signBits, digits, shift, scaled, nearestSingle, halfOf};
 
-// A single float and its 32 bits. The bits come first: a caller that takes them alone then waits for nothing else.
+// A single float and its 32 bits. (Reading a value is quicker with the bits first, docs/BENCHMARKS.md.)
 pub struct Single {
     pub bits: u32,
     pub number: f32,

@@ -28,6 +28,18 @@ read-full-requires c κs = search needs
 cast-bytes : tie.Need-cast-bytes
 cast-bytes c = positive-cast (c .before .before .before .before .before .lseek .result) (record { sfits = c .before .before .before .before .before .lseek .ok }) (c .before .before .before .before .if1 .left)
 
+is-cut-requires : tie.Need-is-cut-requires
+is-cut-requires c κs = search needs
+
+slice-aggregate-say-2 : tie.Need-slice-aggregate-say-2
+slice-aggregate-say-2 c = search needs
+
+say-requires-2 : tie.Need-say-requires-2
+say-requires-2 c κs = search needs
+
+returns-2 : tie.Need-returns-2
+returns-2 c = search needs
+
 array-share-prefix-file : tie.Need-array-share-prefix-file
 array-share-prefix-file c = search needs
 
@@ -49,11 +61,11 @@ enum-known-why c = search needs
 print-refused-requires : tie.Need-print-refused-requires
 print-refused-requires c κs = search needs
 
-returns-2 : tie.Need-returns-2
-returns-2 c = search needs
-
 returns-3 : tie.Need-returns-3
 returns-3 c = search needs
+
+returns-4 : tie.Need-returns-4
+returns-4 c = search needs
 
 pub print-element-spec : {M : Type 1} → statement M
 print-element-spec =
@@ -67,6 +79,10 @@ print-element-spec =
     slice-aggregate-read-full
     read-full-requires
     cast-bytes
+    is-cut-requires
+    slice-aggregate-say-2
+    say-requires-2
+    returns-2
     array-share-prefix-file
     slice-aggregate-find
     find-requires
@@ -74,5 +90,5 @@ print-element-spec =
     print-run-requires
     enum-known-why
     print-refused-requires
-    returns-2
-    returns-3)
+    returns-3
+    returns-4)
