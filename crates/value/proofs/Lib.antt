@@ -1,4 +1,5 @@
 mod Complement
+pub mod Signs
 pub mod Runs
 pub mod Forms
 pub mod Stored

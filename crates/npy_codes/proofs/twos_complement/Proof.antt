@@ -1,19 +1,20 @@
 -- `npy_codes::twos_complement` meets its contract: nothing is over 64 bits on the way.
-use Rattle.npy_codes.proofs.Complement.{left-fits, left-natural, left-most, below-complement, natural, same-complement}
+use Rattle.value.proofs.Signs.{magnitude-fits, magnitude-cast, positive-cast}
+use Rattle.npy_codes.proofs.Complement.{below-most, below-complement, same-complement}
 use Rattle.npy_codes.proofs.twos_complement.Statement.{statement}
 use Rattle.npy_codes.proofs.twos_complement.Tie as tie
 
 sub-result : tie.Need-sub-result
-sub-result c = left-fits (c .before .args .z) (c .before .fits .z) (c .if1 .taken)
+sub-result c = magnitude-fits (c .before .args .z) (c .before .fits .z) (c .if1 .taken)
 
 cast-result : tie.Need-cast-result
-cast-result c = left-natural (c .before .args .z) (c .before .fits .z) (c .if1 .taken)
+cast-result c = magnitude-cast (c .before .args .z) (c .before .fits .z) (c .if1 .taken)
 
 sub-result-2 : tie.Need-sub-result-2
-sub-result-2 c = left-most (c .before .args .z) (c .before .fits .z) (c .if1 .taken)
+sub-result-2 c = below-most (c .before .args .z) (c .before .fits .z) (c .if1 .taken)
 
 cast-result-2 : tie.Need-cast-result-2
-cast-result-2 c = natural (c .before .args .z) (c .before .fits .z) (c .if1 .left)
+cast-result-2 c = positive-cast (c .before .args .z) (c .before .fits .z) (c .if1 .left)
 
 returns : tie.Need-returns
 returns c = below-complement (c .before .args .z) (c .before .fits .z) (c .if1 .taken)
