@@ -17,6 +17,9 @@ KEPT_TEXT = 'Not measured yet.'
 HEAP = {'malloc', 'calloc', 'realloc', 'reallocarray', 'free', 'aligned_alloc', 'posix_memalign', 'memalign', 'valloc', 'pvalloc', 'mmap', 'mmap64', 'mremap', 'brk', 'sbrk', 'strdup', 'strndup',
         '__rust_alloc', '__rust_alloc_zeroed', '__rust_realloc', '__rust_dealloc'}
 MOST_STACK, FASTER_THAN_NUMPY, WITHIN_C, MOST_DOUBLED = 65_536, 100, 1.5, 2.2
+# a header in parts: how it is cut, and what is asked of it
+WAYS = {'feed-whole': 'one part', 'feed-1460': '1,460 bytes', 'feed-16': '16 bytes', 'feed-1': '1 byte'}
+ONE_PART, WITHIN_WHOLE, MORE_STACK = ('flat64', 'flat128'), 1.2, 1_024
 
 
 def lines_of(path):
@@ -53,6 +56,11 @@ def table(head, rows):
     return '\n'.join(['| ' + ' | '.join(head) + ' |', '|' + '---|' * len(head)] + ['| ' + ' | '.join(map(str, row)) + ' |' for row in rows]) + '\n'
 
 
+def feeding_stack(found, name):
+    """The most stack that feeding an input takes, however it is cut."""
+    return max(found['stack'][way][name] for way in WAYS)
+
+
 def goals(found, names):
     """For each goal: its words, what was measured, whether it is met."""
     ours, small = found['ours']['read'], 'small'
@@ -64,11 +72,18 @@ def goals(found, names):
         yield f'{name}: within {WITHIN_C} times of the C reader', f'{ratio:.2f}', ratio <= WITHIN_C
     for name, ratio in found['doubled']['read'].items():
         yield f'{name.removesuffix("128")}: doubling the text takes at most {MOST_DOUBLED} times the time', f'{ratio:.2f}', ratio <= MOST_DOUBLED
+    for name in ONE_PART:
+        ratio = found['ratio']['feed-whole'][name]
+        yield f'{name} in one part: at most {WITHIN_WHOLE} times reading it whole', f'{ratio:.2f}', ratio <= WITHIN_WHOLE
+    ratio = found['doubled']['feed-1']['flat128']
+    yield f'flat byte by byte: doubling the text takes at most {MOST_DOUBLED} times the time', f'{ratio:.2f}', ratio <= MOST_DOUBLED
     for name, ratio in found['ratio']['half'].items():
         yield f'half floats, {name}, converted: within {WITHIN_C} times of plain C', f'{ratio:.2f}', ratio <= WITHIN_C
     for what in ('read', 'write', 'places', 'values'):
         most = max(found['stack'][what].values())
         yield f'stack of {what}: under {MOST_STACK:,} bytes', f'{most:,.0f}', most < MOST_STACK
+    more = max(feeding_stack(found, name) - found['stack']['read'][name] for name in names)
+    yield f'stack of feeding: at most {MORE_STACK:,} bytes more than that of reading the same input', f'{more:,.0f}', more <= MORE_STACK
     asked = found['asks']['symbol']
     yield 'no heap', 'calls ' + (', '.join(sorted(asked)) or 'no outside function'), not HEAP & set(asked)
 
@@ -101,7 +116,7 @@ def page(found, names, judged, kept):
 Written by `bench/run` on {when}, all in one run on one machine: {machine()}. The proved library and the C reader are compiled by clang {tool['clang']} with `bench/flags` (`{flags()}`) for any processor of that kind (`rt staticlib` has flags of its own, and its archive was not measured); npyz 0.9.1 by
 rustc {tool['rustc']} in its release profile; NumPy is {tool['numpy']} on Python {tool['python']}.
 
-A number is the median of 41 samples of some 2 ms (NumPy: 21), in time of the thread itself on the processor. Ours and the C reader are called in turns in one process, and their ratio is the median of the pairs' ratios; so it is for a text and the one of twice its length.
+A number is the median of 41 samples of some 2 ms (NumPy: 21), in time of the thread itself on the processor. Ours and the C reader are called in turns in one process, and their ratio is the median of the pairs' ratios; so it is for a text and the one of twice its length, and for a header in parts and the whole.
 They gave the same answer and the same rooms for each input. The inputs are made by `bench/inputs.py`; `64` and `128` are texts of 65,536 and 131,072 bytes. `–` is where a program does not do that.
 
 The C reader (`bench/plain.c`) reads the text once for UTF-8 and once for everything else; `bench/check-plain` holds it against the recorded answers. npyz hands the literal to a crate that is not among its sources: here its literal is read by our own
@@ -118,6 +133,15 @@ The C reader (`bench/plain.c`) reads the text once for UTF-8 and once for everyt
         rows.append((name, f'{found["found"]["bytes"][name]:,.0f}', f'refused {refused:.0f}' if refused else f'{found["found"]["entries"][name]:.0f}', time_text(mine), time_text(found['plain']['read'][name]),
                      f'{found["ratio"]["read"][name]:.2f}', time_text(npyz['read'].get(name)), times(npyz['read'].get(name), mine), time_text(numpy['read'].get(name)), times(numpy['read'].get(name), mine)))
     yield table(('Input', 'Bytes', 'Entries', 'Ours', 'C reader', 'ours / C', 'npyz', 'npyz / ours', 'NumPy', 'NumPy / ours'), rows)
+    yield '''
+## A header in parts
+
+`npy_feed` of a header in one part and in parts of 1,460, 16 and 1 bytes, from a feeder of zeros and with a text buffer of 131,072 bytes, in turns with `npy_read` of the whole. The ratios are of the time for all parts to the time for the whole. A call with 1 byte: the time for all parts
+by their number, as many as the header has bytes; the last call reads the text. For every input of the tables each of these ways gave the answer, values and rooms of `npy_read`, each part was used whole, and the text buffer had the text and was unchanged after it.
+'''
+    yield table(('Input', 'Bytes', 'Whole', *(f'{way} / whole' for way in WAYS.values()), 'a call with 1 byte'),
+                [(name, f'{found["found"]["bytes"][name]:,.0f}', time_text(whole), *(f'{found["ratio"][way][name]:.2f}' for way in WAYS), f'{ours["feed-1"][name] / found["found"]["bytes"][name]:.1f} ns')
+                 for name, whole in found['whole']['feed-whole'].items()])
     yield '\n## Writing a header\n'
     yield table(('Input', 'Ours', 'npyz', 'npyz / ours', 'NumPy', 'NumPy / ours'),
                 [(name, time_text(mine), time_text(npyz['write'].get(name)), times(npyz['write'].get(name), mine), time_text(numpy['write'].get(name)), times(numpy['write'].get(name), mine))
@@ -148,7 +172,8 @@ All 65,536 had the same bits, in both byte orders, and types of every letter and
 Beside the rooms that a caller lends, the stack: a thread's stack is painted before a call, and what has lost its paint was used.
 '''
     stack = found['stack']
-    yield table(('Input', 'Reading', 'Writing', 'Places', 'Values', 'C reader'), [(name, *(f'{stack[what][name]:,.0f}' if name in stack[what] else '–' for what in ('read', 'write', 'places', 'values', 'plain'))) for name in names])
+    yield table(('Input', 'Reading', 'Feeding', 'Writing', 'Places', 'Values', 'C reader'),
+                [(name, f'{stack["read"][name]:,.0f}', f'{feeding_stack(found, name):,.0f}', *(f'{stack[what][name]:,.0f}' if name in stack[what] else '–' for what in ('write', 'places', 'values', 'plain'))) for name in names])
     yield f"\nOutside functions that the library calls: {', '.join(f'`{one}`' for one in sorted(found['asks']['symbol'])) or 'none'}.\n"
     yield f"\n## The gate's time for each crate\n\n{KEPT[0]}\n{kept}\n{KEPT[1]}\n"
 

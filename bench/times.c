@@ -1,10 +1,10 @@
-// Times the proved library against the plain C reader, in one process and in turns, and measures the library's stack. Half floats are timed by themselves.
+// Times the proved library against the plain C reader, and a header in parts against the same read whole, in one process and in turns, and measures the library's stack. Half floats are timed by themselves.
 //
 //     times FOLDER         the files of bench/inputs.py, named in FOLDER/names.txt
 //
-// Writes lines `WHO WHAT INPUT NUMBER`: the median of nanoseconds for one call (`ours`, `plain`), the median of the pairs' ratios (`ratio`), that of an input of 128 KiB to the one of
-// 64 KiB, which is before it (`doubled`), bytes of stack (`stack`), or what was found (`bytes`, `entries`, `refused`). Of half floats a call is one of them. Time is the thread's own on the processor. The two readers
-// must give the same answer and the same rooms, and the same values, or the exit status is 1.
+// Writes lines `WHO WHAT INPUT NUMBER`: the median of nanoseconds for one call (`ours`, `plain`, `whole`), the median of the pairs' ratios (`ratio`), that of an input of 128 KiB to the one of
+// 64 KiB, which is before it (`doubled`), bytes of stack (`stack`), or what was found (`bytes`, `entries`, `refused`). Of half floats a call is one of them, and of a header in parts it is all its parts. Time is the thread's
+// own on the processor. The two readers must give the same answer and the same rooms, and the same values, and so must a header in parts and the same read whole, or the exit status is 1.
 #define _GNU_SOURCE
 #include "../include/npy.h"
 #include "plain.h"
@@ -17,7 +17,7 @@
 #include <sys/mman.h>
 #include <time.h>
 
-enum { PAIRS = 41, SAMPLE_NS = 2000000, MOST_FILE = 200000, MOST_NUMBERS = 9 * 512, MOST_NAMES = 65536, MOST_RANK = 32, PLACES = 1000, MOST_DATA = 1 << 28, HALVES = 65536, STACK = 262144, PAINT = 0xA5 };
+enum { PAIRS = 41, SAMPLE_NS = 2000000, MOST_FILE = 200000, MOST_NUMBERS = 9 * 512, MOST_NAMES = 65536, MOST_RANK = 32, PLACES = 1000, MOST_DATA = 1 << 28, HALVES = 65536, PACKET = 1460, BLOCK = 16, STACK = 262144, PAINT = 0xA5 };
 
 // The proved conversion of a half float, value_float::from_half, by itself (bench/run).
 uint32_t half_bits(uint16_t half);
@@ -40,8 +40,9 @@ struct question {
 typedef void call(struct input *in);
 
 static struct question asked[PLACES];
-static uint64_t table[MOST_NUMBERS], shape[MOST_RANK], said[6], written, run[6];
-static uint8_t names[MOST_NAMES], out[MOST_FILE];
+static uint64_t table[MOST_NUMBERS], shape[MOST_RANK], said[6], written, run[6], used;
+static uint8_t names[MOST_NAMES], out[MOST_FILE], text[NPY_MOST_TEXT];
+static npy_feeder feeder;
 // the file of an input, with zeros for its data
 static uint8_t *data;
 static size_t data_length;
@@ -58,6 +59,50 @@ static void read_plain(struct input *in)
 {
     sink += plain_read(in->file, in->length, table, MOST_NUMBERS, names, MOST_NAMES, shape, MOST_RANK, said);
 }
+
+// The header in parts of so many bytes, the last of what is left, until one of them gives the outcome.
+
+static uint8_t feed_from(const struct input *in, size_t at, size_t part)
+{
+    return npy_feed(&feeder, in->file + at, in->length - at < part ? in->length - at : part, text, NPY_MOST_TEXT, table, MOST_NUMBERS, names, MOST_NAMES, shape, MOST_RANK, said, &used);
+}
+
+static void feed_ours(const struct input *in, size_t part)
+{
+    uint8_t answer = NPY_MORE;
+    feeder = (npy_feeder){ { 0 } };
+    for (size_t at = 0; answer == NPY_MORE && at < in->length; at += part)
+        answer = feed_from(in, at, part);
+    sink += answer;
+}
+
+static void feed_whole(struct input *in)
+{
+    feed_ours(in, MOST_FILE);
+}
+
+static void feed_packets(struct input *in)
+{
+    feed_ours(in, PACKET);
+}
+
+static void feed_blocks(struct input *in)
+{
+    feed_ours(in, BLOCK);
+}
+
+static void feed_bytes(struct input *in)
+{
+    feed_ours(in, 1);
+}
+
+static const struct way {
+    const char *name;
+    size_t part;
+    call *one;
+} ways[] = { { "feed-whole", MOST_FILE, feed_whole }, { "feed-1460", PACKET, feed_packets }, { "feed-16", BLOCK, feed_blocks }, { "feed-1", 1, feed_bytes } };
+
+enum { WAYS = sizeof ways / sizeof *ways };
 
 static void write_ours(struct input *in)
 {
@@ -181,32 +226,32 @@ static void time_alone(const char *what, call *one, struct input *in)
     printf("ours %s %s %.1f\n", what, in->name, median(found));
 }
 
-// Two calls in turns, each of which does so many of what is timed.
-static void time_pair(const char *what, call *one, call *other, struct input *in, int many)
+// Two calls in turns, each of which does so many of what is timed; `who` is the name of the other.
+static void time_pair(const char *what, call *one, const char *who, call *other, struct input *in, int many)
 {
-    double ours[PAIRS], plain[PAIRS], ratio[PAIRS];
-    long of_ours = calls(one, in), of_plain = calls(other, in);
+    double ours[PAIRS], others[PAIRS], ratio[PAIRS];
+    long of_ours = calls(one, in), of_others = calls(other, in);
     for (int i = 0; i < PAIRS; i++) {
         if (i % 2)
-            plain[i] = sample(other, in, of_plain);
+            others[i] = sample(other, in, of_others);
         ours[i] = sample(one, in, of_ours);
         if (i % 2 == 0)
-            plain[i] = sample(other, in, of_plain);
-        ratio[i] = ours[i] / plain[i];
+            others[i] = sample(other, in, of_others);
+        ratio[i] = ours[i] / others[i];
     }
-    printf("ours %s %s %.*f\nplain %s %s %.*f\nratio %s %s %.3f\n", what, in->name, many > 1 ? 3 : 1, median(ours) / many, what, in->name, many > 1 ? 3 : 1, median(plain) / many, what, in->name, median(ratio));
+    printf("ours %s %s %.*f\n%s %s %s %.*f\nratio %s %s %.3f\n", what, in->name, many > 1 ? 3 : 1, median(ours) / many, who, what, in->name, many > 1 ? 3 : 1, median(others) / many, what, in->name, median(ratio));
 }
 
 // An input and the one that has twice its text, in turns.
-static void time_doubled(struct input *half, struct input *whole)
+static void time_doubled(const char *what, call *one, struct input *half, struct input *whole)
 {
     double ratio[PAIRS];
-    long of_half = calls(read_ours, half), of_whole = calls(read_ours, whole);
+    long of_half = calls(one, half), of_whole = calls(one, whole);
     for (int i = 0; i < PAIRS; i++) {
-        double time = sample(read_ours, half, of_half);
-        ratio[i] = sample(read_ours, whole, of_whole) / time;
+        double time = sample(one, half, of_half);
+        ratio[i] = sample(one, whole, of_whole) / time;
     }
-    printf("doubled read %s %.3f\n", whole->name, median(ratio));
+    printf("doubled %s %s %.3f\n", what, whole->name, median(ratio));
 }
 
 static void fail(const char *why, const char *name)
@@ -215,25 +260,60 @@ static void fail(const char *why, const char *name)
     exit(1);
 }
 
-// Reads the file by both readers, into rooms of fives, and keeps what was read.
-static void read_both(struct input *in)
+static void fives(void)
 {
-    uint8_t refusal;
     memset(table, 5, sizeof table);
     memset(names, 5, sizeof names);
     memset(shape, 5, sizeof shape);
     memset(said, 5, sizeof said);
+    memset(text, 5, sizeof text);
+}
+
+// Whether the rooms and values are those that were read.
+static bool as_read(const struct input *in)
+{
+    return !(memcmp(table, in->table, sizeof table) || memcmp(names, in->names, sizeof names) || memcmp(shape, in->shape, sizeof shape) || memcmp(said, in->said, sizeof said));
+}
+
+// Reads the file by both readers, into rooms of fives, and keeps what was read.
+static void read_both(struct input *in)
+{
+    uint8_t refusal;
+    fives();
     memcpy(in->table, table, sizeof table);
     memcpy(in->names, names, sizeof names);
     memcpy(in->shape, shape, sizeof shape);
     memcpy(in->said, said, sizeof said);
     in->refusal = npy_read(in->file, in->length, in->table, MOST_NUMBERS, in->names, MOST_NAMES, in->shape, MOST_RANK, in->said);
     refusal = plain_read(in->file, in->length, table, MOST_NUMBERS, names, MOST_NAMES, shape, MOST_RANK, said);
-    if (refusal != in->refusal || memcmp(table, in->table, sizeof table) || memcmp(names, in->names, sizeof names) || memcmp(shape, in->shape, sizeof shape) || memcmp(said, in->said, sizeof said))
+    if (refusal != in->refusal || !as_read(in))
         fail("the readers differ", in->name);
     printf("found bytes %s %zu\nfound refused %s %d\n", in->name, in->length, in->name, in->refusal);
     if (!refusal)
         printf("found entries %s %zu\n", in->name, (size_t)in->said[3]);
+}
+
+// Feeds the header, which is the whole file, in each way, into rooms of fives: more is needed up to the last part, each part is used whole, and the text buffer has the text and then fives.
+static void feed_all(const struct input *in)
+{
+    for (const struct way *way = ways; way < ways + WAYS; way++) {
+        uint8_t answer = NPY_MORE;
+        size_t start = in->file[6] == 1 ? 10 : 12, after = in->length - start;
+        bool right = true;
+        fives();
+        feeder = (npy_feeder){ { 0 } };
+        for (size_t at = 0; right && at < in->length; at += used) {
+            answer = feed_from(in, at, way->part);
+            right = used == (in->length - at < way->part ? in->length - at : way->part) && (answer == NPY_MORE) == (at + used < in->length);
+        }
+        right = right && answer == in->refusal && as_read(in) && memcmp(text, in->file + start, after) == 0;
+        for (; right && after < sizeof text; after++)
+            right = text[after] == 5;
+        if (!right) {
+            fprintf(stderr, "times: %s: %s and reading it whole differ\n", in->name, way->name);
+            exit(1);
+        }
+    }
 }
 
 // The stack that a call takes: a thread's stack is painted, and what is no longer painted afterwards was used. A thread that calls nothing is subtracted.
@@ -299,13 +379,29 @@ static void measure_values(struct input *in)
     free(data);
 }
 
+// Whether an input is one of those whose parts are timed.
+static bool in_parts(const struct input *in)
+{
+    static const char *const timed[] = { "small", "record20", "flat64", "flat128", "wide128" };
+    for (size_t i = 0; i < sizeof timed / sizeof *timed; i++)
+        if (strcmp(in->name, timed[i]) == 0)
+            return true;
+    return false;
+}
+
 // All that is asked of one input.
 static void measure(struct input *in)
 {
     read_both(in);
-    time_pair("read", read_ours, read_plain, in, 1);
+    time_pair("read", read_ours, "plain", read_plain, in, 1);
     stack_of("read", read_ours, in);
     stack_of("plain", read_plain, in);
+    feed_all(in);
+    for (const struct way *way = ways; way < ways + WAYS; way++) {
+        if (in_parts(in))
+            time_pair(way->name, way->one, "whole", read_ours, in, 1);
+        stack_of(way->name, way->one, in);
+    }
     if (in->refusal)
         return;
     sink = 0;
@@ -373,8 +469,8 @@ static void measure_halves(const char *name, uint16_t kept, uint16_t set)
         runs[i][0] = (uint8_t)halves[i];
         runs[i][1] = (uint8_t)(halves[i] >> 8);
     }
-    time_pair("half", halves_ours, halves_plain, &sort, HALVES);
-    time_pair("half-value", half_values_ours, half_values_plain, &sort, HALVES);
+    time_pair("half", halves_ours, "plain", halves_plain, &sort, HALVES);
+    time_pair("half-value", half_values_ours, "plain", half_values_plain, &sort, HALVES);
 }
 
 int main(int argc, char **argv)
@@ -398,7 +494,9 @@ int main(int argc, char **argv)
         fclose(file);
         measure(in);
         if (strstr(in->name, "128") && strstr(before->name, "64"))
-            time_doubled(before, in);
+            time_doubled("read", read_ours, before, in);
+        if (strcmp(in->name, "flat128") == 0 && strcmp(before->name, "flat64") == 0)
+            time_doubled("feed-1", feed_bytes, before, in);
     }
     fclose(list);
     compare_values();

@@ -3,6 +3,8 @@
  * Every function takes any bytes, numbers and rooms and has a proved, complete contract (crates/npy). It returns
  *     NPY_OK, 0                       and has written its values, or
  *     a refusal's number, 1 to 32,    and has left all that it was lent as it was.
+ * npy_feed and npy_feed_end, which take a header in parts, return NPY_MORE, 255, and NPY_BUFFER, 36, too, and keep a feeder and a text buffer from call to call: their comments say
+ * what they write.
  * docs/RULES.md says when each refusal is given, and which one where several apply.
  *
  * A room is a pointer and a count of its elements; room beyond what was needed is left as it was. No function allocates, keeps a pointer, or
@@ -30,6 +32,8 @@
 #define NPY_MOST_RANK 32       /* dimensions of an accepted record, and of each sub-shape */
 #define NPY_MOST_TEXT 131072   /* bytes of the longest text of a header */
 #define NPY_MOST_HEADER 131084 /* bytes of the longest header: 12 and a text of NPY_MOST_TEXT */
+#define NPY_FEEDER 20          /* numbers of a feeder */
+#define NPY_MORE 255           /* npy_feed: need more */
 
 /* What a function returns. The comments are also what `./npy-list --help` prints. */
 enum npy_refusal {
@@ -60,12 +64,13 @@ enum npy_refusal {
     NPY_HAS_OBJECT = 24,      /* a place is asked for, and the type contains an object (O) */
     NPY_SHORT_FILE = 25,      /* the file ends before its data does */
     NPY_NOWHERE = 26,         /* index or path names no element, or none of the kind asked for */
-    NPY_NO_READING = 27,      /* the caller's record, type or order is none that a header could give; or a run whose value is asked is not as long as its type */
+    NPY_NO_READING = 27,      /* the caller's record, type or order is none that a header could give; numbers that are no feeder's; or a run whose value is asked is not as long as its type */
     NPY_OUTPUT_ROOM = 28,     /* the room for the output is too small */
     NPY_SCALAR = 29,          /* a U element, or a value to be written to one, has a number that is no Unicode scalar value */
     NPY_MISFIT = 30,          /* the value does not fit the element's size */
     NPY_NO_VALUE = 31,        /* the element has a type without values: S, U, V, a float of 16 bytes, a complex of 32; by itself also O */
-    NPY_BOOL_BYTE = 32        /* the byte of a bool is above 1 */
+    NPY_BOOL_BYTE = 32,       /* the byte of a bool is above 1 */
+    NPY_BUFFER = 36           /* the lent text buffer is shorter than the text that the header names */
 };
 
 enum npy_order { NPY_ORDER_C = 0, NPY_ORDER_FORTRAN = 1 };
@@ -84,7 +89,14 @@ enum npy_entry {
 };
 enum npy_kind { NPY_KIND_PLAIN = 0, NPY_KIND_ARRAY = 1, NPY_KIND_RECORD = 2 };
 
-/* The values of npy_read and npy_read_held: `said`. */
+/* A feeder: all zeros, `npy_feeder f = {{0}};`, is one that has taken nothing. Its numbers:
+ *     0 to 11     the bytes before the text; of each number the lowest byte counts
+ *     12          how many bytes were taken
+ *     13          what it says: 0 need more, 255 a header, else the refusal's number
+ *     14 to 19    the values of a header that it says (enum npy_read_said), else 0 */
+typedef struct npy_feeder { uint64_t numbers[NPY_FEEDER]; } npy_feeder;
+
+/* The values of npy_read, npy_read_held, npy_feed and npy_feed_end: `said`. */
 enum npy_read_said {
     NPY_READ_VERSION = 0,     /* 1, 2 or 3 */
     NPY_READ_ORDER = 1,
@@ -159,6 +171,25 @@ uint8_t npy_read_held(const uint8_t *file, size_t file_len, bool longer, uint64_
 /* The record of a header's text, without its prefix and of any length, so never 4: 5 to 23. said: enum npy_text_said. */
 uint8_t npy_read_text(const uint8_t *text, size_t text_len, uint64_t *table, size_t table_len, uint8_t *names, size_t names_len,
                       uint64_t *shape, size_t shape_len, uint64_t said[NPY_TEXT_SAID]);
+
+/* ---- a header that arrives in parts. Each call is lent the feeder, the text buffer and the three rooms as the last call left them. However the header is cut, the outcome, said and
+ * the rooms are those of npy_read for all of it, 36 excepted. NPY_MOST_TEXT bytes of text buffer are always enough: then there is no 36. */
+
+/* The next part. Its bytes are taken up to the one with which the outcome comes, else all; used: how many. The outcome comes with byte 8 for 1 and 2, with the last byte of the length
+ * field for 4 and then 36, and with the header's last byte for every other.
+ *     NPY_MORE             it has not come. said and the three rooms are as they were
+ *     NPY_OK               the header. said (enum npy_read_said) and the rooms are written as npy_read writes them
+ *     1, 2, 4 to 23, 36    said and the three rooms are as they were
+ * The text bytes taken so far are then at the front of the text buffer, whose remainder is as it was; 36 comes before any of them is taken. The feeder keeps the outcome: each later call
+ * returns it again, with said written if it is NPY_OK, used 0, and all else as it was.
+ *     NPY_NO_READING       numbers that are no feeder's: number 13 is none of 0, 255, 1 to 32, 36; or it is 255, and number 14 is not 1 to 3 or number 15 not 0 or 1. All that was lent is
+ *                          as it was */
+uint8_t npy_feed(npy_feeder *feeder, const uint8_t *part, size_t part_len, uint8_t *text, size_t text_len, uint64_t *table, size_t table_len, uint8_t *names, size_t names_len,
+                 uint64_t *shape, size_t shape_len, uint64_t said[NPY_READ_SAID], uint64_t used[1]);
+
+/* The end of the input. If the feeder needs more: 1 where it has taken fewer than 8 bytes, else 3; it keeps that outcome, and said is as it was. Else the outcome again, or
+ * NPY_NO_READING, as npy_feed returns them. Never NPY_MORE. */
+uint8_t npy_feed_end(npy_feeder *feeder, uint64_t said[NPY_READ_SAID]);
 
 /* ---- a caller's record: 27, 13, 20, 21, 22 come first in every function that takes one (in npy_list after 2). */
 

@@ -17,7 +17,9 @@ static void is(int holds, const char *what, int line) {
 /* The rooms of one call, filled with marks so that a byte written by mistake shows. */
 static struct rooms {
     uint64_t table[NPY_MOST_ENTRIES * NPY_ENTRY], shape[NPY_MOST_RANK], said[NPY_READ_SAID], strides[NPY_MOST_RANK];
-    uint8_t names[256], out[1024];
+    npy_feeder feeder;
+    uint64_t used[1];
+    uint8_t names[256], out[1024], text[128];
     uint32_t points[16];
 } now, marks;
 
@@ -67,6 +69,172 @@ static void reading(void) {
     IS(now.said[NPY_TEXT_ORDER] == NPY_ORDER_C && now.said[NPY_TEXT_RANK] == 1 && now.said[NPY_TEXT_ENTRIES] == 1 && now.said[NPY_TEXT_NAMES] == 0);
     mark();
     IS(npy_read_text(file + 10, 57, now.table, NPY_ENTRY, now.names, 0, now.shape, 1, now.said) == NPY_FAULT && untouched());
+}
+
+/* ---- headers that arrive part by part */
+static uint8_t feed(const void *part, size_t n, size_t text_len) {
+    return npy_feed(&now.feeder, part, n, now.text, text_len, now.table, NPY_MOST_ENTRIES * NPY_ENTRY, now.names, sizeof now.names, now.shape, NPY_MOST_RANK, now.said, now.used);
+}
+
+/* The input whose parts are fed. */
+static const uint8_t *input;
+
+/* A feeder that has taken nothing, and marks in all that is lent beside it. */
+static void fresh(const void *bytes) {
+    mark();
+    marks.feeder = now.feeder = (npy_feeder){{0}};
+    input = bytes;
+}
+
+/* Whether a call left all as it must: so many bytes of the input are taken, those before the text in the feeder and the others in the text buffer; it says this, of a header with its values; it used so
+ * many bytes of the part; and the rest is as it was. */
+static int left(uint64_t taken, uint64_t says, uint64_t used, const uint64_t *said) {
+    size_t start = taken >= 8 && input[6] == 1 && input[7] == 0 ? 10 : 12;
+    for (size_t k = 0; k < 12; k++) marks.feeder.numbers[k] = k < taken && k < start ? input[k] : 0;
+    marks.feeder.numbers[12] = taken, marks.feeder.numbers[13] = says, marks.used[0] = used;
+    for (size_t k = 0; k < NPY_READ_SAID; k++) marks.feeder.numbers[14 + k] = said ? said[k] : 0;
+    for (size_t k = start; k < taken; k++) marks.text[k - start] = input[k];
+    if (said) memcpy(marks.said, said, sizeof marks.said);
+    return untouched();
+}
+
+static const uint64_t small_said[NPY_READ_SAID] = {1, NPY_ORDER_C, 1, 1, 0, 80};
+
+/* What npy_read writes to the rooms for the header of 80 bytes. */
+static void mark_small(void) {
+    const uint64_t entry[NPY_ENTRY] = {0, NPY_KIND_PLAIN, '<', 'i', 4, 0, 1, 4, 0};
+    memcpy(marks.table, entry, sizeof entry), marks.shape[0] = 3;
+}
+
+/* An outcome comes again from both functions, with all as it was but `said` and `used`. */
+static void again(uint8_t outcome) {
+    marks = now;
+    memset(marks.said, 9, sizeof marks.said), now = marks;
+    if (!outcome) memcpy(marks.said, now.feeder.numbers + 14, sizeof marks.said);
+    IS(npy_feed_end(&now.feeder, now.said) == outcome && untouched());
+    memset(now.said, 9, sizeof now.said);
+    marks.used[0] = 0;
+    IS(feed("\x93NUMPY", 6, 70) == outcome && untouched());
+    IS(npy_feed(&now.feeder, (const uint8_t *)"", 0, now.text, 0, now.table, 0, now.names, 0, now.shape, 0, now.said, now.used) == outcome && untouched());
+}
+
+static void feeding_bytes(void) {
+    uint8_t file[96];
+    size_t n = small(file);
+    fresh(file);
+    for (size_t k = 0; k < n; k++) {
+        IS(feed(file + k, 0, 70) == NPY_MORE && left(k, 0, 0, NULL));
+        if (k + 1 < n) IS(feed(file + k, 1, 70) == NPY_MORE && left(k + 1, 0, 1, NULL));
+    }
+    mark_small();
+    IS(feed(file + n - 1, 17, 70) == 0 && left(80, 255, 1, small_said));
+    again(0);
+    for (size_t k = 0; k <= n; k++) {
+        fresh(file);
+        if (k == n) mark_small();
+        IS(feed(file, k, 71) == (k < n ? NPY_MORE : 0) && left(k, k < n ? 0 : 255, k, k < n ? NULL : small_said));
+        mark_small();
+        IS(feed(file + k, 96 - k, 71) == 0 && left(80, 255, n - k, small_said));
+    }
+}
+
+static void feeding_refused(void) {
+    uint8_t file[96];
+    size_t n = small(file);
+    fresh(file);
+    IS(feed(input, 96, 69) == NPY_BUFFER && left(10, NPY_BUFFER, 10, NULL));
+    again(NPY_BUFFER);
+    fresh(file);
+    IS(feed(input, 9, 69) == NPY_MORE && left(9, 0, 9, NULL) && feed(input + 9, 87, 69) == NPY_BUFFER && left(10, NPY_BUFFER, 1, NULL));
+    fresh("\x93NUMPY\x03\x00\x00\x00\x02\x00{}");
+    IS(feed(input, 14, 128) == NPY_BUFFER && left(12, NPY_BUFFER, 12, NULL));
+    fresh("\x93NUMPY\x02\x00\x01\x00\x02\x00{}");
+    IS(feed(input, 14, 0) == NPY_LONG_TEXT && left(12, NPY_LONG_TEXT, 12, NULL));
+    again(NPY_LONG_TEXT);
+    fresh("xxxxxxxxx");
+    IS(feed(input, 7, 0) == NPY_MORE && left(7, 0, 7, NULL));
+    IS(feed(input + 7, 2, 0) == NPY_NOT_NPY && left(8, NPY_NOT_NPY, 1, NULL));
+    again(NPY_NOT_NPY);
+    fresh("\x93NUMPY\x01\x01\x46\x00");
+    IS(feed(input, 10, 0) == NPY_OTHER_VERSION && left(8, NPY_OTHER_VERSION, 8, NULL));
+    again(NPY_OTHER_VERSION);
+    fresh("\x93NUMPY\x01\x00\x00\x00");
+    IS(feed(input, 10, 0) == NPY_FAULT && left(10, NPY_FAULT, 10, NULL));
+    file[10] = '$';
+    fresh(file);
+    IS(feed(input, n - 1, 128) == NPY_MORE && left(n - 1, 0, n - 1, NULL));
+    IS(feed(input + n - 1, 17, 128) == NPY_FAULT && left(n, NPY_FAULT, 1, NULL));
+    again(NPY_FAULT);
+    small(file);
+    fresh(file);
+    IS(npy_feed(&now.feeder, file, n, now.text, 70, now.table, NPY_ENTRY - 1, now.names, 0, now.shape, 1, now.said, now.used) == NPY_ROOM && left(n, NPY_ROOM, n, NULL));
+    again(NPY_ROOM);
+}
+
+static void feeding_ends(void) {
+    uint8_t file[96];
+    size_t n = small(file);
+    for (size_t k = 0; k < n; k++) {
+        uint8_t early = k < 8 ? NPY_NOT_NPY : NPY_INCOMPLETE;
+        fresh(file);
+        IS(feed(file, k, 70) == NPY_MORE && left(k, 0, k, NULL));
+        IS(npy_feed_end(&now.feeder, now.said) == early && left(k, early, k, NULL));
+        again(early);
+    }
+    /* the numbers before what is said stay as they are, the values become 0 */
+    mark();
+    now.feeder.numbers[13] = 0;
+    marks = now;
+    marks.feeder.numbers[13] = NPY_INCOMPLETE, memset(marks.feeder.numbers + 14, 0, 48);
+    IS(npy_feed_end(&now.feeder, now.said) == NPY_INCOMPLETE && untouched());
+}
+
+/* Numbers that are no feeder's: 27, and all is as it was. */
+static void no_feeder(void) {
+    marks = now;
+    IS(feed("\x93NUMPY", 6, 70) == NPY_NO_READING && untouched());
+    IS(npy_feed_end(&now.feeder, now.said) == NPY_NO_READING && untouched());
+}
+
+/* Numbers that no call leaves. */
+static void feeding_numbers(void) {
+    const uint64_t none[] = {33, 34, 35, 37, 128, 254, 256, 257, 256 + 36, 65536, UINT64_MAX};
+    for (size_t k = 0; k < sizeof none / sizeof *none; k++) {
+        mark();
+        now.feeder.numbers[13] = none[k];
+        no_feeder();
+    }
+    for (uint64_t k = 1; k <= 36; k++) {
+        if (k > 32 && k < 36) continue;
+        mark();
+        now.feeder.numbers[13] = k;
+        again((uint8_t)k);
+    }
+    /* a header's version and order, and whether they are named so */
+    const uint64_t named[][3] = {{1, 0, 1}, {2, 1, 1}, {3, 1, 1}, {0, 0, 0}, {4, 0, 0}, {1, 2, 0}, {257, 0, 0}, {1, 256, 0}, {UINT64_MAX, 0, 0}, {3, UINT64_MAX, 0}};
+    for (size_t k = 0; k < sizeof named / sizeof *named; k++) {
+        mark();
+        now.feeder.numbers[13] = 255, now.feeder.numbers[14] = named[k][0], now.feeder.numbers[15] = named[k][1], now.feeder.numbers[16] = UINT64_MAX, now.feeder.numbers[19] = 0;
+        if (named[k][2]) {
+            again(0);
+        } else {
+            no_feeder();
+        }
+    }
+    /* of a number of the head the lowest byte counts; values that are not said become 0 */
+    uint8_t file[96];
+    size_t n = small(file);
+    fresh(file);
+    IS(feed(file, 20, 70) == NPY_MORE);
+    for (uint64_t k = 0; k < 12; k++) now.feeder.numbers[k] += 256 * (k + 1);
+    now.feeder.numbers[14] = 77;
+    IS(feed(file + 20, 1, 70) == NPY_MORE && left(21, 0, 1, NULL));
+    /* a count of more bytes than the head and the buffer hold is all that they hold */
+    fresh(file);
+    IS(feed(file, 10, 70) == NPY_MORE);
+    now.feeder.numbers[12] = UINT64_MAX, memcpy(now.text, file + 10, 70);
+    mark_small();
+    IS(feed(file + n, 1, 70) == 0 && left(80, 255, 0, small_said));
 }
 
 /* A record of two fields, `a` of S3 and `b` of <U2, two items in Fortran order, read from text. */
@@ -243,6 +411,10 @@ static void types(void) {
 
 int main(void) {
     reading();
+    feeding_bytes();
+    feeding_refused();
+    feeding_ends();
+    feeding_numbers();
     records();
     shapes();
     places();

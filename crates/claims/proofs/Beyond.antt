@@ -36,7 +36,7 @@ holding-rest r l =
 rest-by : (r : Record) (l l′ : Lent) (info : RecordInfo) → info ≡ infoOf r → l′ ≡ holding r l → Same-rest info l l′
 rest-by r l l′ info p q = rw (p, q) (holding-rest r l)
 
-header-rest : (h : Header) (l l′ : Lent) (o : Outcome header.Header) → gives (headerIs h) ≡ each headerInfo o → l′ ≡ afterwards header.holdingHeader o l → Same-rest (h .info) l l′
+pub header-rest : (h : Header) (l l′ : Lent) (o : Outcome header.Header) → gives (headerIs h) ≡ each headerInfo o → l′ ≡ afterwards header.holdingHeader o l → Same-rest (h .info) l l′
 header-rest h l l′ (gives k) a b =
     let same : headerIs h ≡ headerInfo k = cc in
     rest-by (k .says) l l′ (h .info) (ap (λ (t : HeaderInfo). t .info) same) b
@@ -59,6 +59,7 @@ rest-unchanged =
       write-header = λ t ns s o out w out′ n h e. owes-rest _ out _ out′ n (h .writes) e;
       list = λ v start t ns s o out x out′ n h e. owes-rest _ out _ out′ n h e;
       report = λ file out x out′ n h e. owes-rest _ out _ out′ n (h reading reading-keeps) e;
+      put-read = λ said l out x out′ n h e. owes-rest _ out _ out′ n h e;
       read-bytes = λ run t out x out′ n h e. owes-rest _ out _ out′ n h e;
       read-points = λ run t out x out′ n h e. owes-rest _ out _ out′ n h e;
       write-bytes = λ t value out x out′ n h e. owes-rest _ out _ out′ n h e;

@@ -18,6 +18,7 @@ pub mod Program
 pub mod Accepted
 pub mod Refusals
 pub mod Beyond
+pub mod Cuts
 pub mod Edges
 pub mod Codes
 pub mod Outcomes

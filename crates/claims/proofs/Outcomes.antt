@@ -13,9 +13,10 @@ use Rattle.type_print.proofs.Outcomes.{print-one}
 use Rattle.shape.proofs.Outcomes.{count-one, strides-one}
 use Rattle.check_record.proofs.Outcomes.{check-one}
 use Rattle.header.proofs.Outcomes.{read-held-one, read-text-one}
+use Rattle.header_feed.proofs.Outcomes.{start-one, feed-one, end-one}
 use Rattle.write.proofs.Outcomes.{write-header-one}
 use Rattle.list_record.proofs.Outcomes.{list-one}
-use Rattle.list_file.proofs.Outcomes.{report-one, report-whole-one}
+use Rattle.list_file.proofs.Outcomes.{report-one, report-whole-one, put-read-one}
 use Rattle.place_item.proofs.Outcomes.{item-number-one}
 use Rattle.place.proofs.Outcomes.{place-one}
 use Rattle.string_element.proofs.Outcomes as string-element
@@ -48,6 +49,9 @@ one-outcome =
       read-text = λ text l x y p q.
           read-text-one text l x y (record { answered = p .answered reading reading-keeps; after = p .after reading reading-keeps })
           (record { answered = q .answered reading reading-keeps; after = q .after reading reading-keeps });
+      feed-start = start-one;
+      feed = λ f part text l x y p q. feed-one f part text l x y (p reading reading-keeps) (q reading reading-keeps);
+      feed-end = end-one;
       report = λ file out x y p q.
           let same = sym (report-same reading reading-keeps file) in
           report-one file out x y (text-moved (x .0) same (p reading reading-keeps)) (text-moved (y .0) same (q reading reading-keeps));
@@ -56,6 +60,7 @@ one-outcome =
           report-whole-one file out x y
           (record { answered = p .answered reading reading-keeps ∙ ap length same; after = p .after reading reading-keeps ∙ ap (λ (text : List ℕ). atFront text out) same })
           (record { answered = q .answered reading reading-keeps ∙ ap length same; after = q .after reading reading-keeps ∙ ap (λ (text : List ℕ). atFront text out) same });
+      put-read = λ said l out. put-read-one said l out;
       find = λ longer held file x p y z h k.
           find-one longer held file x p y z (find-moved longer held file x p y (h reading reading-keeps)) (find-moved longer held file x p z (k reading reading-keeps));
       numbers-listed = λ text out. numbers-one text out;
@@ -88,6 +93,8 @@ one-outcome-in-c =
       npy-read-text = λ text l said x y p q.
           npy.npy-read-text-one text l said x y (record { answered = p .answered reading reading-keeps; rooms = p .after reading reading-keeps })
           (record { answered = q .answered reading reading-keeps; rooms = q .after reading reading-keeps });
+      npy-feed = λ ns part text l said used x y p q. npy.npy-feed-one ns part text l said used x y (p .feeds reading reading-keeps) (q .feeds reading reading-keeps);
+      npy-feed-end = npy.npy-feed-end-one;
       npy-check = λ t ns s order said x y p q. npy.call-one _ _ said x y (p .answered) (q .answered);
       npy-write-header = λ t ns s order out count x y p q. npy.npy-write-header-one t ns s order out count x y (p .writes) (q .writes);
       npy-list = λ version start t ns s order out count. npy.npy-list-one version start t ns s order out count;

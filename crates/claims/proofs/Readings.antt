@@ -7,8 +7,8 @@ use mathlib.Core.List.{List}
 use lib.Dec.{ltb}
 use lib.ListN.{length, take}
 use Rattle.counts.specs.declared.Bytes.{Bytes}
-use Rattle.counts.specs.Lists.{atFront}
-use Rattle.counts.specs.Outcome.{Outcome, each, afterwards, then}
+use Rattle.counts.specs.Lists.{atFront, AllBytes}
+use Rattle.counts.specs.Outcome.{Outcome, gives, refused, each, afterwards, then}
 use Rattle.refusal.specs.declared.BytesAnswer.{BytesAnswer}
 use Rattle.dtype.specs.Record.{Record}
 use Rattle.record.specs.Rooms.{Lent, roomsOf, holding}
@@ -21,14 +21,20 @@ use Rattle.header.specs.declared.HeaderRead.{HeaderRead}
 use Rattle.header.specs.Reads as reads
 use Rattle.list_file.specs.Report.{held-bytes, fresh, textFor, reportOf, Reports, WritesText}
 use Rattle.list_file.specs.Enough.{WritesReport}
+use Rattle.header_feed.specs.declared.Feeder.{Feeder}
+use Rattle.header_feed.specs.declared.Feeding.{Feeding}
+use Rattle.header_feed.specs.Feeds.{Progress, need-more, outcome, Feeds}
+use Rattle.header_feed.proofs.Readings.{takes-any, feeds-any}
+use Rattle.npy_codes.specs.Feeders.{headFor, takenFor, saying}
 use Rattle.npy_codes.proofs.Then.{returns-same}
 use Rattle.npy.specs.Calls as npy
+use Rattle.npy.specs.Feeding.{FeedsAsInC, FeedsByInC, FeedsInC}
 use Rattle.place.specs.declared.Placed.{Placed}
 use Rattle.place.specs.Answer as place
 use Rattle.place.specs.Place.{placed}
 use Rattle.get_file.specs.Found.{ample, foundIn}
-use Rattle.claims.specs.Functions.{Read, Read-held, Read-text, reportBy, Report, Report-whole, Find}
-use Rattle.claims.specs.InC.{Npy-read, Npy-read-held, Npy-read-text}
+use Rattle.claims.specs.Functions.{Read, Read-held, Read-text, reportBy, Report, Report-whole, Find, Feed}
+use Rattle.claims.specs.InC.{Npy-read, Npy-read-held, Npy-read-text, Npy-feed}
 
 -- ---- the definitions with another reading
 module _ (other : header.Reading) (keeps : header.Keeps other) where
@@ -103,3 +109,28 @@ npy-read-text-tied text l said r l′ said′ h =
       answered = λ other keeps. returns-same (ap (each reads.infoOf) (text-same other keeps text l)) (h .answered);
       after = λ other keeps. h .rooms ∙ ap (λ (o : Outcome Record). afterwards holding o l) (text-same other keeps text l);
     }
+
+-- ---- a header that arrives part by part
+pub feed-tied : (f : Feeder) (part text : List ℕ) (l : Lent) (x : Feeding) (text′ : List ℕ) (l′ : Lent) → Feeds f part text l x text′ l′ → Feed f part text l x text′ l′
+feed-tied f part text l x text′ l′ h = λ other keeps. feeds-any other keeps f part text l x text′ l′ h
+
+feeds-in-c-any : (other : header.Reading) → header.Keeps other → (ns part text : List ℕ) (l : Lent) (said used : List ℕ) (r : ℕ) (ns′ text′ : List ℕ) (l′ : Lent) (said′ used′ : List ℕ)
+    → FeedsInC ns part text l said used r ns′ text′ l′ said′ used′ → FeedsByInC other ns part text l said used r ns′ text′ l′ said′ used′
+feeds-in-c-any other keeps ns part text l said used r ns′ text′ l′ said′ used′ h = go (saying ns) h
+  where
+    go : (s : Outcome Progress) → FeedsAsInC reading s ns part text l said used r ns′ text′ l′ said′ used′ → FeedsAsInC other s ns part text l said used r ns′ text′ l′ said′ used′
+    go (gives need-more) k =
+        record {
+          feeding = k .feeding;
+          takes = takes-any other keeps (headFor ns) (takenFor ns) part text l (k .feeding) text′ l′ (k .takes);
+          numbers-after = k .numbers-after;
+          returned = k .returned;
+          used-after = k .used-after;
+        }
+    go (gives (outcome o)) k = k
+    go (refused n) k = k
+
+pub npy-feed-tied : (ns part text : List ℕ) (l : Lent) (said used : List ℕ) (r : ℕ) (ns′ text′ : List ℕ) (l′ : Lent) (said′ used′ : List ℕ) → AllBytes part → AllBytes text
+    → FeedsInC ns part text l said used r ns′ text′ l′ said′ used′ → Npy-feed ns part text l said used r ns′ text′ l′ said′ used′
+npy-feed-tied ns part text l said used r ns′ text′ l′ said′ used′ a b h =
+    record { part-bytes = a; text-bytes = b; feeds = λ other keeps. feeds-in-c-any other keeps ns part text l said used r ns′ text′ l′ said′ used′ h }

@@ -34,6 +34,7 @@ unchanged =
       list = λ v start t ns s o out x out′ k h e. owes-unchanged _ out _ out′ k h e;
       report = λ file out x out′ k h e. owes-unchanged _ out _ out′ k (h reading reading-keeps) e;
       numbers-listed = λ text out x out′ k h e. owes-unchanged _ out _ out′ k h e;
+      put-read = λ said l out x out′ k h e. owes-unchanged _ out _ out′ k h e;
       put-element = λ run t out x out′ k h e. owes-unchanged _ out _ out′ k h e;
       read-bytes = λ run t out x out′ k h e. owes-unchanged _ out _ out′ k h e;
       read-points = λ run t out x out′ k h e. owes-unchanged _ out _ out′ k h e;

@@ -1,5 +1,5 @@
 -- Document 01, "The refusal numbers": "On success, room beyond what was needed is unchanged." One line for each function that a customer calls and that is lent room for a
--- result; those of the C interface are in Codes.antt. If n bytes or numbers were written, the room after the first n is unchanged. l and l′ are the three lent rooms before
+-- result; those of the C interface are in Codes.antt, and that of a feeder in Cuts.antt. If n bytes or numbers were written, the room after the first n is unchanged. l and l′ are the three lent rooms before
 -- and after the call, room and room′ one room; t, ns, s and o are a caller's table, names, shape and order, x an index and p a path.
 use Prim.Native.Nat.{ℕ, _*_}
 use mathlib.Core.Path.{_≡_}
@@ -18,7 +18,7 @@ use Rattle.header.specs.declared.RecordInfo.{RecordInfo}
 use Rattle.header.specs.declared.TextRead.{TextRead}
 use Rattle.header.specs.declared.Header.{Header}
 use Rattle.header.specs.declared.HeaderRead.{HeaderRead}
-use Rattle.claims.specs.Functions.{Read-held, Read-text, Report, Write-header, List-record, Strides, Element-bytes, Element-points, Read-bytes, Read-points, Write-bytes, Write-points, Type-print, Encode}
+use Rattle.claims.specs.Functions.{Read-held, Read-text, Report, Put-read, Write-header, List-record, Strides, Element-bytes, Element-points, Read-bytes, Read-points, Write-bytes, Write-points, Type-print, Encode}
 
 -- the three rooms of a reader, beyond the entries, name bytes and dimensions that it stored
 pub record Same-rest (info : RecordInfo) (l l′ : Lent) : Type 0 where
@@ -35,10 +35,11 @@ pub record Rest-unchanged : Type 0 where
   -- `header::read_held`, `read`, which is the same of a file that is not longer, and `read_text`
   pub read-held : (longer : Bool) (file : List ℕ) (l l′ : Lent) (h : Header) → Read-held longer file l (HeaderRead.Read h) l′ → Same-rest (h .info) l l′
   pub read-text : (text : List ℕ) (l l′ : Lent) (info : RecordInfo) → Read-text text l (TextRead.Read info) l′ → Same-rest info l l′
-  -- `write::write_header`, `list_record::list`, `list_file::report`
+  -- `write::write_header`, `list_record::list`, `list_file::report`, `list_file::put_read`
   pub write-header : (t ns s : List ℕ) (o : Order) (out : List ℕ) → Spares bytesAnswer (Write-header t ns s o out) out
   pub list : (v : Version) (start : ℕ) (t ns s : List ℕ) (o : Order) (out : List ℕ) → Spares bytesAnswer (List-record v start t ns s o out) out
   pub report : (file out : List ℕ) → Spares bytesAnswer (Report file out) out
+  pub put-read : (said : HeaderRead) (l : Lent) (out : List ℕ) → Spares bytesAnswer (Put-read said l out) out
   -- `string_element::read_bytes`, `read_points`, `write_bytes`, `write_points`
   pub read-bytes : (run : List ℕ) (k : TypeStr) (out : List ℕ) → Spares bytesAnswer (Read-bytes run k out) out
   pub read-points : (run : List ℕ) (k : TypeStr) (out : List ℕ) → Spares pointsAnswer (Read-points run k out) out

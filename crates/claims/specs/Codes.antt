@@ -1,6 +1,6 @@
 -- The C interface. include/npy.h: "It returns NPY_OK, 0 and has written its values, or a refusal's number, 1 to 32, and has left all that it was lent as it was",
 -- and "room beyond what was needed is left as it was"; document 01, "The refusal numbers": "Each returns its number only; every lent buffer stays unchanged." So 0 always
--- means success, and any other number a refusal. Stated of each function of crate npy by its predicate (InC.antt). t, ns and s are a caller's table, names and
+-- means success, and any other number a refusal. Stated of each function of crate npy by its predicate (InC.antt), but for those of a feeder, which return 255 for need more and are in Cuts.antt. t, ns and s are a caller's table, names and
 -- shape, x an index and p a path; said, count, item and run are the numbers lent for the values; primed names are the lent memory after the call.
 use Prim.Native.Nat.{ℕ, _≤_}
 use mathlib.Core.Path.{_≡_}

@@ -35,9 +35,13 @@ use Rattle.check_record.specs.Checked.{checkedRecord}
 use Rattle.header.specs.declared.TextRead.{TextRead}
 use Rattle.header.specs.declared.HeaderRead.{HeaderRead}
 use Rattle.header.specs.Reads as header
+use Rattle.header_feed.specs.declared.Feeder.{Feeder}
+use Rattle.header_feed.specs.declared.Feeding.{Feeding}
+use Rattle.header_feed.specs.Feeds.{FeedsBy, freshFeeder, Ends}
 use Rattle.write.specs.Writes.{WritesHeader}
 use Rattle.list_record.specs.Answer.{Lists}
 use Rattle.list_file.specs.Report.{WritesText, held-bytes, fresh, textFor}
+use Rattle.list_file.specs.Said.{WritesSaid}
 use Rattle.place_item.specs.Item.{itemOf}
 use Rattle.place.specs.declared.Placed.{Placed}
 use Rattle.place.specs.Answer as place
@@ -71,6 +75,20 @@ pub record Read-text (text : List ℕ) (l : Lent) (x : TextRead) (l′ : Lent) :
   pub answered : By-grammar (λ reading. header.textAnswer x ≡ each header.infoOf (textBy reading text l))
   pub after : By-grammar (λ reading. l′ ≡ afterwards holding (textBy reading text l) l)
 
+-- ---- a header that arrives part by part
+-- `header_feed::start`
+abbrev pub Feed-start : (f : Feeder) → Type 0
+Feed-start f = f ≡ freshFeeder
+
+-- `header_feed::feed`: a part, the text buffer and the three rooms
+abbrev pub Feed : (f : Feeder) (part text : List ℕ) (l : Lent) (x : Feeding) (text′ : List ℕ) (l′ : Lent) → Type 0
+Feed f part text l x text′ l′ = By-grammar (λ reading. FeedsBy reading f part text l x text′ l′)
+
+-- `header_feed::end`
+abbrev pub Feed-end : (f f′ : Feeder) → Type 0
+Feed-end = Ends
+
+-- ---- the listing program
 -- what is printed of a file, by any reading of texts
 abbrev pub reportBy : Reading → (file : List ℕ) → List ℕ
 reportBy reading file = textFor (heldBy reading (ltb held-bytes (length file)) (take held-bytes file) fresh)
@@ -83,6 +101,10 @@ Report file out x out′ = By-grammar (λ reading. WritesText (reportBy reading 
 pub record Report-whole (file out : List ℕ) (n : Bytes) (out′ : List ℕ) : Type 0 where
   pub answered : By-grammar (λ reading. n .0 ≡ length (reportBy reading file))
   pub after : By-grammar (λ reading. out′ ≡ atFront (reportBy reading file) out)
+
+-- `list_file::put_read`: of what a reading says, and the rooms that it was read to
+abbrev pub Put-read : (said : HeaderRead) (l : Lent) (out : List ℕ) (x : BytesAnswer) (out′ : List ℕ) → Type 0
+Put-read = WritesSaid
 
 -- ---- the program that prints one element
 -- `get_file::find`: of the first bytes of a file of this length, which is longer or is not

@@ -23,6 +23,7 @@ use Rattle.element.specs.Element.{elementBytes, elementPoints, elementValue}
 use Rattle.npy_codes.specs.Codes.{Returns, oneNumber, orderFor, typeFor, typeValues, textValues, headerValues, summaryValues, runValues}
 use Rattle.npy_codes.specs.Values.{valueValues}
 use Rattle.npy.specs.Calls as npy
+use Rattle.npy.specs.Feeding.{FeedsByInC, EndsInC}
 use Rattle.claims.specs.Functions.{By-grammar}
 
 -- ---- reading a header
@@ -39,6 +40,17 @@ Npy-read = Npy-read-held false
 pub record Npy-read-text (text : List ℕ) (l : Lent) (said : List ℕ) (r : ℕ) (l′ : Lent) (said′ : List ℕ) : Type 0 where
   pub answered : By-grammar (λ reading. Returns textValues (each header.infoOf (textBy reading text l)) said r said′)
   pub after : By-grammar (λ reading. l′ ≡ afterwards holding (textBy reading text l) l)
+
+-- ---- a header that arrives part by part: `numbers` are the twenty of a feeder, `text` is the text buffer, `used` the number lent for the bytes used; the bytes of the part and of the text buffer are below 256, as every uint8_t is
+-- `npy_feed`
+pub record Npy-feed (numbers part text : List ℕ) (l : Lent) (said used : List ℕ) (r : ℕ) (numbers′ text′ : List ℕ) (l′ : Lent) (said′ used′ : List ℕ) : Type 0 where
+  pub part-bytes : AllBytes part
+  pub text-bytes : AllBytes text
+  pub feeds : By-grammar (λ reading. FeedsByInC reading numbers part text l said used r numbers′ text′ l′ said′ used′)
+
+-- `npy_feed_end`
+abbrev pub Npy-feed-end : (numbers said : List ℕ) (r : ℕ) (numbers′ said′ : List ℕ) → Type 0
+Npy-feed-end = EndsInC
 
 -- ---- a caller's record; the numbers of its table and shape are below 2^64, as every uint64_t is
 -- `npy_check`

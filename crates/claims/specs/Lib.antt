@@ -13,6 +13,7 @@ pub mod Accepted
 pub mod Held
 pub mod Program
 pub mod Beyond
+pub mod Cuts
 pub mod Codes
 pub mod Edges
 pub mod Grammar

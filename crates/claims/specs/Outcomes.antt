@@ -9,6 +9,9 @@ use Rattle.type_str.specs.declared.TypeStr.{TypeStr}
 use Rattle.dtype.specs.declared.Order.{Order}
 use Rattle.record.specs.Prefix.{Version}
 use Rattle.record.specs.Rooms.{Lent}
+use Rattle.header.specs.declared.HeaderRead.{HeaderRead}
+use Rattle.header_feed.specs.declared.Feeder.{Feeder}
+use Rattle.header_feed.specs.declared.Feeding.{Feeding}
 use Rattle.claims.specs.Functions as rattle
 use Rattle.claims.specs.InC as c
 
@@ -25,8 +28,12 @@ pub record One-outcome : Type 0 where
   pub read : (file : List ℕ) (l : Lent) → Beside (rattle.Read file l)
   pub read-held : (longer : Bool) (file : List ℕ) (l : Lent) → Beside (rattle.Read-held longer file l)
   pub read-text : (text : List ℕ) (l : Lent) → Beside (rattle.Read-text text l)
+  pub feed-start : OneOutcome rattle.Feed-start
+  pub feed : (f : Feeder) (part text : List ℕ) (l : Lent) → OneOutcome {A = (Feeding × List ℕ) × Lent} (λ y. rattle.Feed f part text l (y .0 .0) (y .0 .1) (y .1))
+  pub feed-end : (f : Feeder) → OneOutcome (rattle.Feed-end f)
   pub report : (file out : List ℕ) → Beside (rattle.Report file out)
   pub report-whole : (file out : List ℕ) → Beside (rattle.Report-whole file out)
+  pub put-read : (said : HeaderRead) (l : Lent) (out : List ℕ) → Beside (rattle.Put-read said l out)
   pub find : (longer : Bool) (held : List ℕ) (file : ℕ) (x p : List ℕ) → OneOutcome (rattle.Find longer held file x p)
   pub numbers-listed : (text out : List ℕ) → Beside (rattle.Numbers-listed text out)
   pub put-element : (run : List ℕ) (k : TypeStr) (out : List ℕ) → Beside (rattle.Put-element run k out)
@@ -54,6 +61,9 @@ pub record One-outcome-in-C : Type 0 where
   pub npy-read : (file : List ℕ) (l : Lent) (said : List ℕ) → Beside-both (c.Npy-read file l said)
   pub npy-read-held : (longer : Bool) (file : List ℕ) (l : Lent) (said : List ℕ) → Beside-both (c.Npy-read-held longer file l said)
   pub npy-read-text : (text : List ℕ) (l : Lent) (said : List ℕ) → Beside-both (c.Npy-read-text text l said)
+  pub npy-feed : (numbers part text : List ℕ) (l : Lent) (said used : List ℕ)
+      → OneOutcome {A = ((((ℕ × List ℕ) × List ℕ) × Lent) × List ℕ) × List ℕ} (λ y. c.Npy-feed numbers part text l said used (y .0 .0 .0 .0 .0) (y .0 .0 .0 .0 .1) (y .0 .0 .0 .1) (y .0 .0 .1) (y .0 .1) (y .1))
+  pub npy-feed-end : (numbers said : List ℕ) → Beside-both (c.Npy-feed-end numbers said)
   pub npy-check : (t ns s : List ℕ) (order : ℕ) (said : List ℕ) → Beside (c.Npy-check t ns s order said)
   pub npy-write-header : (t ns s : List ℕ) (order : ℕ) (out count : List ℕ) → Beside-both (c.Npy-write-header t ns s order out count)
   pub npy-list : (version start : ℕ) (t ns s : List ℕ) (order : ℕ) (out count : List ℕ) → Beside-both (c.Npy-list version start t ns s order out count)

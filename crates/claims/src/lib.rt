@@ -8,8 +8,11 @@ use dtype::Order;
 use get_file::Listed;
 use header::HeaderRead;
 use header::TextRead;
+use header_feed::Feeder;
+use header_feed::Feeding;
 use header_prefix::Version;
 use list_file::ROOM;
+use npy_codes::FEEDER;
 use place::Placed;
 use refusal::BytesAnswer;
 use refusal::ItemsAnswer;
@@ -19,8 +22,8 @@ use type_str::TypeStr;
 use value::ValueAnswer;
 ghost use Rattle.header_prefix.specs.Answer.{versionIs};
 ghost use Rattle.header.specs.Reads.{lent};
-ghost use Rattle.claims.specs.Functions.{Read, Read-held, Read-text, Report, Report-whole, Find, Numbers-listed, Put-element, Check, Write-header, List-record, Count, Strides, Item-number, Place, Element-bytes, Element-points, Element-value, Read-bytes, Read-points, Read-value, Write-bytes, Write-points, Type-read, Type-print, Encode};
-ghost use Rattle.claims.specs.InC.{Npy-read, Npy-read-held, Npy-read-text, Npy-check, Npy-write-header, Npy-list, Npy-count, Npy-strides, Npy-item-number, Npy-place, Npy-element-bytes, Npy-element-points, Npy-element-value, Npy-read-bytes, Npy-read-points, Npy-read-value, Npy-write-bytes, Npy-write-points, Npy-type-read, Npy-type-print};
+ghost use Rattle.claims.specs.Functions.{Read, Read-held, Read-text, Feed-start, Feed, Feed-end, Report, Report-whole, Put-read, Find, Numbers-listed, Put-element, Check, Write-header, List-record, Count, Strides, Item-number, Place, Element-bytes, Element-points, Element-value, Read-bytes, Read-points, Read-value, Write-bytes, Write-points, Type-read, Type-print, Encode};
+ghost use Rattle.claims.specs.InC.{Npy-read, Npy-read-held, Npy-read-text, Npy-feed, Npy-feed-end, Npy-check, Npy-write-header, Npy-list, Npy-count, Npy-strides, Npy-item-number, Npy-place, Npy-element-bytes, Npy-element-points, Npy-element-value, Npy-read-bytes, Npy-read-points, Npy-read-value, Npy-write-bytes, Npy-write-points, Npy-type-read, Npy-type-print};
 
 // ---- the Rattle functions
 
@@ -48,6 +51,31 @@ fn header_read_text(text: &[u8], table: &mut [u64], names: &mut [u8], shape: &mu
     header::read_text(text, table, names, shape)
 }
 
+fn header_feed_start() -> Feeder
+    ensures { λ r. ⌜ Feed-start r ⌝ }
+{
+    header_feed::start()
+}
+
+fn header_feed_feed(
+    f: Feeder,
+    part: &[u8],
+    text: &mut [u8],
+    table: &mut [u64],
+    names: &mut [u8],
+    shape: &mut [u64],
+) -> Feeding
+    ensures { λ r. ⌜ Feed f (now (part .entry)) (now (text .entry)) (lent (now (table .entry)) (now (names .entry)) (now (shape .entry))) r (now (text .exit)) (lent (now (table .exit)) (now (names .exit)) (now (shape .exit))) ⌝ }
+{
+    header_feed::feed(f, part, text, table, names, shape)
+}
+
+fn header_feed_end(f: Feeder) -> Feeder
+    ensures { λ r. ⌜ Feed-end f r ⌝ }
+{
+    header_feed::end(f)
+}
+
 fn list_file_report(file: &[u8], out: &mut [u8]) -> BytesAnswer
     ensures { λ r. ⌜ Report (now (file .entry)) (now (out .entry)) r (now (out .exit)) ⌝ }
 {
@@ -58,6 +86,18 @@ fn list_file_report_whole(file: &[u8], out: &mut [u8; ROOM]) -> Bytes
     ensures { λ r. ⌜ Report-whole (now (file .entry)) (now (out .entry)) r (now (out .exit)) ⌝ }
 {
     list_file::report_whole(file, out)
+}
+
+fn list_file_put_read(
+    said: HeaderRead,
+    table: &[u64],
+    names: &[u8],
+    shape: &[u64],
+    out: &mut [u8],
+) -> BytesAnswer
+    ensures { λ r. ⌜ Put-read said (lent (now (table .entry)) (now (names .entry)) (now (shape .entry))) (now (out .entry)) r (now (out .exit)) ⌝ }
+{
+    list_file::put_read(said, table, names, shape, out)
 }
 
 fn get_file_find(held: &[u8], longer: bool, length: Bytes, index: &[u64], path: &[u64]) -> Placed
@@ -275,6 +315,27 @@ fn npy_read_text(
     ensures { λ r. ⌜ Npy-read-text (now (text .entry)) (lent (now (table .entry)) (now (names .entry)) (now (shape .entry))) (now (said .entry)) r (lent (now (table .exit)) (now (names .exit)) (now (shape .exit))) (now (said .exit)) ⌝ }
 {
     npy::npy_read_text(text, table, names, shape, said)
+}
+
+fn npy_feed(
+    feeder: &mut [u64; FEEDER],
+    part: &[u8],
+    text: &mut [u8],
+    table: &mut [u64],
+    names: &mut [u8],
+    shape: &mut [u64],
+    said: &mut [u64; 6],
+    used: &mut [u64; 1],
+) -> u8
+    ensures { λ r. ⌜ Npy-feed (now (feeder .entry)) (now (part .entry)) (now (text .entry)) (lent (now (table .entry)) (now (names .entry)) (now (shape .entry))) (now (said .entry)) (now (used .entry)) r (now (feeder .exit)) (now (text .exit)) (lent (now (table .exit)) (now (names .exit)) (now (shape .exit))) (now (said .exit)) (now (used .exit)) ⌝ }
+{
+    npy::npy_feed(feeder, part, text, table, names, shape, said, used)
+}
+
+fn npy_feed_end(feeder: &mut [u64; FEEDER], said: &mut [u64; 6]) -> u8
+    ensures { λ r. ⌜ Npy-feed-end (now (feeder .entry)) (now (said .entry)) r (now (feeder .exit)) (now (said .exit)) ⌝ }
+{
+    npy::npy_feed_end(feeder, said)
 }
 
 fn npy_check(table: &[u64], names: &[u8], shape: &[u64], order: u64, said: &mut [u64; 5]) -> u8

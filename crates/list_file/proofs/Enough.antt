@@ -1,6 +1,6 @@
 -- THE FIRST 65,537 BYTES OF A FILE GIVE ITS REPORT, AND 131,072 BYTES ARE ENOUGH FOR IT. A header that was read has at most 512 entries and 16,384 name bytes, the room that
 -- there was for them; a refusal's line is a word and a number.
-use Prim.Native.Nat.{ℕ, suc, _*_, _/_, _≤_}
+use Prim.Native.Nat.{ℕ, suc, _+_, _*_, _/_, _^_, _<_, _≤_}
 use native.Mathlib.Omega.{arith}
 use mathlib.Core.Path.{_≡_, refl, sym, ap, subst, _∙_}
 use mathlib.Core.Logic.{⊎-elim}
@@ -15,7 +15,7 @@ use Rattle.counts.specs.Outcome.{Outcome, gives, refused, each, afterwards}
 use Rattle.counts.specs.Lists.{atFront}
 use Rattle.counts.specs.Owes.{roomed}
 use Rattle.counts.specs.declared.Bytes.{Bytes}
-use Rattle.counts.proofs.Apart.{gives-apart, refused-gives}
+use Rattle.counts.proofs.Apart.{gives-apart, gives-refused, refused-gives}
 use Rattle.counts.proofs.Holds.{Holds, then-holds, then-any, unless-holds, holds-of}
 use Rattle.counts.proofs.Owes.{roomed-whole}
 use Rattle.counts.proofs.Sides.{lt-or-ge}
@@ -33,8 +33,10 @@ use Rattle.record.proofs.RoundTrips.{read-readable}
 use Rattle.list_text.proofs.Lengths.{listing-length}
 use Rattle.judge.specs.Judged.{reading}
 use Rattle.judge.proofs.Top.{reading-keeps}
+use Rattle.header.specs.declared.HeaderRead.{HeaderRead}
 use Rattle.header.specs.Reads.{afterPrefix, heldInto}
 use Rattle.list_file.specs.Report.{held-bytes, fresh, textFor, reportOf, Reports}
+use Rattle.list_file.specs.Said.{saidText, WritesSaid}
 use Rattle.list_file.specs.Enough.{WritesReport}
 use Rattle.read_back.proofs.Held.{held-whole}
 
@@ -111,27 +113,33 @@ names-held room need e =
     let short = ltb (room .name-bytes) (need .name-bytes) in
     ltb-false (room .name-bytes) (need .name-bytes) (or-right few short (or-left (few || short) (ltb (room .rank) (need .rank)) e))
 
-held-fits : (longer : Bool) (file : List ℕ) (o : Outcome Header) → length file ≤ held-bytes → heldInto longer file fresh ≡ o → length (textFor o) ≤ text-room
-held-fits longer file (gives h) short e =
-    let r = read-readable reading reading-keeps file (roomsOf fresh) h (held-whole longer file fresh h e) in
-    let start = holds-of (λ k. k .data-start ≤ length file) e (start-held longer file fresh) in
-    omega (
-      arith,
-      listing-length (h .version) (h .data-start) (h .says) [] (omega (arith, start, short)) (r .writable .sound) (r .writable .limits),
-      entries-held (roomsOf fresh) (needs (h .says)) (r .stored-in),
-      fresh-entries,
-      names-held (roomsOf fresh) (needs (h .says)) (r .stored-in),
-      fresh-names,
-    )
-held-fits longer file (refused n) short e =
-    let low = leb-true n last-number (subst (λ (o : Outcome Header). Numbered o) e (held-numbered longer file fresh) .so .1) in
-    omega (arith, printed-u64 n (10 ∷ []) (omega (arith, low)))
+module _ (longer : Bool) (file : List ℕ) (l : Lent) (short : length file < 2 ^ 64) where
+  fits-by : (o : Outcome Header) → heldInto longer file l ≡ o → length (textFor o) ≤ 1476 + 78 * roomsOf l .entries + 2 * roomsOf l .name-bytes
+  fits-by (gives h) e =
+      let r = read-readable reading reading-keeps file (roomsOf l) h (held-whole longer file l h e) in
+      let start = holds-of (λ k. k .data-start ≤ length file) e (start-held longer file l) in
+      omega (
+        arith,
+        listing-length (h .version) (h .data-start) (h .says) [] (omega (arith, start, short)) (r .writable .sound) (r .writable .limits),
+        entries-held (roomsOf l) (needs (h .says)) (r .stored-in),
+        names-held (roomsOf l) (needs (h .says)) (r .stored-in),
+      )
+  fits-by (refused n) e =
+      let low = leb-true n last-number (subst (λ (o : Outcome Header). Numbered o) e (held-numbered longer file l) .so .1) in
+      omega (arith, printed-u64 n (10 ∷ []) (omega (arith, low)))
+
+  held-fits : length (textFor (heldInto longer file l)) ≤ 1476 + 78 * roomsOf l .entries + 2 * roomsOf l .name-bytes
+  held-fits = fits-by (heldInto longer file l) refl
+
+  -- docs/RULES.md, "Room that is always enough": with room for the largest record
+  pub largest-fits : roomsOf l .entries ≤ 512 → roomsOf l .name-bytes ≤ 65536 → length (textFor (heldInto longer file l)) ≤ 172484
+  largest-fits en ns = omega (arith, held-fits, en, ns)
 
 pub report-fits : Report-fits
 unfolding reportOf
 report-fits file =
-    held-fits (ltb held-bytes (length file)) (take held-bytes file) (heldInto (ltb held-bytes (length file)) (take held-bytes file) fresh)
-    (omega (arith, length-take held-bytes file)) refl
+    let longer = ltb held-bytes (length file) in
+    omega (arith, held-fits longer (take held-bytes file) fresh (omega (arith, length-take held-bytes file)), fresh-entries, fresh-names)
 
 -- ---- with that room the text is written
 module _ (file room : List ℕ) (r : BytesAnswer) (room′ : List ℕ) (enough : text-room ≤ length room) (w : Reports file room r room′) where
@@ -148,8 +156,15 @@ module _ (file room : List ℕ) (r : BytesAnswer) (room′ : List ℕ) (enough :
   pub never-refused : (why : Refusal) → r ≡ BytesAnswer.Refused why → ⊥
   never-refused why e = refused-gives (sym (ap bytesAnswer e) ∙ whole)
 
--- and so as many bytes as are returned are in the room
+-- ---- as many bytes as are returned are in the room
 pub report-inside : (file room : List ℕ) (n : Bytes) (room′ : List ℕ) → WritesReport file room n room′ → n .0 ≤ length room′
 report-inside file room n room′ w =
     let text = reportOf file in
     omega (arith, w .answered, ap length (w .after), length-append text (drop (length text) room))
+
+pub said-inside : (r : HeaderRead) (l : Lent) (room : List ℕ) (x : BytesAnswer) (room′ : List ℕ) (n : Bytes) → WritesSaid r l room x room′ → x ≡ BytesAnswer.Is n → n .0 ≤ length room′
+said-inside r l room x room′ n w e = go (saidText r l room) (sym (ap bytesAnswer e) ∙ w .answered) (w .room-after)
+  where
+    go : (o : Outcome (List ℕ)) → gives (n .0) ≡ each length o → room′ ≡ afterwards atFront o room → n .0 ≤ length room′
+    go (gives text) f g = omega (arith, gives-apart f, ap length g, length-append text (drop (length text) room))
+    go (refused k) f g = gives-refused f

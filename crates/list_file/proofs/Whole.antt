@@ -1,10 +1,11 @@
 -- What the text for a file is: a header that was read is in the rooms and is accepted, so its listing is refused only where it has no room.
 use Prim.Native.Nat.{ℕ, _^_, _-_, _*_, _<_, _≤_}
 use mathlib.Core.Path.{_≡_, sym, ap, subst, _∙_}
+use mathlib.Core.Bool.{Bool}
 use mathlib.Core.List.{List, []}
 use lib.Dec.{ltb}
 use lib.ListN.{length, take, length-replicate}
-use Rattle.counts.specs.Outcome.{Outcome, refused, then}
+use Rattle.counts.specs.Outcome.{Outcome, then}
 use Rattle.counts.specs.Owes.{roomed, Owes}
 use Rattle.counts.proofs.Owes.{owes-same}
 use Rattle.refusal.specs.declared.Refusal.{Refusal}
@@ -13,36 +14,38 @@ use Rattle.refusal.specs.Numbers.{numberOf}
 use Rattle.emit.specs.Emits.{Emits}
 use Rattle.emit.proofs.Texts.{written-short, written-whole}
 use Rattle.dtype.specs.Record.{entry-width, Record}
-use Rattle.record.specs.Prefix.{Version}
 use Rattle.record.specs.Rooms.{Lent}
 use Rattle.header_prefix.specs.Answer.{versionIs}
 use Rattle.list_text.specs.Listing.{listing}
-use Rattle.header.specs.declared.RecordInfo.{RecordInfo}
 use Rattle.header.specs.declared.Header.{Header}
 use Rattle.header.specs.declared.HeaderRead.{HeaderRead}
-use Rattle.header.specs.Reads.{ReadsHeld}
-use Rattle.list_record.specs.Answer as lists
+use Rattle.header.specs.Reads.{heldInto, ReadsHeld}
+use Rattle.list_record.specs.Answer.{Lists}
 use Rattle.check_record.proofs.Accepts.{valid-checked}
-use Rattle.read_back.specs.Rooms.{tableStored, namesStored, shapeStored, Holds}
+use Rattle.read_back.specs.Rooms.{tableStored, namesStored, shapeStored}
 use Rattle.list_file.specs.Report.{held-bytes, fresh, refusedLine, textFor, reportOf, WritesText, Reports}
+use Rattle.list_file.specs.Said.{saidText, ListsHeader, WritesSaid}
 use Rattle.read_back.proofs.Held.{Alike, held-found, held-refused}
 
--- ---- the listing of a header that was read
-module _ (v : Version) (start : ℕ) (r : Record) (info : RecordInfo) (l : Lent) (room room′ : List ℕ) (h : Holds r info l) where
-  text-of : (x : BytesAnswer) → lists.Lists v start (tableStored info l) (namesStored info l) (shapeStored info l) (info .order) room x room′
-      → WritesText (listing v start r []) room x room′
-  text-of x w = owes-same _ _ room _ _ (ap (λ (o : Outcome Record). then o (λ z. roomed 28 room (listing v start z []))) (valid-checked _ _ _ _ _ (h .valid))) w
+-- ---- the listing of a header that was read: the fronts of the rooms, as the functions gave them
+module _ (h : Header) (l : Lent) (room room′ t ns s : List ℕ) (x : BytesAnswer) (et : t ≡ tableStored (h .info) l) (en : ns ≡ namesStored (h .info) l) (es : s ≡ shapeStored (h .info) l)
+    (w : Lists (versionIs (h .version)) (h .start .0) t ns s (h .info .order) room x room′) where
+  pub fronts-listed : ListsHeader h l room x room′
+  fronts-listed =
+      let v = versionIs (h .version) in
+      let start = h .start .0 in
+      let o = h .info .order in
+      subst (λ (u : List ℕ). Lists v start u (namesStored (h .info) l) (shapeStored (h .info) l) o room x room′) et
+      (subst (λ (u : List ℕ). Lists v start t u (shapeStored (h .info) l) o room x room′) en
+      (subst (λ (u : List ℕ). Lists v start t ns u o room x room′) es w))
 
-  -- the fronts, as the functions gave them
-  module _ (t ns s : List ℕ) (x : BytesAnswer) (et : t ≡ tableStored info l) (en : ns ≡ namesStored info l) (es : s ≡ shapeStored info l) (w : lists.Lists v start t ns s (info .order) room x room′) where
-    fronts : lists.Lists v start (tableStored info l) (namesStored info l) (shapeStored info l) (info .order) room x room′
-    fronts =
-        subst (λ (u : List ℕ). lists.Lists v start u (namesStored info l) (shapeStored info l) (info .order) room x room′) et
-        (subst (λ (u : List ℕ). lists.Lists v start t u (shapeStored info l) (info .order) room x room′) en
-        (subst (λ (u : List ℕ). lists.Lists v start t ns u (info .order) room x room′) es w))
+-- ---- what a reading says is a case of the text
+pub said-read : (r : HeaderRead) (h : Header) (l : Lent) (room : List ℕ) (x : BytesAnswer) (room′ : List ℕ) → r ≡ HeaderRead.Read h → ListsHeader h l room x room′ → WritesSaid r l room x room′
+said-read r h l room x room′ e w = subst (λ (y : HeaderRead). WritesSaid y l room x room′) (sym e) w
 
-    pub lists-all : WritesText (listing v start r []) room x room′
-    lists-all = text-of x fronts
+pub said-refused : (r : HeaderRead) (why : Refusal) (l : Lent) (room : List ℕ) (x : BytesAnswer) (room′ : List ℕ) → r ≡ HeaderRead.Refused why
+    → WritesText (refusedLine (numberOf why) []) room x room′ → WritesSaid r l room x room′
+said-refused r why l room x room′ e w = subst (λ (y : HeaderRead). WritesSaid y l room x room′) (sym e) w
 
 -- ---- a refusal's line
 module _ (k : ℕ) (scratch mid : List ℕ) (n : ℕ) (room : List ℕ) (fits : n < 2 ^ 64) (short : length room < 2 ^ 64 - 1) (measured : Emits (refusedLine k) scratch 0 mid n) where
@@ -55,6 +58,17 @@ module _ (k : ℕ) (scratch mid : List ℕ) (n : ℕ) (room : List ℕ) (fits : 
 pub line-known : (k n : ℕ) (room : List ℕ) (answer : Outcome ℕ) (room′ : List ℕ) → k ≡ n → Owes (roomed 28 room (refusedLine k [])) room answer room′
     → Owes (roomed 28 room (refusedLine n [])) room answer room′
 line-known k n room answer room′ e w = subst (λ (m : ℕ). Owes (roomed 28 room (refusedLine m [])) room answer room′) e w
+
+-- ---- after a reading it is the text for the header that was read, or for its refusal
+module _ (longer : Bool) (file : List ℕ) (l m : Lent) (alike : Alike l m) (l′ : Lent) (room : List ℕ) where
+  pub said-text : (r : HeaderRead) → ReadsHeld longer file l r l′ → saidText r l′ room ≡ roomed 28 room (textFor (heldInto longer file m))
+  said-text (HeaderRead.Read h) w =
+      let y = held-found longer file l m alike h l′ w in
+      let k = y .header-is in
+      let text : listing (versionIs (h .version)) (h .start .0) (k .says) [] ≡ textFor (heldInto longer file m) =
+      ap (λ u. listing u (h .start .0) (k .says) []) (y .version-is) ∙ ap (λ n. listing (k .version) n (k .says) []) (y .start-is) ∙ sym (ap textFor (y .given)) in
+      ap (λ (o : Outcome Record). then o (λ z. roomed 28 room (listing (versionIs (h .version)) (h .start .0) z []))) (valid-checked _ _ _ _ _ (y .holds .valid)) ∙ ap (roomed 28 room) text
+  said-text (HeaderRead.Refused f) w = ap (roomed 28 room) (sym (ap textFor (held-refused longer file l m alike f l′ w)))
 
 -- ---- the whole
 -- rooms of these lengths are as good as fresh ones
@@ -70,23 +84,9 @@ module _ (l : Lent) (a : length (l .table) ≡ entry-width * 512) (b : length (l
 
 module _ (file part : List ℕ) (l l′ : Lent) (r : HeaderRead) (room : List ℕ) (x : BytesAnswer) (room′ : List ℕ) (held : part ≡ take held-bytes file)
     (a : length (l .table) ≡ entry-width * 512) (b : length (l .names) ≡ 16384) (c : length (l .shape) ≡ 32) (w : ReadsHeld (ltb held-bytes (length file)) part l r l′) where
-  reads : (q : HeaderRead) → r ≡ q → ReadsHeld (ltb held-bytes (length file)) (take held-bytes file) l q l′
-  reads q e =
-      subst (λ (y : HeaderRead). ReadsHeld (ltb held-bytes (length file)) (take held-bytes file) l y l′) e
-      (subst (λ (y : List ℕ). ReadsHeld (ltb held-bytes (length file)) y l r l′) held w)
+  reads : ReadsHeld (ltb held-bytes (length file)) (take held-bytes file) l r l′
+  reads = subst (λ (y : List ℕ). ReadsHeld (ltb held-bytes (length file)) y l r l′) held w
 
-  pub reports-listing : (h : Header) → r ≡ HeaderRead.Read h
-      → ((k : Record) → Holds k (h .info) l′ → WritesText (listing (versionIs (h .version)) (h .start .0) k []) room x room′) → Reports file room x room′
+  pub reports-said : WritesSaid r l′ room x room′ → Reports file room x room′
   unfolding reportOf
-  reports-listing h e f =
-      let y = held-found (ltb held-bytes (length file)) (take held-bytes file) l fresh (fresh-alike l a b c) h l′ (reads (HeaderRead.Read h) e) in
-      let k = y .header-is in
-      let text : listing (versionIs (h .version)) (h .start .0) (k .says) [] ≡ reportOf file =
-      ap (λ u. listing u (h .start .0) (k .says) []) (y .version-is) ∙ ap (λ n. listing (k .version) n (k .says) []) (y .start-is) ∙ sym (ap textFor (y .given)) in
-      subst (λ (s : List ℕ). WritesText s room x room′) text (f (k .says) (y .holds))
-
-  pub reports-refused : (f : Refusal) → r ≡ HeaderRead.Refused f → WritesText (refusedLine (numberOf f) []) room x room′ → Reports file room x room′
-  unfolding reportOf
-  reports-refused f e v =
-      let y = held-refused (ltb held-bytes (length file)) (take held-bytes file) l fresh (fresh-alike l a b c) f l′ (reads (HeaderRead.Refused f) e) in
-      subst (λ (s : List ℕ). WritesText s room x room′) (sym (ap textFor y)) v
+  reports-said v = owes-same _ _ room _ _ (said-text (ltb held-bytes (length file)) (take held-bytes file) l fresh (fresh-alike l a b c) l′ room r reads) v

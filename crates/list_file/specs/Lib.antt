@@ -1,2 +1,3 @@
 pub mod Report
+pub mod Said
 pub mod Enough

@@ -1,5 +1,5 @@
-// What the listing program prints of a file (document 01, "What the collector buys"): the listing of its record, or `refused` and the number, with the rooms that the
-// program has. npy_list calls it.
+// What the listing programs print of a file (document 01, "What the collector buys"): the listing of its record, or `refused` and the number. npy_list calls `report_whole`, with the
+// rooms of document 01; npy_feed reads a header to rooms of its own and calls `put_read`.
 use counts::Bytes;
 use dtype::MOST_DIMENSIONS;
 use dtype::TABLE;
@@ -12,12 +12,9 @@ ghost use mathlib.Core.List.{[]};
 ghost use lib.ListN.{take};
 ghost use Rattle.refusal.specs.Numbers.{numberOf};
 ghost use Rattle.emit.specs.Emits.{Emits};
-ghost use Rattle.dtype.specs.Record.{Record};
-ghost use Rattle.header_prefix.specs.Answer.{versionIs};
-ghost use Rattle.list_text.specs.Listing.{listing};
 ghost use Rattle.header.specs.Reads.{lent};
-ghost use Rattle.read_back.specs.Rooms.{Holds};
 ghost use Rattle.list_file.specs.Report.{held-bytes, refusedLine, WritesText, Reports};
+ghost use Rattle.list_file.specs.Said.{ListsHeader, WritesSaid};
 ghost use Rattle.list_file.specs.Enough.{WritesReport};
 
 // How many of a file's first bytes the program holds.
@@ -49,8 +46,22 @@ pub fn report(file: &[u8], out: &mut [u8]) -> BytesAnswer
     let mut shape = [0u64; MOST_DIMENSIONS];
     let longer = HELD < file.len();
     let r = header::read_held(held_part(file), longer, &mut table, &mut names, &mut shape);
-    match r {
-        HeaderRead::Read(h) => list_header(h, &table, &names, &shape, out),
+    put_read(r, &table, &names, &shape, out)
+}
+
+// Puts the text for what a reading says of a header at the front of `out` and returns its length: the listing of the record at the fronts of the rooms that it was read to, or the line
+// of its refusal; or 28. Where the rooms are not as the reading left them, it refuses as `list_record::list` does.
+pub fn put_read(
+    said: HeaderRead,
+    table: &[u64],
+    names: &[u8],
+    shape: &[u64],
+    out: &mut [u8],
+) -> BytesAnswer
+    ensures { λ x. ⌜ WritesSaid said (lent (now (table .entry)) (now (names .entry)) (now (shape .entry))) (now (out .entry)) x (now (out .exit)) ⌝ }
+{
+    match said {
+        HeaderRead::Read(h) => list_header(h, table, names, shape, out),
         HeaderRead::Refused(why) => put_refused(why, out),
     }
 }
@@ -67,7 +78,7 @@ fn held_part(file: &[u8]) -> &[u8]
 
 // Puts the listing of a header that was read to the rooms.
 fn list_header(h: Header, table: &[u64], names: &[u8], shape: &[u64], out: &mut [u8]) -> BytesAnswer
-    ensures { λ x. ⌜ ((r : Record) → Holds r (h .info) (lent (now (table .entry)) (now (names .entry)) (now (shape .entry))) → WritesText (listing (versionIs (h .version)) (h .start .0) r []) (now (out .entry)) x (now (out .exit))) ⌝ }
+    ensures { λ x. ⌜ ListsHeader h (lent (now (table .entry)) (now (names .entry)) (now (shape .entry))) (now (out .entry)) x (now (out .exit)) ⌝ }
 {
     let info = h.info;
     let version = h.version;

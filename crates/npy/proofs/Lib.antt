@@ -1,2 +1,3 @@
 mod Putting
+mod Feeding
 pub mod Outcomes

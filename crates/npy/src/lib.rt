@@ -1,11 +1,15 @@
-// The C interface (include/npy.h): each function calls one function of the crates below and returns its answer as numbers. Called from C, and by run_npy, run_header and claims.
-// It returns 0 and writes its values, or returns the refusal's number and leaves all that it was lent as it was. Orders, versions and types are given by their numbers, and any
-// number is an input. (A refusal::Refusal is returned as its number; a type has a type_letters::Endianness, a type_letters::TypeChar and a type_units::TimeUnits, a value a value_float::Single or a
+// The C interface (include/npy.h): each function calls one function of the crates below and returns its answer as numbers. Called from C, and by run_npy, run_header, run_feed and claims.
+// It returns 0 and writes its values, or returns the refusal's number and leaves all that it was lent as it was; `npy_feed` also returns 255, and writes the feeder and the text buffer. Orders, versions, types
+// and feeders are given by their numbers, and any number is an input. (A refusal::Refusal is returned as its number; a type has a type_letters::Endianness, a type_letters::TypeChar and a type_units::TimeUnits, a value a value_float::Single or a
 // value_float::Double.)
 use counts::Bytes;
+use header_feed::Fed;
 use header_prefix::Version;
+use npy_codes::FEEDER;
+use npy_codes::FeederSays;
 use npy_codes::OrderGiven;
 use npy_codes::VersionGiven;
+use refusal::Refusal;
 use type_str::TypeRead;
 ghost use Rattle.counts.specs.Outcome.{then, each};
 ghost use Rattle.type_str.specs.TypeString.{typeString};
@@ -21,6 +25,9 @@ ghost use Rattle.header_prefix.specs.Answer.{versionIs};
 ghost use Rattle.header.specs.Reads.{lent};
 ghost use Rattle.npy_codes.specs.Codes.{Returns, oneNumber, orderFor, typeFor, typeValues, summaryValues, runValues};
 ghost use Rattle.npy_codes.specs.Values.{valueValues};
+ghost use Rattle.judge.specs.Judged.{reading};
+ghost use Rattle.header_feed.specs.Feeds.{need-more};
+ghost use Rattle.npy.specs.Feeding.{TakesInC, FeedsInC, EndsSayingInC, EndsInC};
 ghost use Rattle.npy.specs.Calls.{ReadsInC, ReadsHeldInC, ReadsTextInC, WritesInC, ListsInC, ListsAsInC, StridesInC, PrintsInC, Puts};
 
 // The header of a file. Its record goes to the three lent rooms; `said` is its version, order, rank, entries, name bytes and where the data starts.
@@ -50,6 +57,80 @@ pub extern "C" fn npy_read_held(
     ensures { λ r. ⌜ ReadsHeldInC longer (now (file .entry)) (lent (now (table .entry)) (now (names .entry)) (now (shape .entry))) (now (said .entry)) r (lent (now (table .exit)) (now (names .exit)) (now (shape .exit))) (now (said .exit)) ⌝ }
 {
     npy_codes::return_header(header::read_held(file, longer, table, names, shape), said)
+}
+
+// A part of a header, to a feeder, whose numbers become those of the feeder after it. The text goes to the front of `text`, a record to the three lent rooms; `said` is as of npy_read, and `used` is how
+// many bytes of the part were used.
+#[no_mangle]
+pub extern "C" fn npy_feed(
+    feeder: &mut [u64; FEEDER],
+    part: &[u8],
+    text: &mut [u8],
+    table: &mut [u64],
+    names: &mut [u8],
+    shape: &mut [u64],
+    said: &mut [u64; 6],
+    used: &mut [u64; 1],
+) -> u8
+    ensures { λ r. ⌜ FeedsInC (now (feeder .entry)) (now (part .entry)) (now (text .entry)) (lent (now (table .entry)) (now (names .entry)) (now (shape .entry))) (now (said .entry)) (now (used .entry)) r (now (feeder .exit)) (now (text .exit)) (lent (now (table .exit)) (now (names .exit)) (now (shape .exit))) (now (said .exit)) (now (used .exit)) ⌝ }
+{
+    match npy_codes::feeder_says(*feeder) {
+        FeederSays::More => feed_more(feeder, part, text, table, names, shape, said, used),
+        FeederSays::Header(h) => {
+            *used = [0];
+            npy_codes::return_fed(Fed::Read(h), said)
+        }
+        FeederSays::Refused(n) => {
+            *used = [0];
+            n
+        }
+        FeederSays::NoFeeder => Refusal::NoReading.number(),
+    }
+}
+
+// The same to a feeder that needs more.
+fn feed_more(
+    feeder: &mut [u64; FEEDER],
+    part: &[u8],
+    text: &mut [u8],
+    table: &mut [u64],
+    names: &mut [u8],
+    shape: &mut [u64],
+    said: &mut [u64; 6],
+    used: &mut [u64; 1],
+) -> u8
+    ensures { λ r. ⌜ TakesInC reading (now (feeder .entry)) (now (part .entry)) (now (text .entry)) (lent (now (table .entry)) (now (names .entry)) (now (shape .entry))) (now (said .entry)) (now (used .entry)) r (now (feeder .exit)) (now (text .exit)) (lent (now (table .exit)) (now (names .exit)) (now (shape .exit))) (now (said .exit)) (now (used .exit)) ⌝ }
+{
+    let f = npy_codes::feeder_at(*feeder);
+    let fed = header_feed::feed(f, part, text, table, names, shape);
+    let after = fed.feeder;
+    let says = after.said;
+    *feeder = npy_codes::feeder_numbers(after);
+    *used = [fed.used as u64];
+    npy_codes::return_fed(says, said)
+}
+
+// The end of the input, to a feeder: 1 or 3 if it needs more, which its numbers then say; else the outcome that it has said.
+#[no_mangle]
+pub extern "C" fn npy_feed_end(feeder: &mut [u64; FEEDER], said: &mut [u64; 6]) -> u8
+    ensures { λ r. ⌜ EndsInC (now (feeder .entry)) (now (said .entry)) r (now (feeder .exit)) (now (said .exit)) ⌝ }
+{
+    match npy_codes::feeder_says(*feeder) {
+        FeederSays::More => end_more(feeder, said),
+        FeederSays::Header(h) => npy_codes::return_fed(Fed::Read(h), said),
+        FeederSays::Refused(n) => n,
+        FeederSays::NoFeeder => Refusal::NoReading.number(),
+    }
+}
+
+// The same to a feeder that needs more.
+fn end_more(feeder: &mut [u64; FEEDER], said: &mut [u64; 6]) -> u8
+    ensures { λ r. ⌜ EndsSayingInC need-more (now (feeder .entry)) (now (said .entry)) r (now (feeder .exit)) (now (said .exit)) ⌝ }
+{
+    let f = header_feed::end(npy_codes::feeder_at(*feeder));
+    let says = f.said;
+    *feeder = npy_codes::with_saying(*feeder, says);
+    npy_codes::return_fed(says, said)
 }
 
 // The record of a header's text, of any length; `said` is its order, rank, entries and name bytes.

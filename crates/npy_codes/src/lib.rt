@@ -1,14 +1,19 @@
-// The numbers of the C interface: what a caller's number for an order, a version or a type names, and each answer as 0 and its values or as the refusal's number alone.
+// The numbers of the C interface: what a caller's number for an order, a version or a type names, and a caller's numbers for a feeder, and each answer as 0 and its values or as the refusal's number alone.
 // Crate npy calls these.
 use check_record::Checked;
 use check_record::ItemSize;
 use check_record::Summary;
+use counts::Bytes;
 use dtype::Entry;
 use dtype::Order;
 use dtype::PLAIN;
 use header::Header;
 use header::HeaderRead;
+use header::RecordInfo;
 use header::TextRead;
+use header_feed::Fed;
+use header_feed::Feeder;
+use header_feed::HEAD;
 use header_prefix::Version;
 use place::Placed;
 use refusal::BytesAnswer;
@@ -20,19 +25,60 @@ use type_str::TypeRead;
 use value::Value;
 use value::ValueAnswer;
 ghost use mathlib.Core.Path.{_≡_};
+ghost use mathlib.Core.List.{[], _∷_, _++_};
 ghost use mathlib.Core.Bool.{cond};
+ghost use lib.ListN.{take};
+ghost use Rattle.counts.specs.Outcome.{gives, each};
 ghost use Rattle.refusal.specs.Answers.{itemsAnswer, bytesAnswer, pointsAnswer};
 ghost use Rattle.record.specs.Prefix.{versionOf};
 ghost use Rattle.type_str.specs.Answer as typed;
 ghost use Rattle.check_record.specs.Answer as checked;
 ghost use Rattle.place.specs.Answer as placed;
 ghost use Rattle.header.specs.Reads as header;
+ghost use Rattle.header_feed.specs.Feeds.{outcome, progress};
 ghost use Rattle.value.specs.Values.{mostOf};
 ghost use Rattle.value.specs.Stored.{complement};
 ghost use Rattle.value.specs.Answer.{valueAnswer};
 ghost use Rattle.npy_codes.specs.Codes.{Returns, oneNumber, orderNumber, orderFor, typeFor, typeValues, textValues, headerValues, summaryValues, runValues};
 ghost use Rattle.npy_codes.specs.Values.{fourNumbers, valueNumbers, valueValues};
 ghost use Rattle.npy_codes.specs.Given.{orderGiven, versionGiven};
+ghost use Rattle.npy_codes.specs.Feeders.{ReturnsProgress, sayingNumbers, feederNumbers, headFor, takingFor, headerFor, saying};
+ghost use Rattle.refusal.specs.Numbers.{isRefusal};
+ghost use Rattle.npy_codes.specs.FeederSays.{feederSays};
+
+// How many numbers a feeder has.
+pub const FEEDER: usize = 20;
+
+// Which of them is how many bytes were taken; before it are the bytes of the head.
+const TAKEN: usize = 12;
+
+// Which says what the feeder says: 0 for need more, SAYS_HEADER, or the refusal's number.
+const SAYS: usize = 13;
+
+const SAYS_HEADER: u64 = 255;
+
+// The six values of a header, which are after it, and how many these are with it.
+const VERSION: usize = 14;
+
+const ORDER: usize = 15;
+
+const RANK: usize = 16;
+
+const ENTRIES: usize = 17;
+
+const NAMES: usize = 18;
+
+const START: usize = 19;
+
+const SAYING: usize = 7;
+
+// Need more, where a number is returned.
+pub const MORE: u8 = 255;
+
+// The refusals' numbers: 1 to the last of them all, and that of a text buffer.
+const LAST_REFUSAL: u64 = 32;
+
+const BUFFER: u64 = 36;
 
 // An order that a caller gives by its number.
 pub enum OrderGiven {
@@ -44,6 +90,14 @@ pub enum OrderGiven {
 pub enum VersionGiven {
     Is(Version),
     Refused(Refusal),
+}
+
+// What twenty numbers say, if they are a feeder's; a refusal by its number.
+pub enum FeederSays {
+    More,
+    Header(Header),
+    Refused(u8),
+    NoFeeder,
 }
 
 // The four numbers of a value.
@@ -312,5 +366,142 @@ fn twos_complement(z: i64) -> u64
         u64::MAX - ((-1 - z) as u64)
     } else {
         z as u64
+    }
+}
+
+// What a feeder's numbers say.
+pub fn feeder_says(numbers: [u64; FEEDER]) -> FeederSays
+    ensures { λ r. ⌜ feederSays r ≡ saying numbers ⌝ }
+{
+    let says = numbers[SAYS];
+    if says == 0 {
+        return FeederSays::More;
+    }
+    if says == SAYS_HEADER {
+        return header_said(numbers);
+    }
+    if is_refusal(says) {
+        return FeederSays::Refused(says as u8);
+    }
+    FeederSays::NoFeeder
+}
+
+// The header whose values are the last six numbers.
+fn header_said(numbers: [u64; FEEDER]) -> FeederSays
+    ensures { λ r. ⌜ feederSays r ≡ each (λ h. outcome (gives h)) (headerFor numbers) ⌝ }
+{
+    match version_for(numbers[VERSION]) {
+        VersionGiven::Is(version) => match order_for(numbers[ORDER]) {
+            OrderGiven::Is(order) => FeederSays::Header(Header {
+                version,
+                info: RecordInfo {
+                    order,
+                    rank: numbers[RANK] as usize,
+                    entries: numbers[ENTRIES] as usize,
+                    names: numbers[NAMES] as usize,
+                },
+                start: Bytes(numbers[START]),
+            }),
+            OrderGiven::Refused(_) => FeederSays::NoFeeder,
+        },
+        VersionGiven::Refused(_) => FeederSays::NoFeeder,
+    }
+}
+
+// Whether some refusal has this number.
+fn is_refusal(n: u64) -> bool
+    ensures { λ r. ⌜ r ≡ isRefusal n ⌝ }
+{
+    ((1 <= n) & (n <= LAST_REFUSAL)) | (n == BUFFER)
+}
+
+// The feeder that needs more, with the head and the count of these numbers.
+pub fn feeder_at(numbers: [u64; FEEDER]) -> Feeder
+    ensures { λ r. ⌜ r ≡ takingFor numbers ⌝ }
+{
+    Feeder {
+        head: head_at(numbers),
+        taken: numbers[TAKEN] as usize,
+        said: Fed::More,
+    }
+}
+
+// The bytes of the head: of each number the lowest.
+fn head_at(numbers: [u64; FEEDER]) -> [u8; HEAD]
+    ensures { λ r. ⌜ r ≡ headFor numbers ⌝ }
+{
+    let mut head = [0u8; HEAD];
+    let mut i: usize = 0;
+    while i < HEAD {
+        head[i] = (numbers[i] % 256) as u8;
+        i += 1;
+    }
+    head
+}
+
+// The numbers of a feeder.
+pub fn feeder_numbers(f: Feeder) -> [u64; FEEDER]
+    ensures { λ r. ⌜ r ≡ feederNumbers f ⌝ }
+{
+    let head = f.head;
+    let taken = f.taken;
+    let said = f.said;
+    with_saying(with_head(head, taken), said)
+}
+
+// Numbers that begin with a head and a count.
+fn with_head(head: [u8; HEAD], taken: usize) -> [u64; FEEDER]
+    ensures { λ r. ⌜ take 13 r ≡ head ++ taken ∷ [] ⌝ }
+{
+    let mut numbers = [0u64; FEEDER];
+    let mut i: usize = 0;
+    while i < HEAD {
+        numbers[i] = head[i] as u64;
+        i += 1;
+    }
+    numbers[TAKEN] = taken as u64;
+    numbers
+}
+
+// The same head and count, and what a feeder says.
+pub fn with_saying(numbers: [u64; FEEDER], said: Fed) -> [u64; FEEDER]
+    ensures { λ r. ⌜ r ≡ take 13 numbers ++ sayingNumbers (progress said) ⌝ }
+{
+    let says = saying_numbers(said);
+    let mut all = numbers;
+    let mut i: usize = 0;
+    while i < SAYING {
+        all[SAYS + i] = says[i];
+        i += 1;
+    }
+    all
+}
+
+// What is said, and the values of a header or zeros.
+fn saying_numbers(said: Fed) -> [u64; SAYING]
+    ensures { λ r. ⌜ r ≡ sayingNumbers (progress said) ⌝ }
+{
+    match said {
+        Fed::More => [0, 0, 0, 0, 0, 0, 0],
+        Fed::Read(h) => {
+            let mut v = [0u64; 6];
+            put_header(h, &mut v);
+            [SAYS_HEADER, v[0], v[1], v[2], v[3], v[4], v[5]]
+        }
+        Fed::Refused(why) => [why.number() as u64, 0, 0, 0, 0, 0, 0],
+    }
+}
+
+// Returns MORE; or writes the values of a header to `values` and returns 0; or returns the refusal's number.
+pub fn return_fed(said: Fed, values: &mut [u64; 6]) -> u8
+    ensures { λ r. ⌜ ReturnsProgress (progress said) (now (values .entry)) r (now (values .exit)) ⌝ }
+{
+    match said {
+        Fed::More => MORE,
+        Fed::Read(h) => {
+            put_header(h, values);
+            0
+        }
+        Fed::Refused(why) => why.number(),
     }
 }

@@ -1,7 +1,6 @@
 -- `list_file::list_header` meets its contract: the fronts of the rooms are the record's own parts.
-use Rattle.header_prefix.specs.Answer.{versionIs}
 use Rattle.header.specs.Reads.{lent}
-use Rattle.list_file.proofs.Whole.{lists-all}
+use Rattle.list_file.proofs.Whole.{fronts-listed}
 use borrow.Author.Needs.{needs}
 use Rattle.list_file.proofs.list_header.Statement.{statement}
 use Rattle.list_file.proofs.list_header.Tie as tie
@@ -22,9 +21,9 @@ same-length : tie.Need-same-length
 same-length c = search needs
 
 returns : tie.Need-returns
-returns c = λ r h.
+returns c =
     let a = c .before .before .before .before .before .before .before .before .before .before .before .before .before .args in
-    lists-all (versionIs (a .h .version)) (a .h .start .0) r (a .h .info) (lent (a .table .now) (a .names .now) (a .shape .now)) (a .out .now) _ h _ _ _ (c .before .before .list .result)
+    fronts-listed (a .h) (lent (a .table .now) (a .names .now) (a .shape .now)) (a .out .now) _ _ _ _ (c .before .before .list .result)
     (c .before .before .before .before .before .before .table-of .ensures) (c .before .before .before .before .before .names-of .ensures) (c .before .before .before .before .shape-of .ensures) (c .before .before .list .ensures)
 
 pub list-header-spec : {M : Type 1} → statement M

@@ -1,0 +1,12 @@
+pub mod Copies
+pub mod Prefixes
+pub mod Decides
+pub mod Holds
+pub mod Heads
+pub mod Calls
+pub mod Texts
+pub mod Outcomes
+pub mod Verdicts
+pub mod Reached
+pub mod Due
+pub mod Readings
