@@ -1,5 +1,5 @@
 // Reads what comes before a header's text (document 01, "From first byte to text"): the version and the text's length, or the first of 1 to 4 that applies. Called by
-// header; write_padding, list_record and npy_codes use its `Version`.
+// header and header_feed; write_padding, list_record and npy_codes use its `Version`.
 use counts::Number;
 use refusal::Refusal;
 use type_letters::Endianness;

@@ -52,7 +52,7 @@ pub const FEEDER: usize = 20;
 // Which of them is how many bytes were taken; before it are the bytes of the head.
 const TAKEN: usize = 12;
 
-// Which says what the feeder says: 0 for need more, SAYS_HEADER, or the refusal's number.
+// Which says what the feeder says: 0 for need more, so that zeros are the start; SAYS_HEADER; or the refusal's number. (Where a number is returned, 0 is a header, and MORE need more.)
 const SAYS: usize = 13;
 
 const SAYS_HEADER: u64 = 255;
@@ -75,7 +75,7 @@ const SAYING: usize = 7;
 // Need more, where a number is returned.
 pub const MORE: u8 = 255;
 
-// The refusals' numbers: 1 to the last of them all, and that of a text buffer.
+// The refusals' numbers: 1 to LAST_REFUSAL, and BUFFER.
 const LAST_REFUSAL: u64 = 32;
 
 const BUFFER: u64 = 36;
