@@ -36,9 +36,9 @@ use Rattle.header_feed.proofs.Calls.{buffer-short}
 use Rattle.header_feed.proofs.Verdicts.{Verdict, short, three, other, no-buffer, part-text, whole-text, verdict, apart, settled-stays}
 use Rattle.header_feed.proofs.Reached.{Pending, Settled, Reached, stays-of, call-on, fresh-pending, fresh-reached, used-append, taken-append, used-within}
 use Rattle.header_feed.proofs.Due.{due-is, due-reached, due-least, used-due}
-use Rattle.npy_codes.specs.Codes.{code, orderFor}
+use Rattle.npy_codes.specs.Codes.{code, orderFor, headerValues}
 use Rattle.npy_codes.specs.Feeders.{progressCode, progressValues, ReturnsProgress, feederNumbers, sayingNumbers, headFor, takenFor, orNoFeeder, headerFor, saying, endedNumbers}
-use Rattle.refusal.specs.Numbers.{isRefusal}
+use Rattle.refusal.specs.Numbers.{numberOf, isRefusal}
 use Rattle.npy_codes.proofs.FeederNumbers.{low-length, says-refusal}
 use Rattle.npy_codes.proofs.Feeders.{refusal-known, saying-back, taken-back, head-back, zeros-need-more, zeros-head, zeros-taken}
 use Rattle.npy.specs.Feeding.{NoFeederInC, FeedsAsInC, FeedsByInC, EndsSayingInC, EndsNoneInC, EndsAsInC}
@@ -459,6 +459,21 @@ run-same f h (call-before said₁ used₁ r₁ ns₁ text₁ l₁ said₂ n m c 
     let total : s .feeding .used + m ≡ n + m = omega (arith, s .used-is) in
     record { last = k .last; run = run-total total (one-by (s .feeding) text₁ l₁ m (s .feeds) (k .run)); numbered = k .numbered; returned = k .returned }
 
+-- 0 is returned for a header alone, whose data starts after the bytes used
+module _ (rd : header.Reading) (file text : List ℕ) (l : Lent) (f : Feeder) (text′ : List ℕ) (l′ : Lent) (n : ℕ) (a : Arrived rd file text l f text′ l′ n) (said : List ℕ) (r : ℕ) (said′ : List ℕ) where
+  zero-start : ReturnsProgress (progress (f .said)) said r said′ → (h : HeaderInfo) → r ≡ 0 → said′ ≡ headerValues h → n ≡ h .data-start
+  zero-start s h e v = go (f .said) refl (s .answered) (s .after)
+    where
+      go : (w : Fed) → f .said ≡ w → r ≡ progressCode (progress (f .said)) → said′ ≡ progressValues (progress (f .said)) said → n ≡ h .data-start
+      go Fed.More q c b = let z : _≡_ {A = ℕ} 0 255 = sym e ∙ c ∙ ap (λ (k : Fed). progressCode (progress k)) q in absurd (omega arith)
+      go (Fed.Read k) q c b =
+          let d = to-data rd file text l f text′ l′ n a (headerIs k) (ap progress q) in
+          let same : headerValues h ≡ headerValues (headerIs k) = sym v ∙ b ∙ ap (λ (u : Fed). progressValues (progress u) said) q in
+          d ∙ sym (ap (λ (x : List ℕ). getD x 5 0) same)
+      go (Fed.Refused why) q c b =
+          let z : 0 ≡ numberOf why = sym e ∙ c ∙ ap (λ (k : Fed). progressCode (progress k)) q in
+          absurd (apart (isRefusal 0) (rw (← z) at (refusal-known why)) refl)
+
 pub however-cut-in-c : However-cut-in-C
 however-cut-in-c parts text l said r ns′ text′ l′ said′ n run r₀ m said₀ whole =
     let s = run-same freshFeeder zeros-fresh run in
@@ -480,6 +495,7 @@ however-cut-in-c parts text l said r ns′ text′ l′ said′ n run r₀ m sai
       says-same = λ u e.
           let z = a .same u e in
           (s .returned .answered ∙ ap progressCode (z .0) ∙ sym (answered .answered), z .1 ∙ sym rooms, s .returned .after ∙ ap (λ (p : Progress). progressValues p said) (z .0) ∙ sym (answered .after));
+      used-to-data = λ h e v. zero-start reading (joined parts) text l f text′ l′ n a said r said′ (s .returned) h e v;
     }
 
 -- ---- what any twenty numbers get

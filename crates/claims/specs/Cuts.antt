@@ -20,6 +20,7 @@ use Rattle.header_feed.specs.declared.Feeder.{Feeder}
 use Rattle.header_feed.specs.declared.Feeding.{Feeding}
 use Rattle.header_feed.specs.Due.{due}
 use Rattle.header_feed.specs.Feeds.{Progress, need-more, outcome, progress, cutShort, Kept, Stays}
+use Rattle.npy_codes.specs.Codes.{headerValues}
 use Rattle.npy_codes.specs.Feeders.{ReturnsProgress, saying}
 use Rattle.npy.specs.Feeding.{StaysInC}
 use Rattle.claims.specs.Beyond.{Same-rest}
@@ -124,6 +125,7 @@ pub record Cut-in-C (file text : List ℕ) (l : Lent) (said : List ℕ) (r₀ : 
   pub ends-early : length file < due (length text) file → (said₁ : List ℕ) (q : ℕ) (numbers″ said₂ : List ℕ) → Npy-feed-end numbers′ said₁ q numbers″ said₂ → (q ≡ cutShort (length file)) × (r₀ ≡ cutShort (length file)) × (said₂ ≡ said₁)
   pub says-36 : Too-short (length text) file → (r ≡ 36) × (l′ ≡ l) × (said′ ≡ said)
   pub says-same : due (length text) file ≤ length file → Long-enough (length text) file → (r ≡ r₀) × (l′ ≡ m) × (said′ ≡ said₀)
+  pub used-to-data : (h : HeaderInfo) → r ≡ 0 → said′ ≡ headerValues h → total ≡ h .data-start
 
 -- the claim, from twenty zeros on
 abbrev pub However-cut-in-C : Type 0

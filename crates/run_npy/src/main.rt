@@ -1,4 +1,4 @@
-// Replays framed cases through every function of the C interface, one line an answer: the returned number, the values, and the final content of each lent room. The
+// Replays framed cases through every function of the C interface but `npy_feed` and `npy_feed_end` (run_feed), one line an answer: the returned number, the values, and the final content of each lent room. The
 // parts of a case and of a line are described in docs/FRAMES.md. Every lent number and byte is 5 before a call.
 use counts::Number;
 use dtype::MOST_NAMES;
