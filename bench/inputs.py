@@ -11,15 +11,20 @@
     escaped     the same with names of quotes, each after its backslash
     nested      records in records, as deep as 32 brackets allow, most of the text in the innermost, one of whose fields has a sub-shape
     shapes      fields with sub-shapes of 32 dimensions of 20 digits, each on a line of its own
-    wide        one field with a sub-shape of thousands of dimensions, which 13 refuses after the whole descr
+    wide        one field with a sub-shape of thousands of dimensions of one digit, which 13 refuses after the whole descr
+    digits-K-   the same with dimensions of K digits, as many as there is room for; 12 refuses those of 40
+    integer     a key that is ignored, with one integer of as many digits as there is room for
+    sizes20     a record of 20 fields with sizes of 1 to 20 digits, zeros in front
+    sizes       as many fields as in flat, with sizes of 230 digits, zeros in front
 
-The last five are texts of 65,536 bytes (flat64 ..) and of 131,072 (flat128 ..): the same with twice as many fields or members. What is missing to the length is blanks.
+All from flat on but sizes20 are texts of 65,536 bytes (flat64, digits-8-64 ..) and of 131,072 (flat128 ..): the same with twice as many fields or members. What is missing to the length is blanks.
 """
 import os
 import sys
 
 TYPES = ('<i4', '<f8', '|b1', '<u2', '>c16', '<M8[ns]', '<m8[us]', '|S12', '<U8', '|V6')
 MOST = 2 ** 64 - 1
+DIGITS = (2, 3, 4, 6, 8, 10, 12, 16, 19, 20, 40)
 
 
 def header(descr, shape='(10, 100)'):
@@ -83,6 +88,25 @@ def wide(count):
     return header('[' + field('a', "'<i4'", '(' + ', '.join(str(1 + k % 9) for k in range(count)) + ')') + ']')
 
 
+def digits(each, length):
+    """Dimensions of so many digits; those of 20 are the largest there are."""
+    def dimension(number):
+        if each == len(str(MOST)):
+            return str(MOST - 7 * number)
+        return str(1 + number % 9) + ''.join(str((7 * number + 3 * k) % 10) for k in range(1, each))
+    count = (length - len(header('[' + field('a', "'<i4'", '()') + ']'))) // (each + 2)
+    return header('[' + field('a', "'<i4'", '(' + ', '.join(map(dimension, range(count))) + ')') + ']')
+
+
+def sized(number, each):
+    """A type of 8 bytes, its size written with so many digits."""
+    return repr(('<i', '|S', '<f', '>u')[number % 4] + '8'.rjust(each, '0'))
+
+
+def sizes(count):
+    return header('[' + ',\n'.join(field(f'n{k}', sized(k, 230)) for k in range(count)) + ']')
+
+
 def files():
     yield 'small', file_of(header("'<i4'", '(3,)'), 118)
     twenty = header('[' + ', '.join(field(f'field_{k}', plain(k)) for k in range(20)) + ']')
@@ -92,6 +116,16 @@ def files():
     for what, half in ((flat, 255), (escaped, 254), (nested, 240), (shapes, 7), (wide, 21_750)):
         yield what.__name__ + '64', file_of(what(half), 65_536)
         yield what.__name__ + '128', file_of(what(2 * half), 131_072)
+    for each in DIGITS:
+        for length in (64, 128):
+            yield f'digits-{each}-{length}', file_of(digits(each, length * 1024), length * 1024)
+    for length in (64, 128):
+        start = header("'<i4'", '(3,)')[:-1] + "'x': "
+        yield f'integer{length}', file_of(start + '7' * (length * 1024 - len(start) - 2) + '}', length * 1024)
+    twenty = header('[' + ', '.join(field(f'field_{k}', sized(k, k)) for k in range(1, 21)) + ']')
+    yield 'sizes20', file_of(twenty, len(twenty) // 64 * 64 + 64 + 54)
+    for length, count in ((64, 255), (128, 510)):
+        yield f'sizes{length}', file_of(sizes(count), length * 1024)
 
 
 def main():

@@ -71,7 +71,7 @@ def goals(found, names):
         ratio = found['ratio']['read'][name]
         yield f'{name}: within {WITHIN_C} times of the C reader', f'{ratio:.2f}', ratio <= WITHIN_C
     for name, ratio in found['doubled']['read'].items():
-        yield f'{name.removesuffix("128")}: doubling the text takes at most {MOST_DOUBLED} times the time', f'{ratio:.2f}', ratio <= MOST_DOUBLED
+        yield f'{name.removesuffix("128").rstrip("-")}: doubling the text takes at most {MOST_DOUBLED} times the time', f'{ratio:.2f}', ratio <= MOST_DOUBLED
     for name in ONE_PART:
         ratio = found['ratio']['feed-whole'][name]
         yield f'{name} in one part: at most {WITHIN_WHOLE} times reading it whole', f'{ratio:.2f}', ratio <= WITHIN_WHOLE
@@ -119,7 +119,7 @@ rustc {tool['rustc']} in its release profile; NumPy is {tool['numpy']} on Python
 A number is the median of 41 samples of some 2 ms (NumPy: 21), in time of the thread itself on the processor. Ours and the C reader are called in turns in one process, and their ratio is the median of the pairs' ratios; so it is for a text and the one of twice its length, and for a header in parts and the whole.
 They gave the same answer and the same rooms for each input. The inputs are made by `bench/inputs.py`; `64` and `128` are texts of 65,536 and 131,072 bytes. `–` is where a program does not do that.
 
-The C reader (`bench/plain.c`) reads the text once for UTF-8 and once for everything else; `bench/check-plain` holds it against the recorded answers. npyz hands the literal to a crate that is not among its sources: here its literal is read by our own
+The C reader (`bench/plain.c`) reads the text once for UTF-8 and once for everything else, digits one at a time; `bench/check-plain` holds it against the recorded answers. npyz hands the literal to a crate that is not among its sources: here its literal is read by our own
 (`tests/npyz/py_literal.rs`), and what npyz takes with the other is not known. `refuses` is where npyz or NumPy refuses the input, or panics.
 
 ## Goals

@@ -65,6 +65,14 @@ def long_reads():
         yield read_case(FULL, files.file_of(text, (3, 0)))
 
 
+def dimension_reads():
+    """Dimensions on both sides of each block of eight digits, of 2^64 and of twenty digits, in a shape and in a sub-shape; with a letter after them, and at the text's end."""
+    edges = sorted({10 ** n - d for n in (1, 7, 8, 9, 15, 16, 17, 19, 20, 21, 24, 30) for d in (0, 1)} | {2 ** 64 - 1, 2 ** 64, 2 ** 64 + 4})
+    for number in (str(edge).encode() for edge in edges):
+        files_of = (files.H(shape=b'(0,' + number + b')'), files.H(b"[('a','<i4',(0," + number + b'))]'), files.H(shape=b'(' + number + b'x,)'), files.file_of(b"{'shape':(" + number))
+        yield from (read_case(FULL, file) for file in files_of)
+
+
 def held_reads():
     """The first bytes of files that are longer, cut around each part of the prefix and of the text; and 16,384 name bytes, and one more, in the room of the listing program."""
     for file in (files.H(), files.file_of(files.header(), (2, 0)), files.file_of(files.header(b"[('\xc3\xa9','<U3',(2,))]"), (3, 0)), files.H(b"'=i4'"), files.file_of(files.padded(files.header(), 131_073), (2, 0))[:200]):

@@ -140,8 +140,16 @@ def long_ones():
         yield text_of(rng, 6, 40)
 
 
+def digit_runs():
+    """Runs of digits on both sides of each block of eight: alone, in brackets, after a minus sign and a zero, with each neighbour of the digits after them, and with a letter in each place."""
+    for n in (*range(1, 27), 31, 32, 33, 40, 41):
+        run = (b'1234567890' * 5)[:n]
+        yield from (run, b'-' + run, b'[' + run + b']', b'[' + run, b'0' + run, run + b'/', run + b':', run + b'a', run + b' 1', b'(' + run + b', ' + run + b',)')
+        yield from (run[:at] + byte + run[at:] for at in range(n) for byte in (b'a', b'/'))
+
+
 def recorded():
-    """The gate's texts: those named in document 01 and the readings, all short ones over the structure, every byte in every place of some texts and after a backslash, NumPy's, long and generated ones."""
+    """The gate's texts: those named in document 01 and the readings, all short ones over the structure, every byte in every place of some texts and after a backslash, NumPy's, long and generated ones, and runs of digits."""
     rng = random.Random(12)
     texts = [text for text, _ in NAMED]
     texts += up_to(3, STRUCTURE)
@@ -162,4 +170,4 @@ def recorded():
         if text not in have:
             have.add(text)
             texts.append(text)
-    return texts
+    return list(dict.fromkeys([*texts, *digit_runs()]))

@@ -130,13 +130,25 @@ def sizes(count, seed):
         yield order + letter + b'0' * rng.choice((0, 0, 1, 5, 25)) + str(rng.randrange(2 ** rng.randrange(1, 65))).encode()
 
 
+def digit_runs():
+    """Sizes on both sides of each block of eight digits, of 2^64 and of twenty digits, with up to 17 zeros in front, with each neighbour of the digits after them, and with a letter in each place."""
+    edges = sorted({10 ** n - d for n in (1, 7, 8, 9, 15, 16, 17, 19, 20, 21, 24, 30) for d in (0, 1)} | {2 ** 64 - 1, 2 ** 64, 2 ** 64 + 4})
+    for size in edges:
+        for zeros in range(18):
+            yield b'|S' + b'0' * zeros + str(size).encode()
+        yield from (b'>V' + str(size).encode() + tail for tail in (b'/', b':', b'x', b'[s]'))
+    for n in (7, 8, 9, 15, 16, 17, 19, 20, 24, 25):
+        run = (b'1234567890' * 3)[:n]
+        yield from (b'<U' + run[:at] + byte + run[at:] for at in range(n) for byte in (b'x', b'/'))
+
+
 def everything():
-    for part in (short(), middling(), numbers(), units(), single_bytes(), damaged_ones(400_000, 1), sizes(100_000, 4), valid()):
+    for part in (short(), middling(), numbers(), units(), single_bytes(), damaged_ones(400_000, 1), sizes(100_000, 4), digit_runs(), valid()):
         yield from part
 
 
 def recorded():
-    """The gate's cases: every string up to 3 bytes over CORE, and 20,000 others."""
+    """The gate's cases: every string up to 3 bytes over CORE, 20,000 others, and sizes of many digits."""
     rng = random.Random(2)
     brief = list(up_to(3, CORE))
     seen = set(brief)
@@ -158,4 +170,5 @@ def recorded():
     take((case for case in middling()), 2_000)
     take(units(), 1_000)
     take(damaged_ones(60_000, 3), 20_000 - len(others))
+    take(digit_runs(), 1_000)
     return brief + others
