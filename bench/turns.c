@@ -5,6 +5,8 @@
 // Writes for each input the nanoseconds of one `npy_read` by OTHER and by THIS, and the median of the pairs' ratios; and the same of `npy_write_header` for an input that is read. Time is the thread's own
 // on the processor. Exit status 1 where the two give different answers, rooms or values.
 #define _GNU_SOURCE
+#include "../include/npy.h"
+
 #include <dlfcn.h>
 #include <stdbool.h>
 #include <stdint.h>
@@ -15,8 +17,8 @@
 
 enum { PAIRS = 81, SAMPLE_NS = 1000000, MOST_FILE = 200000, MOST_NUMBERS = 9 * 512, MOST_NAMES = 65536, MOST_RANK = 32 };
 
-typedef uint8_t reader(const uint8_t *, size_t, uint64_t *, size_t, uint8_t *, size_t, uint64_t *, size_t, uint64_t *);
-typedef uint8_t writer(const uint64_t *, size_t, const uint8_t *, size_t, const uint64_t *, size_t, uint8_t, uint8_t *, size_t, uint64_t *);
+typedef __typeof__(npy_read) reader;
+typedef __typeof__(npy_write_header) writer;
 
 // A library, and what it read and wrote last.
 struct library {
@@ -45,7 +47,7 @@ static void read_it(struct library *l)
 
 static void write_it(struct library *l)
 {
-    l->answer = l->write(l->table, 9 * l->said[3], l->names, l->said[4], l->shape, l->said[2], (uint8_t)l->said[1], l->out, MOST_FILE, &l->written);
+    l->answer = l->write(l->table, 9 * l->said[3], l->names, l->said[4], l->shape, l->said[2], l->said[1], l->out, MOST_FILE, &l->written);
 }
 
 static double now(void)

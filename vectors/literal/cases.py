@@ -141,7 +141,7 @@ def long_ones():
 
 
 def digit_runs():
-    """Runs of digits on both sides of each block of eight: alone, in brackets, after a minus sign and a zero, with each neighbour of the digits after them, and with a letter in each place."""
+    """Runs of digits on both sides of each block of eight: alone, in brackets, after a minus sign and a zero, with each neighbour of the digits after them, and with a letter or `/` in each place."""
     for n in (*range(1, 27), 31, 32, 33, 40, 41):
         run = (b'1234567890' * 5)[:n]
         yield from (run, b'-' + run, b'[' + run + b']', b'[' + run, b'0' + run, run + b'/', run + b':', run + b'a', run + b' 1', b'(' + run + b', ' + run + b',)')

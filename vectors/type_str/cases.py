@@ -131,7 +131,7 @@ def sizes(count, seed):
 
 
 def digit_runs():
-    """Sizes on both sides of each block of eight digits, of 2^64 and of twenty digits, with up to 17 zeros in front, with each neighbour of the digits after them, and with a letter in each place."""
+    """Sizes on both sides of each block of eight digits, of 2^64 and of twenty digits, with up to 17 zeros in front, with each neighbour of the digits after them, and with a letter or `/` in each place."""
     edges = sorted({10 ** n - d for n in (1, 7, 8, 9, 15, 16, 17, 19, 20, 21, 24, 30) for d in (0, 1)} | {2 ** 64 - 1, 2 ** 64, 2 ** 64 + 4})
     for size in edges:
         for zeros in range(18):

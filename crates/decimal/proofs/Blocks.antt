@@ -1,5 +1,5 @@
 -- Digits in blocks. A text with k digits at its front begins with a block of k digits, and the digits after it are the others; a number with the digits of a block
--- appended one after the other is the number shifted, and the block's. So `readOn` is the same before a digit or a block and after it.
+-- appended one after the other is the number shifted plus the block's. So `readOn` is the same before a digit or a block and after it.
 use Prim.Native.Nat.{ℕ, zero, suc, _+_, _*_, _-_, _/_, _^_, _<_, _≤_}
 use native.Mathlib.Nat.{pow-suc, mul-assoc, mul-add, mul-comm, mul-le-mul-left, suc-mul, add-assoc, zero-add}
 use native.Mathlib.Numerals.{add-one}
@@ -78,7 +78,7 @@ unfolding appended decimalFrom
 append-number [] n = refl
 append-number (d ∷ ds) n = ap (λ (x : Number). appended x ds) (with-digit-number n (d - 48)) ∙ append-number ds (10 * n + (d - 48))
 
--- the number of digits after n is n shifted, and theirs
+-- digits after n write n shifted plus what they write alone
 decimal-shift : (w : List ℕ) (n : ℕ) → decimalFrom n w ≡ 10 ^ length w * n + decimal w
 unfolding decimalFrom
 decimal-shift [] n = omega arith

@@ -1,4 +1,4 @@
--- The number of eight digits by their pairs. The digits are taken as one number of eight bytes, the first digit lowest. Ten times that number, and the same without its first byte,
+-- The number of eight digits by their pairs. The digits are taken as one number of eight bytes, the first digit lowest. Ten times that number plus the number without its first byte
 -- is a number whose bytes are each a digit and the next one, as a number below 100; bytes 0, 2, 4 and 6 have the four pairs.
 use Prim.Native.Nat.{ℕ, suc, _+_, _*_, _-_, _/_, _%_, _^_, _<_, _≤_}
 use native.Mathlib.Nat.{pow-suc, pow-le-pow-right}
@@ -130,25 +130,29 @@ without-6 : (y : ℕ) → y / 281474976710656 ≡ y / 65536 / 65536 / 65536
 without-6 y = omega arith
 
 -- ---- the number of eight digits
+-- the byte 48 eight times
+abbrev pub zeros : ℕ
+zeros = 3472328296227680304
+
 module _ (s : List ℕ) (l : length s ≡ 8) (p : allDigits s ≡ true) (n : ℕ) (k : Packed s 0 n) where
-  pub zeros-below : 3472328296227680304 ≤ n
+  pub zeros-below : zeros ≤ n
   unfolding packed
   zeros-below = let t = eight-digits s l p in omega (arith, k .is, ap packed (t .are))
 
   -- no digit is above 9
-  pub digits-below : n - 3472328296227680304 ≤ 651061555542690057
+  pub digits-below : n - zeros ≤ 651061555542690057
   unfolding packed
   digits-below = let t = eight-digits s l p in omega (arith, t .small, k .is, ap packed (t .are))
 
-  pub by-pairs : (y : ℕ) → y ≡ (n - 3472328296227680304) * 10 + (n - 3472328296227680304) / 256
+  pub by-pairs : (y : ℕ) → y ≡ (n - zeros) * 10 + (n - zeros) / 256
       → y % 256 * 1000000 + y / 65536 % 256 * 10000 + y / 4294967296 % 256 * 100 + y / 281474976710656 % 256 ≡ decimal s
   unfolding packed decimalFrom
   by-pairs y q =
       let t = eight-digits s l p in
       let m = t .small in
       let w = t .b + 256 * (t .c + 256 * (t .d + 256 * (t .e + 256 * (t .f + 256 * (t .g + 256 * t .h))))) in
-      let v : n - 3472328296227680304 ≡ t .a + 256 * w = omega (arith, k .is, ap packed (t .are)) in
-      let u : (n - 3472328296227680304) / 256 ≡ w = omega (arith, v, m .0) in
+      let v : n - zeros ≡ t .a + 256 * w = omega (arith, k .is, ap packed (t .are)) in
+      let u : (n - zeros) / 256 ≡ w = omega (arith, v, m .0) in
       let y6 = 10 * t .g + t .h + 256 * (10 * t .h + 0) + 65536 * 0 in
       let y4 = 10 * t .e + t .f + 256 * (10 * t .f + t .g) + 65536 * y6 in
       let y2 = 10 * t .c + t .d + 256 * (10 * t .d + t .e) + 65536 * y4 in

@@ -15,7 +15,7 @@ unfoldable pub allDigits : List ℕ → Bool
 allDigits [] = true
 allDigits (b ∷ s) = isDigit b && allDigits s
 
--- a number with a block of digits appended, which write b, one of the `numbers` numbers that so many digits can write
+-- a number with digits appended that write b, where so many digits write the numbers below `numbers`: 10 for one digit, 10^8 for eight
 unfoldable pub withBlock : Number → ℕ → ℕ → Number
 withBlock (Is n) numbers b = number (numbers * n + b)
 withBlock Over numbers b = Over
@@ -25,6 +25,6 @@ unfoldable pub appended : Number → List ℕ → Number
 appended x [] = x
 appended x (d ∷ ds) = appended (withDigit x (d - 48)) ds
 
--- the digits from a position on, appended to the number of those before it
+-- what is read in all where the digits before a position write x: how many digits, and their number
 unfoldable pub readOn : List ℕ → ℕ → Number → Digits
 readOn text from x = record { count = from + length (digitsOf (drop from text)); number = appended x (digitsOf (drop from text)) }

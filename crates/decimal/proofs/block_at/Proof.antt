@@ -1,7 +1,10 @@
 -- `decimal::block_at` meets its contract: a text that is too short has no eight digits there, and eight bytes are digits where the text has eight digits (`front-digits`).
-use Prim.Native.Nat.{ℕ, _+_, _-_}
+use Prim.Native.Nat.{ℕ, _+_, _-_, _<_}
 use native.Mathlib.Omega.{arith}
 use mathlib.Core.Path.{_≡_, sym, ap, _∙_}
+use mathlib.Core.List.{List}
+use mathlib.Core.Bool.{false}
+use lib.Dec.{leb}
 use lib.ListN.{length, take, drop, length-drop}
 use borrow.Author.Tests.{lt-leb}
 use borrow.Author.Needs.{needs}
@@ -12,20 +15,17 @@ use Rattle.decimal.proofs.Blocks.{front-digits}
 use Rattle.decimal.proofs.block_at.Statement.{statement}
 use Rattle.decimal.proofs.block_at.Tie as tie
 
+short : (text : List ℕ) (at : ℕ) → length text < at + 8 → false ≡ leb 8 (length (digitsOf (drop at text)))
+short text at h = sym (lt-leb 8 (length (digitsOf (drop at text))) (omega (arith, h, digits-inside (drop at text), length-drop at text)))
+
 returns : tie.Need-returns
-returns c =
-    let a = c .before .before .args in
-    let rest = drop (a .at) (a .text .now) in
-    sym (lt-leb 8 (length (digitsOf rest)) (omega (arith, digits-inside rest, length-drop (a .at) (a .text .now))))
+returns c = let a = c .before .before .args in short (a .text .now) (a .at) (omega arith)
 
 sub-if2 : tie.Need-sub-if2
 sub-if2 c = search needs
 
 returns-2 : tie.Need-returns-2
-returns-2 c =
-    let a = c .before .before .before .args in
-    let rest = drop (a .at) (a .text .now) in
-    sym (lt-leb 8 (length (digitsOf rest)) (omega (arith, digits-inside rest, length-drop (a .at) (a .text .now))))
+returns-2 c = let a = c .before .before .before .args in short (a .text .now) (a .at) (omega arith)
 
 add-all-digits : tie.Need-add-all-digits
 add-all-digits c = search needs

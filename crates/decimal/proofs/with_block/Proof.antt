@@ -24,7 +24,9 @@ div-most : tie.Need-div-most
 div-most c = search needs
 
 room : (c : tie.Then1) → c .before .before .number .given .0 .0 * c .before .before .before .before .args .numbers + c .before .before .before .before .args .block < 2 ^ 64
-room c = block-fits _ _ _ (c .if1 .taken) (c .before .before .before .before .pre)
+room c =
+    let a = c .before .before .before .before .args in
+    block-fits (c .before .before .number .given .0 .0) (a .numbers) (a .block) (omega (arith, c .if1 .taken)) (c .before .before .before .before .pre)
 
 mul-t7 : tie.Need-mul-t7
 mul-t7 c = record { fits = omega (arith, room c) }
