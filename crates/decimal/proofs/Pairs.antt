@@ -28,11 +28,11 @@ pub record Packed (s : List ℕ) (i n : ℕ) : Type 0 where
   pub below : n < 256 ^ (8 - i)
 
 module _ (s : List ℕ) (l : length s ≡ 8) where
-  pub packed-start : Packed s 8 0
+  pub packed-start : (i : ℕ) → length s ≤ i → i ≤ 8 → Packed s i 0
   unfolding packed
-  packed-start =
-      let all : length s ≤ 8 = omega (arith, l) in
-      record { inside = omega arith; is = ap packed (sym (drop-of-length-le s all)); below = omega arith }
+  packed-start i all most =
+      let none : 8 - i ≡ 0 = omega (arith, l, all) in
+      record { inside = most; is = ap packed (sym (drop-of-length-le s all)); below = subst (λ (k : ℕ). 0 < 256 ^ k) (sym none) (omega arith) }
 
   -- the byte before them
   module _ (i n : ℕ) (p : 0 < i) (h : Packed s i n) where

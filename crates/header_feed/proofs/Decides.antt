@@ -27,7 +27,7 @@ module _ (b : ℕ) (x : List ℕ) where
   waiting-by o e h = rw (decided, due, e) (lt-leb (dueBy b x o) (length x) h)
 
   pub short-undecided : length x < 8 → decided b x ≡ false
-  short-undecided h = waiting-by (refused 1) (short-is-1 x h) h
+  short-undecided h = waiting-by (refused 1) (short-is-1 x h) (omega (arith, h))
 
   pub three-undecided : prefix x ≡ refused 3 → decided b x ≡ false
   three-undecided e = ⊎-elim short-undecided (λ (h : 8 ≤ length x). waiting-by (refused 3) e (three-short x h e)) (lt-or-ge (length x) 8)

@@ -15,7 +15,7 @@ abbrev μ-loop : tie.MeasureT-loop
 μ-loop block bytes₀ i₀ bytes i = i
 
 loop-holds : tie.Need-loop-holds Inv-loop μ-loop
-loop-holds c = packed-start _ (c .pre .0)
+loop-holds c = packed-start _ (c .pre .0) _ (omega (arith, c .pre .0)) (omega arith)
 
 sub-i : tie.Need-sub-i Inv-loop μ-loop
 sub-i c = search needs
