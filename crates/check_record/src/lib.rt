@@ -1,5 +1,7 @@
 // The check of a caller's record that every function over a record makes first (document 01, "The refusal numbers": 27, 13, 20, 21, 22, in this order): `check_dtype` for
 // the dtype beside a shape, then 22 in `check`. Called before places, elements, writing and listing, and by the C interface.
+#![tactic(auto)]
+
 ghost use Rattle.std.specs.Prelude.{◌≡◌, not, cond, ◌&&◌, ℕ, suc, ◌<◌};
 ghost use Rattle.counts.specs.Outcome.{each};
 ghost use Rattle.dtype.specs.Limits.{over};
@@ -16,21 +18,21 @@ use dtype::{MOST_DIMENSIONS, MOST_ENTRIES, MOST_NAMES, Order};
 use refusal::{ItemsAnswer, Refusal};
 
 // The item size, and none under an `O`.
-#[derive(Drop)]
+#[derive(Clone, Copy)]
 pub enum ItemSize {
     Sized(Bytes),
     Unsized,
 }
 
 // The item size of a dtype within its limits; or 27, 13, 20, 21.
-#[derive(Drop)]
+#[derive(Clone, Copy)]
 pub enum Limited {
     Within(ItemSize),
     Refused(Refusal),
 }
 
 // What a record has, beside its table, names, shape and order.
-#[derive(Drop)]
+#[derive(Clone, Copy)]
 pub struct Summary {
     pub rank: usize,
     pub entries: usize,
@@ -39,7 +41,7 @@ pub struct Summary {
 }
 
 // The summary of a record that some header gives; or 27, 13, 20, 21, 22, and of write_depth also 7.
-#[derive(Drop)]
+#[derive(Clone, Copy)]
 pub enum Checked {
     Accepted(Summary),
     Refused(Refusal),

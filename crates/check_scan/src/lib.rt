@@ -1,5 +1,7 @@
 // Whether any table has over 32 nested array levels, or an object; whether a plain type has over 2^64-1 bytes: parts of the checks 13 and 21 (document 01, "The refusal
 // numbers"). Called by check_record.
+#![tactic(auto)]
+
 ghost use Rattle.std.specs.Prelude.{◌≡◌, cond, suc, ◌-◌, ◌≤◌, eqb, ltb};
 ghost use Rattle.dtype.specs.PlainBytes.{bytes_for};
 ghost use Rattle.dtype.specs.Limits.{over};

@@ -1,5 +1,7 @@
 // Whether a caller's table and names list a dtype that some reading gives, the test of 27 (document 01, "The refusal numbers"): each entry agrees with those after it,
 // the first one extends to the table's end, and the names are those of the entries. Called by check_record.
+#![tactic(auto)]
+
 ghost use Rattle.std.specs.Prelude.{ℕ, ◌<◌, ◌≡◌, not};
 ghost use Rattle.dtype.specs.Agrees.{Bare, ArrayAgrees, RecordAgrees};
 ghost use Rattle.check_table.specs.Decides.{Decides, TypedAgrees, SoundEntry, refuses};
@@ -9,7 +11,7 @@ ghost use Rattle.check_table.specs.Named.{NamesPass, Outermost};
 
 use counts::{Bytes, Items};
 use dtype::Entry;
-use saturating::{held_bytes_lem, held_product, held_sum};
+use saturating::{held_bytes, held_product, held_sum};
 use table_entry::EntryType;
 use utf8::Text;
 
@@ -23,7 +25,7 @@ fn plain_agrees(entry: Entry) -> bool
     if entry.extent != 1 {
         return false;
     }
-    let bytes = held_bytes_lem(t);
+    let bytes = held_bytes(t);
     entry.bytes == bytes.0
 }
 

@@ -35,7 +35,7 @@ use Rattle.header_feed.specs.declared.Feeding.{Feeding}
 use Rattle.header_feed.specs.Feeds.{FeedsBy, fresh_feeder, Ends}
 use Rattle.write.specs.Writes.{WritesHeader}
 use Rattle.list_record.specs.Answer.{Lists}
-use Rattle.list_file.specs.Report.{WritesText, held_bytes_lem, fresh, text_for}
+use Rattle.list_file.specs.Report.{WritesText, held_bytes, fresh, text_for}
 use Rattle.list_file.specs.Said.{WritesSaid}
 use Rattle.place_item.specs.Item.{item_of}
 use Rattle.place.specs.declared.Placed.{Placed}
@@ -86,7 +86,7 @@ FeedEnd = Ends
 -- ---- the listing program
 -- what is printed of a file, by any reading of texts
 abbrev pub report_by : Reading → (file : List ℕ) → List ℕ
-report_by reading file = text_for (held_by reading (ltb held_bytes_lem (length file)) (take held_bytes_lem file) fresh)
+report_by reading file = text_for (held_by reading (ltb held_bytes (length file)) (take held_bytes file) fresh)
 
 -- `list_file::report`
 abbrev pub Report : (file out : List ℕ) (x : BytesAnswer) (out' : List ℕ) → Type 0

@@ -2,6 +2,8 @@
 // function below calls the customer's function with its own arguments, in the same order, and promises the predicate that the claims use. Nobody calls these; the checker
 // proves them, so a function whose contract drifts from what the claims say of it fails here. (A type has a type_letters::Endianness, a type_letters::TypeChar and a
 // type_units::TimeUnits; an answer a refusal::Refusal, counts::Items, counts::Points, check_record::Summary, place_area::Run or header::Header; a value a value_float::Single or a value_float::Double.)
+#![tactic(auto)]
+
 ghost use Rattle.header_prefix.specs.Answer.{version_is};
 ghost use Rattle.header.specs.Reads.{lent};
 ghost use Rattle.claims.specs.Functions.{Read, ReadHeld, ReadText, FeedStart, Feed, FeedEnd, Report, ReportWhole, PutRead, Find, NumbersListed, PutElement, Check, WriteHeader, ListRecord, Count, Strides, ItemNumber, Place, ElementBytes, ElementPoints, ElementValue, ReadBytes, ReadPoints, ReadValue, WriteBytes, WritePoints, TypeIsRead, TypeIsPrinted, Encode};

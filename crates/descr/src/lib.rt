@@ -1,5 +1,7 @@
 // Judges the dtype in a header's text while it is read (document 01, "The record"): how the value ends that should be a descr, and what the later refusals 13, 20 and 21 need
 // of it, or the first of 11, 12 and 14 to 19 that applies. Called by judge. The walk over the text is in `inner`.
+#![tactic(auto)]
+
 mod inner;
 
 ghost use Rattle.literal.specs.Literal.{value as value_of};

@@ -1,6 +1,8 @@
 // The parts of a field in a header's text (document 01, "The record": "`descr` is a string (a type string) or a list (a record). Each record item is a list or tuple of 2 or
 // 3"): its name, the type string in it, and the sub-shape after its inner descr. A refusal ends no walk; only a fault of the literal does. Called by descr, which judges a
 // descr, and by header, which stores one.
+#![tactic(auto)]
+
 ghost use Rattle.std.specs.Prelude.{◌≡◌};
 ghost use Rattle.type_str.specs.Answer.{answer};
 ghost use Rattle.type_str.specs.TypeString.{type_string};
@@ -49,7 +51,7 @@ pub fn place_of(g: Gap) -> usize
 }
 
 // How the string after a quote ends, and what it is as a type string.
-#[derive(Drop)]
+#[derive(Clone, Copy)]
 pub struct Typed {
     pub ended: Parsed,
     pub read: TypeRead,
@@ -114,7 +116,7 @@ pub fn rest(text: &[u8], from: usize, close: u8, room: usize) -> Parsed
 }
 
 // How a value ends, and the verdict on it.
-#[derive(Drop)]
+#[derive(Clone, Copy)]
 pub struct DescrJudged {
     pub ended: Parsed,
     pub verdict: DescrVerdict,

@@ -1,5 +1,7 @@
 // The verdict on a descr, put together from those on its parts (document 01, "The record": "An array has n times its inner size; a record has the sum"): what the later
 // refusals 13, 20 and 21 need of it, or the first of 11, 12 and 14 to 19 that applies. Called by descr_field and descr, which walk over a header's text.
+#![tactic(auto)]
+
 ghost use Rattle.std.specs.Prelude.{◌≡◌, cond, ◌+◌};
 ghost use Rattle.counts.specs.Outcome.{each, then};
 ghost use Rattle.counts.specs.Counts.{as_bytes};
@@ -21,7 +23,7 @@ const ENTRIES_OVER: u64 = dtype::MOST_ENTRIES as u64 + 1;
 const NAMES_OVER: u64 = dtype::MOST_NAMES as u64 + 1;
 
 // The totals of a dtype, of a field, of some fields or of a name.
-#[derive(Drop)]
+#[derive(Clone, Copy)]
 pub struct Totals {
     // entries of the table, capped at 513
     pub entries: u64,
@@ -38,7 +40,7 @@ pub struct Totals {
 }
 
 // The totals; or 11, 12, 14 to 19.
-#[derive(Drop)]
+#[derive(Clone, Copy)]
 pub enum DescrVerdict {
     Fits(Totals),
     Refused(Refusal),

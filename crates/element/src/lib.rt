@@ -1,5 +1,7 @@
 // Reads the element that an index and a path name in a file: a string element (document 01, "String elements") into lent room, or a value (document 02, wish 1); or the place's refusal,
 // then of a string element 26 for another type, 29, 23, and of a value 31, 32. A refusal leaves the room as it was. Called by the C interface.
+#![tactic(auto)]
+
 ghost use Rattle.std.specs.Prelude.{◌≡◌};
 ghost use Rattle.refusal.specs.Answers.{bytes_answer, points_answer};
 ghost use Rattle.counts.specs.Owes.{Owes};

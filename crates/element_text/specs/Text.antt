@@ -25,7 +25,7 @@ abbrev pub signed_text : ℤ → List ℕ → List ℕ
 signed_text (pos n) x = printed n x
 signed_text (negsuc k) x = 45 ∷ printed (suc k) x
 
--- `bool True`, `signed -3`, `unsigned 7`, `single F`, `double F`, `single_pair_lem F F`, `double_pair_lem F F`, `time -5 us`
+-- `bool True`, `signed -3`, `unsigned 7`, `single F`, `double F`, `single-pair F F`, `double-pair F F`, `time -5 us`
 abbrev pub value_text : Value → List ℕ → List ℕ
 value_text (Value.Bool b) x = 98 ∷ 111 ∷ 111 ∷ 108 ∷ 32 ∷ truth_text b x
 value_text (Value.Signed z) x = 115 ∷ 105 ∷ 103 ∷ 110 ∷ 101 ∷ 100 ∷ 32 ∷ signed_text z x

@@ -1,5 +1,7 @@
 // The text of an element, a line that says what kind of value it has and the value (specs/Text.antt); or the refusal of its bytes, or 28 where the line has no room.
 // Called by npy_get.
+#![tactic(auto)]
+
 ghost use Rattle.std.specs.Prelude.{◌≡◌, true, cond, ◌&&◌, ◌||◌, eqb, leb, ◌∷◌, ◌++◌, ◌≤◌, ◌<◌, length, take};
 ghost use Rattle.utf8_scalar.specs.Scalar.{is_scalar};
 ghost use Rattle.value.specs.declared.Value.{Value};
@@ -21,7 +23,7 @@ use type_units::TimeUnits;
 use value::{Value, ValueAnswer};
 
 // The parts of a float that its text is made of (`float_parts`).
-#[derive(Drop)]
+#[derive(Clone, Copy)]
 pub struct Parts {
     pub negative: bool,
     pub special: bool,

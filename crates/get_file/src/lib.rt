@@ -1,5 +1,7 @@
 // What the program that prints an element asks of a file and of its arguments: the place of an element, from the bytes that are held of the file's header, and the numbers of an
 // index or a path, from their text. npy_get calls it.
+#![tactic(auto)]
+
 ghost use Rattle.std.specs.Prelude.{◌-◌, ◌+◌, ◌*◌, ◌≡◌, false, cond, ◌&&◌, ◌||◌, [], ◌∷◌, eqb};
 ghost use Rattle.counts.specs.Number.{capped};
 ghost use Rattle.counts.specs.Lists.{same};
@@ -27,7 +29,7 @@ pub const INDEX: usize = 33;
 pub const PATH: usize = 512;
 
 // How many numbers were written; or a text that is no list of numbers.
-#[derive(Drop)]
+#[derive(Clone, Copy)]
 pub enum Listed {
     Are(usize),
     NoList,

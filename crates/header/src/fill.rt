@@ -28,7 +28,7 @@ use saturating::held_sum;
 use table_fill::{put_plain, put_record, put_sub_shape, type_in};
 
 // Where a descr ends, the entry and the name byte that come after its own, and its size as an entry holds it.
-#[derive(Drop)]
+#[derive(Clone, Copy)]
 struct DescrFilled {
     end: usize,
     entry: usize,
@@ -37,7 +37,7 @@ struct DescrFilled {
 }
 
 // The same for fields, and how many they are.
-#[derive(Drop)]
+#[derive(Clone, Copy)]
 struct FieldsFilled {
     end: usize,
     entry: usize,
@@ -47,7 +47,7 @@ struct FieldsFilled {
 }
 
 // How many bytes the name of a field has, the name byte that comes after it, and where the inner descr begins.
-#[derive(Drop)]
+#[derive(Clone, Copy)]
 struct NameFilled {
     len: u64,
     byte: usize,

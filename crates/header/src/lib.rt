@@ -1,5 +1,7 @@
 // Reads a header (document 01, "From first byte to text" and "The record"): its prefix, then its text, whose record is written to three lent rooms; or the
 // first refusal that applies, and then nothing is written. The listing program and the C interface call it.
+#![tactic(auto)]
+
 mod fill;
 
 ghost use Rattle.std.specs.Prelude.{◌≡◌, ◌≤◌};
@@ -15,7 +17,7 @@ use judge::Judged;
 use refusal::Refusal;
 
 // What is known of a record beside its table, names and shape, which are in the lent rooms: its order, and how much of each room it takes.
-#[derive(Drop)]
+#[derive(Clone, Copy)]
 pub struct RecordInfo {
     pub order: Order,
     pub rank: usize,
@@ -23,21 +25,21 @@ pub struct RecordInfo {
     pub names: usize,
 }
 
-#[derive(Drop)]
+#[derive(Clone, Copy)]
 pub enum TextRead {
     Read(RecordInfo),
     Refused(Refusal),
 }
 
 // A file's header: its version, what is known of its record beside the lent rooms, and where the data starts.
-#[derive(Drop)]
+#[derive(Clone, Copy)]
 pub struct Header {
     pub version: Version,
     pub info: RecordInfo,
     pub start: Bytes,
 }
 
-#[derive(Drop)]
+#[derive(Clone, Copy)]
 pub enum HeaderRead {
     Read(Header),
     Refused(Refusal),

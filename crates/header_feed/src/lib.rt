@@ -1,5 +1,7 @@
 // Reads a header that arrives part by part (document 02, "Wish 10. Headers arrive packet by packet."). A feeder keeps the bytes before the text, how many bytes were taken, and what it
 // says; the text goes to a lent buffer, and is judged once, when it is whole. The C interface and the program npy_feed call it.
+#![tactic(auto)]
+
 ghost use Rattle.std.specs.Prelude.{◌≡◌, ◌+◌, ◌-◌, ◌^◌, ◌≤◌, ◌<◌, min, eqb, length, take, drop};
 ghost use Rattle.std.proofs.Math.Seq.{paste};
 ghost use Rattle.refusal.specs.Numbers.{number_of};
@@ -22,14 +24,14 @@ pub const HEAD: usize = 12;
 const FIRST: usize = 8;
 
 // What a feeder says: need more; the header; or a refusal, 36 or one of the whole-slice reader's.
-#[derive(Drop)]
+#[derive(Clone, Copy)]
 pub enum Fed {
     More,
     Read(Header),
     Refused(Refusal),
 }
 
-#[derive(Drop)]
+#[derive(Clone, Copy)]
 pub struct Feeder {
     // the bytes before the text, as far as they were taken
     pub head: [u8; HEAD],
@@ -39,14 +41,14 @@ pub struct Feeder {
 }
 
 // The feeder after a part, and how many bytes of the part it used.
-#[derive(Drop)]
+#[derive(Clone, Copy)]
 pub struct Feeding {
     pub feeder: Feeder,
     pub used: usize,
 }
 
 // The bytes before the text, how many bytes were taken, and how many of them are the part's.
-#[derive(Drop)]
+#[derive(Clone, Copy)]
 struct Grows {
     head: [u8; HEAD],
     taken: usize,
@@ -97,7 +99,7 @@ pub fn end(f: Feeder) -> Feeder
         Fed::More => Feeder {
             head,
             taken,
-            said: Fed::Refused(cut_short_lem(taken)),
+            said: Fed::Refused(cut_short(taken)),
         },
         Fed::Read(_) => f,
         Fed::Refused(_) => f,
@@ -105,7 +107,7 @@ pub fn end(f: Feeder) -> Feeder
 }
 
 // Why an input that ended after so many bytes is refused.
-fn cut_short_lem(taken: usize) -> Refusal
+fn cut_short(taken: usize) -> Refusal
     ensures { number_of result ≡ cut_short taken }
 {
     if taken < FIRST {

@@ -1,5 +1,7 @@
 // Reads what comes before a header's text (document 01, "From first byte to text"): the version and the text's length, or the first of 1 to 4 that applies. Called by
 // header and header_feed; write_padding, list_record and npy_codes use its `Version`.
+#![tactic(auto)]
+
 ghost use Rattle.std.specs.Prelude.{◌≡◌, ◌≤◌, length, take};
 ghost use Rattle.counts.specs.Lists.{same};
 ghost use Rattle.record.specs.Prefix.{major, length_width, text_start, version_of, magic, length_read, prefix};
@@ -13,7 +15,7 @@ use type_letters::Endianness;
 pub const MOST_TEXT: u64 = 131072;
 
 // The versions (1,0), (2,0) and (3,0).
-#[derive(Drop)]
+#[derive(Clone, Copy)]
 pub enum Version {
     OneZero,
     TwoZero,
@@ -45,20 +47,20 @@ impl Version {
 }
 
 // The version, and the text's length as its field has it.
-#[derive(Drop)]
+#[derive(Clone, Copy)]
 pub struct Prefix {
     pub version: Version,
     pub length: usize,
 }
 
-#[derive(Drop)]
+#[derive(Clone, Copy)]
 pub enum PrefixRead {
     Read(Prefix),
     Refused(Refusal),
 }
 
 // A version that is known, or any other: 2.
-#[derive(Drop)]
+#[derive(Clone, Copy)]
 enum VersionRead {
     Is(Version),
     Other,

@@ -23,21 +23,21 @@ use shape_text::ShapeJudged;
 use shape_verdict::ShapeVerdict;
 
 // The shape of the value of `shape`; or 9, 11, 12, 13.
-#[derive(Drop)]
+#[derive(Clone, Copy)]
 pub enum ShapeFound {
     Is(Shape),
     Refused(Refusal),
 }
 
 // The dtype of the value of `descr`; or 9, 11, 12, 14 to 19.
-#[derive(Drop)]
+#[derive(Clone, Copy)]
 pub enum DescrFound {
     Is(Descr),
     Refused(Refusal),
 }
 
 // How a value ended, whether it is a dict whose keys are all strings, and what was found for the three keys.
-#[derive(Drop)]
+#[derive(Clone, Copy)]
 pub struct Walked {
     pub ended: Parsed,
     pub strings: bool,
@@ -47,7 +47,7 @@ pub struct Walked {
 }
 
 // What a key is, and where its value begins or the fault before that.
-#[derive(Drop)]
+#[derive(Clone, Copy)]
 struct Key {
     name: Name,
     begins: Parsed,

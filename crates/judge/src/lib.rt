@@ -1,5 +1,7 @@
 // Judges the text of a header (document 01, "The refusal numbers", the order of reading): the first of 5 to 22 that applies, or the record, by the places of its parts in the
 // text. Called by header. The walk over the dict is in `keys`.
+#![tactic(auto)]
+
 mod keys;
 
 ghost use Rattle.record.specs.Header.{record_in};
@@ -18,21 +20,21 @@ use shape_verdict::Outline;
 use utf8::Text;
 
 // Where the value of `shape` is, and what later refusals need of it.
-#[derive(Drop)]
+#[derive(Clone, Copy)]
 pub struct Shape {
     pub at: usize,
     pub outline: Outline,
 }
 
 // Where the value of `descr` is, and what later refusals need of it.
-#[derive(Drop)]
+#[derive(Clone, Copy)]
 pub struct Descr {
     pub at: usize,
     pub totals: Totals,
 }
 
 // An accepted record: its order, and where its shape and its dtype are in the text.
-#[derive(Drop)]
+#[derive(Clone, Copy)]
 pub struct FoundRecord {
     pub order: Order,
     pub shape: Shape,
@@ -40,7 +42,7 @@ pub struct FoundRecord {
 }
 
 // An accepted record; or 5 to 22.
-#[derive(Drop)]
+#[derive(Clone, Copy)]
 pub enum Judged {
     Fits(FoundRecord),
     Refused(Refusal),

@@ -1,5 +1,7 @@
 // The limits of a record (document 01, "The refusal numbers", the order of reading): 13 once its shape has been read; 13 for sub-shapes, 20, 21, 22 once its dtype has been
 // read too. Called by judge.
+#![tactic(auto)]
+
 ghost use Rattle.std.specs.Prelude.{◌≡◌};
 ghost use Rattle.judge_limits.specs.Answer.{limit_answer, rank_limit, limits_of};
 
@@ -13,7 +15,7 @@ const MOST_ENTRIES: u64 = dtype::MOST_ENTRIES as u64;
 const MOST_NAMES: u64 = dtype::MOST_NAMES as u64;
 
 // Every limit is kept; or 13, 20, 21, 22.
-#[derive(Drop)]
+#[derive(Clone, Copy)]
 pub enum Limit {
     Kept,
     Refused(Refusal),

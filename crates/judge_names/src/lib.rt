@@ -1,5 +1,7 @@
 // Which of the three keys of a header's dict a key is (8 where it is no string), and the order that the value of `fortran_order` declares (10) (document 01, "The record").
 // Called by judge.
+#![tactic(auto)]
+
 ghost use Rattle.std.specs.Prelude.{◌≡◌, ◌&&◌};
 ghost use Rattle.counts.specs.Outcome.{gives, given};
 ghost use Rattle.counts.specs.Lists.{same};
@@ -13,7 +15,7 @@ use literal_decode::decode;
 use refusal::Refusal;
 
 // What a key is: one of the three, another string, or no string.
-#[derive(Drop)]
+#[derive(Clone, Copy)]
 pub enum Name {
     Descr,
     Order,
@@ -23,7 +25,7 @@ pub enum Name {
 }
 
 // The declared order; or 9, 10.
-#[derive(Drop)]
+#[derive(Clone, Copy)]
 pub enum Declared {
     Is(Order),
     Refused(Refusal),

@@ -1,10 +1,12 @@
 // What the listing programs print of a file (document 01, "What the collector buys"): the listing of its record, or `refused` and the number. npy_list calls `report_whole`, with the
 // rooms of document 01; npy_feed reads a header to rooms of its own and calls `put_read`.
+#![tactic(auto)]
+
 ghost use Rattle.std.specs.Prelude.{◌≡◌, [], take};
 ghost use Rattle.refusal.specs.Numbers.{number_of};
 ghost use Rattle.emit.specs.Emits.{Emits};
 ghost use Rattle.header.specs.Reads.{lent};
-ghost use Rattle.list_file.specs.Report.{held_bytes_lem, refused_line, WritesText, Reports};
+ghost use Rattle.list_file.specs.Report.{held_bytes, refused_line, WritesText, Reports};
 ghost use Rattle.list_file.specs.Said.{ListsHeader, WritesSaid};
 ghost use Rattle.list_file.specs.Enough.{WritesReport};
 
@@ -64,7 +66,7 @@ pub fn put_read(
 
 // The first bytes of a file, or the whole file.
 fn held_part(file: &[u8]) -> &[u8]
-    ensures { result.now ≡ take held_bytes_lem file.now }
+    ensures { result.now ≡ take held_bytes file.now }
 {
     if HELD < file.len() {
         return &file[..HELD];

@@ -1,4 +1,6 @@
 // Puts the listing of a caller's record to lent room (document 01, "What the collector buys"); its text is list_text's `listing`. list_file calls it, and the C interface.
+#![tactic(auto)]
+
 ghost use Rattle.std.specs.Prelude.{◌≡◌, ◌∷◌, ◌++◌, ◌+◌, ◌/◌, ◌≤◌, min, length};
 ghost use Rattle.emit.specs.Emits.{Emits};
 ghost use Rattle.dtype.specs.Dtype.{Dtype};

@@ -1,5 +1,7 @@
 // What the text of a listing is (document 01, "What the collector buys"): its definition in specs/, its laws in proofs/, and the one part that needs no table, an entry's
 // parent. Called by list_record, which puts the rest.
+#![tactic(auto)]
+
 ghost use Rattle.emit.specs.Emits.{Emits};
 ghost use Rattle.list_text.specs.Listing.{parent_text};
 

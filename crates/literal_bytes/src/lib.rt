@@ -1,5 +1,7 @@
 // The bytes of a literal by position (document 01, "The literal"): their classes, runs of blanks, and what is between the items of a bracket.
 // Called by every crate that walks header text: literal, descr, shape_text, judge and their parts. Positions are indices of the text; `close` is the closing bracket.
+#![tactic(auto)]
+
 ghost use Rattle.std.specs.Prelude.{◌≡◌};
 ghost use Rattle.literal_grammar.specs.Bytes.{is_blank, is_quote, is_open, is_break};
 ghost use Rattle.decimal.specs.Decimal.{is_digit};
@@ -28,7 +30,7 @@ pub const ZERO: u16 = b'0' as u16;
 const NINE: u16 = b'9' as u16;
 
 // A value that ends before the position; or refusal 6 or 7 at the position.
-#[derive(Drop)]
+#[derive(Clone, Copy)]
 pub enum Parsed {
     Value(usize),
     Fault(usize),
@@ -36,7 +38,7 @@ pub enum Parsed {
 }
 
 // What a value is, by its first byte.
-#[derive(Drop)]
+#[derive(Clone, Copy)]
 pub enum ValueKind {
     Square,
     Round,
@@ -227,7 +229,7 @@ pub fn blanks(text: &[u8], from: usize) -> usize
 }
 
 // What follows where an item may begin: the closing bracket, which ends before the position; an item that begins there; or a fault there.
-#[derive(Drop)]
+#[derive(Clone, Copy)]
 pub enum Gap {
     Shut(usize),
     Item(usize),

@@ -1,5 +1,7 @@
 // The class of each byte of a literal's text, by a table (document 02, "Wish 8": "a 256-entry table giving each byte's class: blank, digit, word letter, quote, bracket, sign,
 // comma, colon, backslash, other"). Called by literal_bytes for the first byte of a value, and by literal_escapes for the pieces of a string.
+#![tactic(auto)]
+
 ghost use Rattle.std.specs.Prelude.{◌≡◌};
 ghost use Rattle.literal_classes.specs.Classes.{class_of};
 ghost use Rattle.literal_classes.specs.Table.{row_of};

@@ -1,5 +1,7 @@
 // Decodes a string into lent room. Called by header to store the names of fields, and by judge_names for keys with an escape.
 // `from` is the position after the opening quote `quote`.
+#![tactic(auto)]
+
 ghost use Rattle.std.specs.Prelude.{◌≡◌, cond, ltb, set};
 ghost use Rattle.std.proofs.lemmas.List.Edits.{sets};
 ghost use Rattle.literal_escapes.specs.Strings.{end_by, spelled, scanned};
@@ -49,7 +51,7 @@ fn put_run(out: &mut [u8], from: usize, run: &[u8])
 }
 
 // How a string ends at its last piece.
-fn end_by_lem(p: Piece) -> Parsed
+fn end_by(p: Piece) -> Parsed
     ensures { result ≡ end_by p }
 {
     match p {
@@ -89,7 +91,7 @@ fn decode_from(text: &[u8], from: usize, quote: u8, out: &mut [u8]) -> Scan
         let p = piece_at(text, to, quote);
         let Piece::Byte(b, e) = p else {
             return Scan {
-                ended: end_by_lem(p),
+                ended: end_by(p),
                 len,
                 escape,
             };

@@ -1,5 +1,7 @@
 // The pieces of a string (document 01, "The literal"): escapes are decoded here, and nowhere else.
 // Called by literal_tokens and literal_decode to scan and decode strings. `quote` is the opening quote of a string.
+#![tactic(auto)]
+
 ghost use Rattle.std.specs.Prelude.{◌≡◌};
 ghost use Rattle.literal_grammar.specs.Bytes.{is_escape, unescape as unescape_of};
 ghost use Rattle.literal_escapes.specs.Strings.{escape_at, escape_here, piece_at};
@@ -8,7 +10,7 @@ use literal_bytes::{Parsed, is_break};
 use literal_classes::{BACKSLASH, BLANK, class_of};
 
 // The piece at a position of a string: the closing quote, which ends before the position; a byte of the decoded string, and where the next piece begins; or a fault.
-#[derive(Drop)]
+#[derive(Clone, Copy)]
 pub enum Piece {
     Close(usize),
     Byte(u8, usize),
@@ -16,7 +18,7 @@ pub enum Piece {
 }
 
 // What a scan of a string found: how it ended, how many bytes it has decoded up to there, and whether it has an escape.
-#[derive(Drop)]
+#[derive(Clone, Copy)]
 pub struct Scan {
     pub ended: Parsed,
     pub len: usize,

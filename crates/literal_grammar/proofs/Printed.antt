@@ -14,7 +14,7 @@ use Rattle.decimal.specs.Decimal.{is_digit, decimal_from, printed}
 use Rattle.decimal.proofs.Prints.{by_tens, printed_low, printed_high, printed_front}
 use Rattle.literal_grammar.specs.Bytes.{is_blank, is_quote, is_break, is_escape, unescape}
 use Rattle.literal_grammar.specs.Value.{Value, Values, Items, Within}
-use Rattle.literal_grammar.specs.Grammar.{Natural, nought, nonzero, Quoted, closed, raw, escaped, in_quotes, unsigned, word_true, word_false, Gives, plain, around, in_square, in_round, in_braces, Listed, no_values_lem, last_value, value_comma, no_elements, element_comma, Paired, no_items, last_item, item_comma}
+use Rattle.literal_grammar.specs.Grammar.{Natural, nought, nonzero, Quoted, closed, raw, escaped, in_quotes, unsigned, word_true, word_false, Gives, plain, around, in_square, in_round, in_braces, Listed, no_values, last_value, value_comma, no_elements, element_comma, Paired, no_items, last_item, item_comma}
 use Rattle.literal_grammar.specs.Promise.{got}
 use Rattle.literal_grammar.specs.Print.{Layout, quote, number, word, square, unit, round, braces, Row, ended, last, more, Pairs, no_more, pair, spaces, escape_of, spelled_byte, escapes, print, print_row, print_pairs, value_of, values_of, items_of}
 use Rattle.literal_grammar.proofs.Texts.{case_of, Blanks, all_append}
@@ -116,7 +116,7 @@ gives_after : (a : List ℕ) {u : List ℕ} {v : Value} → Blanks a → Gives u
 gives_after a {u = u} ba g = around a u [] (sym (append-nil (a ++ u))) ba g tt
 
 listed_after : (a : List ℕ) {u : List ℕ} {vs : Values} → Blanks a → Listed u vs → Listed (a ++ u) vs
-listed_after a ba (no_values_lem {u = u} bu) = no_values_lem (all_append is_blank a u ba bu)
+listed_after a ba (no_values {u = u} bu) = no_values (all_append is_blank a u ba bu)
 listed_after a ba (last_value g) = last_value (gives_after a ba g)
 listed_after a ba (value_comma u w e g i) = value_comma (a ++ u) w (ap (λ y. a ++ y) e ∙ sym (append_assoc a u (44 ∷ w))) (gives_after a ba g) i
 
@@ -157,7 +157,7 @@ mutual
   layout_printed (braces es) = let (u, e, i) = pairs_printed es in (123 ∷ u ++ 125 ∷ [], enclosed (print_pairs es) 123 125 u e, in_braces u refl i)
 
   row_printed : (ds : Row) → Prints (print_row ds) (λ u. Listed u (values_of ds))
-  row_printed ended = ([], λ r. refl, no_values_lem tt)
+  row_printed ended = ([], λ r. refl, no_values tt)
   row_printed (last d) = let (u, e, g) = layout_printed d in (u, e, last_value g)
   row_printed (more d n ds) =
       let (u, eu, g) = layout_printed d in

@@ -7,7 +7,7 @@ use mathlib.Core.List.{List, [], ◌∷◌, ◌++◌, append_assoc, append-nil}
 use mathlib.Core.Bool.{Bool, true, false}
 use Rattle.literal_grammar.specs.Value.{Value, Values, Items, string, integer, True, False, None, list, tuple, dict, end_of_values, value_then, end_of_items, item_then, Within, AllWithin, ItemsWithin}
 use Rattle.literal_grammar.proofs.Lists.{Item, values, items}
-use Rattle.literal_grammar.specs.Grammar.{Plain, in_quotes, unsigned, minus_sign, word_true, word_false, word_none, Gives, plain, around, in_square, in_round, in_braces, Listed, no_values_lem, last_value, value_comma, Tupled, no_elements, element_comma, Paired, no_items, last_item, item_comma}
+use Rattle.literal_grammar.specs.Grammar.{Plain, in_quotes, unsigned, minus_sign, word_true, word_false, word_none, Gives, plain, around, in_square, in_round, in_braces, Listed, no_values, last_value, value_comma, Tupled, no_elements, element_comma, Paired, no_items, last_item, item_comma}
 use Rattle.literal_grammar.specs.Promise.{GivesIn}
 use Rattle.literal_grammar.proofs.Texts.{Blanks, all_append}
 use Rattle.literal_grammar.proofs.Layers.{Padded, padded, Parted, empty, last, more, Pair, pair, item, upto, Bracket, square, round, curly, Layer, Literal, plain_in, raise, raise'}
@@ -120,7 +120,7 @@ mutual
   at_depth (in_braces {es = es} u e i) k h = whole k (123 ∷ u ++ 125 ∷ []) e (of_braces k u es h (λ j z. paired_at i j z))
 
   listed_at : {s : List ℕ} {vs : Values} → Listed s vs → (k : ℕ) → AllWithin vs k → Members k true s vs
-  listed_at (no_values_lem {u = u} bu) k h = ([], refl, empty u bu)
+  listed_at (no_values {u = u} bu) k h = ([], refl, empty u bu)
   listed_at (last_value {v = v} g) k h = (v ∷ [], refl, last (at_depth g k h.0))
   listed_at (value_comma u w e g i) k h = first_of k true u w e (at_depth g k h.0) (listed_at i k h.1)
 
@@ -155,7 +155,7 @@ Between true u vs = Listed u vs
 Between false u vs = Tupled u vs
 
 between_none : (lone : Bool) (u : List ℕ) → Blanks u → Between lone u end_of_values
-between_none true u bu = no_values_lem bu
+between_none true u bu = no_values bu
 between_none false u bu = no_elements bu
 
 between_comma : (lone : Bool) (u w : List ℕ) (v : Value) (vs : Values) → Gives u v → Listed w vs → Between lone (u ++ (44 ∷ w)) (value_then v vs)

@@ -52,7 +52,7 @@ mutual
 
   -- between the brackets of a list: nothing, a last value, or a value, a comma and more
   pub data Listed : List ℕ → Values → Type 0 where
-    no_values_lem : {u : List ℕ} → All is_blank u → Listed u end_of_values
+    no_values : {u : List ℕ} → All is_blank u → Listed u end_of_values
     last_value : {u : List ℕ} {v : Value} → Gives u v → Listed u (value_then v end_of_values)
     value_comma : {s : List ℕ} {v : Value} {vs : Values} (u w : List ℕ) → s ≡ u ++ 44 ∷ w → Gives u v → Listed w vs → Listed s (value_then v vs)
 

@@ -1,5 +1,7 @@
 // Finds the end of a run of plain bytes in a string: those that are copied as they are, so not the quote, a backslash, LF or CR.
 // Called by literal_tokens and literal_decode. `quote` is the string's quote.
+#![tactic(auto)]
+
 ghost use Rattle.std.specs.Prelude.{◌≡◌, cond, ◌&&◌, eqb, ltb, length};
 ghost use Rattle.literal_bytes.specs.Text.{byte_at, run, past, all_pass, block_at};
 ghost use Rattle.literal_bytes.specs.Plain.{is_plain};

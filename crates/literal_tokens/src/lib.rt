@@ -1,5 +1,7 @@
 // The values of a literal without brackets (document 01, "The literal"): strings, integers and the words `True`, `False`, `None`.
 // Called by literal, and by the walks over a header's dict: descr_field, shape_text and judge. `from` is the position after the opening quote `quote`.
+#![tactic(auto)]
+
 ghost use Rattle.std.specs.Prelude.{◌≡◌};
 ghost use Rattle.literal_bytes.specs.Got.{pos};
 ghost use Rattle.literal_escapes.specs.Strings.{spelled, scanned};
@@ -67,7 +69,7 @@ pub fn scan_at(text: &[u8], from: usize, quote: u8) -> Scan
 }
 
 // Where digits end, and the number that they write; a fault and `Over` where there are none.
-#[derive(Drop)]
+#[derive(Clone, Copy)]
 pub struct Numeral {
     pub ended: Parsed,
     pub number: Number,

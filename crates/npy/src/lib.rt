@@ -2,6 +2,8 @@
 // It returns 0 and writes its values, or returns the refusal's number and leaves all that it was lent as it was; `npy_feed` also returns 255. For a feeder's numbers `npy_feed` writes the feeder, the text buffer
 // and `used` also where it does not return 0, and `npy_feed_end` the feeder. Orders, versions, types and feeders are given by their numbers, and any number is an input. (A refusal::Refusal is returned as its number; a type has a type_letters::Endianness, a type_letters::TypeChar and a type_units::TimeUnits, a value a value_float::Single or a
 // value_float::Double.)
+#![tactic(auto)]
+
 ghost use Rattle.counts.specs.Outcome.{then, each};
 ghost use Rattle.type_str.specs.TypeString.{type_string};
 ghost use Rattle.shape.specs.Count.{item_count};

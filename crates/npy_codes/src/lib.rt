@@ -1,5 +1,7 @@
 // The numbers of the C interface: what a caller's number for an order, a version or a type names, and a caller's numbers for a feeder, and each answer as 0 and its values or as the refusal's number alone.
 // Crate npy calls these.
+#![tactic(auto)]
+
 ghost use Rattle.std.specs.Prelude.{◌≡◌, [], ◌∷◌, ◌++◌, cond, take};
 ghost use Rattle.counts.specs.Outcome.{gives, each};
 ghost use Rattle.refusal.specs.Answers.{items_answer, bytes_answer, points_answer};
@@ -66,21 +68,21 @@ const LAST_REFUSAL: u64 = 32;
 const BUFFER: u64 = 36;
 
 // An order that a caller gives by its number.
-#[derive(Drop)]
+#[derive(Clone, Copy)]
 pub enum OrderGiven {
     Is(Order),
     Refused(Refusal),
 }
 
 // A version that a caller gives by its major byte.
-#[derive(Drop)]
+#[derive(Clone, Copy)]
 pub enum VersionGiven {
     Is(Version),
     Refused(Refusal),
 }
 
 // What twenty numbers say, if they are a feeder's; a refusal by its number.
-#[derive(Drop)]
+#[derive(Clone, Copy)]
 pub enum FeederSays {
     More,
     Header(Header),
@@ -89,7 +91,7 @@ pub enum FeederSays {
 }
 
 // The four numbers of a value.
-#[derive(Drop)]
+#[derive(Clone, Copy)]
 pub struct ValueNumbers {
     pub kind: u64,
     pub first: u64,

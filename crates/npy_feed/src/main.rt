@@ -1,6 +1,8 @@
 // Lists the header that arrives on standard input, judged as its bytes come (document 02, "Wish 10. Headers arrive packet by packet."): `npy_feed [N]`, read in parts of at most N bytes. The
 // program reads, calls and writes; what the bytes so far give is header_feed's, and what is printed of it list_file's. It prints as soon as the outcome comes, and reads nothing after that.
 // Where it prints nothing to standard output, standard error says why.
+#![tactic(auto)]
+
 ghost use Rattle.std.specs.Prelude.{◌≤◌};
 
 use dtype::{MOST_DIMENSIONS, MOST_NAMES, TABLE};
@@ -23,7 +25,7 @@ const ROOM: usize = 172484;
 const READS: usize = 131085;
 
 // A feeder after a read, and whether it needs another. (A header that it says is a header::Header of a header_prefix::Version and a dtype::Order, and counts::Bytes.)
-#[derive(Drop)]
+#[derive(Clone, Copy)]
 struct Turn {
     feeder: Feeder,
     more: bool,

@@ -1,6 +1,8 @@
 // Prints the element at a place of the NPY file on standard input: `npy_get INDEX PATH`, each numbers separated by commas, `-` for none. The program reads, calls and writes; which
 // bytes are the element's is get_file's, and what is printed of them element_text's. It reads the first bytes, which hold the header, and those from the element on, so the file may be of any size.
 // Where it prints nothing to standard output, standard error says why.
+#![tactic(auto)]
+
 ghost use Rattle.std.specs.Prelude.{ℕ, ◌≤◌, ◌≡◌, length};
 ghost use Rattle.get_file.specs.declared.Listed.{Listed};
 

@@ -1,4 +1,6 @@
 // Lists the record of the NPY file on standard input (document 01, "What the collector buys"). The program reads, calls and writes; what is printed is list_file's.
+#![tactic(auto)]
+
 use counts::Bytes;
 use libc::{STDIN_FILENO, STDOUT_FILENO};
 

@@ -1,5 +1,7 @@
 // Reads and writes the number in a run of bytes, in either byte order and at any width.
 // Called by header_prefix and write_padding for the length field, and by string_element for the code points of `U` elements.
+#![tactic(auto)]
+
 ghost use Rattle.std.specs.Prelude.{◌≡◌, ◌++◌, get_or};
 ghost use Rattle.counts.specs.Number.{number};
 ghost use Rattle.emit.specs.Emits.{Emits};

@@ -1,5 +1,7 @@
 // Places in the data (document 01, "The record"): the bytes that an index and a path name in a file, or the refusals of the given record, then 24, 25, 26. Called by
 // element and by the C interface.
+#![tactic(auto)]
+
 ghost use Rattle.std.specs.Prelude.{◌≡◌, false, List, ℕ, suc, ◌<◌};
 ghost use Rattle.counts.specs.Counts.{as_bytes};
 ghost use Rattle.dtype.specs.Dtype.{Dtype, Fields, record_of};
@@ -21,21 +23,21 @@ use refusal::Refusal;
 use table_entry::EntryType;
 
 // A place; or 27, 13, 20, 21, 22, 24, 25, 26.
-#[derive(Drop)]
+#[derive(Clone, Copy)]
 pub enum Placed {
     At(Run),
     Refused(Refusal),
 }
 
 // An entry of the table, and how many bytes of the item come before it.
-#[derive(Drop)]
+#[derive(Clone, Copy)]
 pub struct Reached {
     pub entry: usize,
     pub before: Bytes,
 }
 
 // What one number of a path leads to.
-#[derive(Drop)]
+#[derive(Clone, Copy)]
 pub enum Led {
     To(Reached),
     Nowhere,

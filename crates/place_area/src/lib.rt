@@ -1,5 +1,7 @@
 // The data area of a file (document 01, "The record"): the item that an index names there, or 24, 25, then 13, 22, 26 of its number; where a part of an item starts; and the bytes
 // of a place. Called by place, which gives it a checked record's size, count and shape, so that only 26 is left of the three; and by element.
+#![tactic(auto)]
+
 ghost use Rattle.std.specs.Prelude.{◌≡◌, ◌+◌, ◌*◌, min, ltb, take, drop};
 ghost use Rattle.counts.specs.Number.{number};
 ghost use Rattle.counts.specs.Counts.{bytes};
@@ -13,7 +15,7 @@ use refusal::{ItemsAnswer, Refusal};
 use type_str::TypeStr;
 
 // The bytes of a plain type in a file.
-#[derive(Drop)]
+#[derive(Clone, Copy)]
 pub struct Run {
     pub first: Bytes,
     pub len: Bytes,
@@ -21,14 +23,14 @@ pub struct Run {
 }
 
 // An item by its number, and its size.
-#[derive(Drop)]
+#[derive(Clone, Copy)]
 pub struct Numbered {
     pub which: Items,
     pub size: Bytes,
 }
 
 // An item; or 24, 25, or what its item number is refused with.
-#[derive(Drop)]
+#[derive(Clone, Copy)]
 pub enum Indexed {
     Item(Numbered),
     Refused(Refusal),

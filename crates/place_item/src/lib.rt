@@ -1,4 +1,6 @@
 // Item numbers (document 01, "The record"): the item that an index names in a shape, or 13, 22, 26. Called by place_area and by the C interface.
+#![tactic(auto)]
+
 ghost use Rattle.std.specs.Prelude.{◌≡◌};
 ghost use Rattle.counts.specs.Number.{number};
 ghost use Rattle.counts.specs.Counts.{items};

@@ -1,5 +1,7 @@
 // A record that was read from a file: its parts at the fronts of the rooms that it was read to, and laws, in specs/ and proofs/, by which the check accepts them. Crates
 // list_file, get_file and claims cite them.
+#![tactic(auto)]
+
 ghost use Rattle.std.specs.Prelude.{◌*◌, ◌≡◌, take};
 ghost use Rattle.dtype.specs.Record.{entry_width};
 

@@ -1,5 +1,7 @@
 // Replays framed cases of headers that arrive part by part, one line an answer. A case is a list of calls of `npy_feed` and `npy_feed_end`, and its line has what each returned; or a file that is fed in
 // many cuttings, each of which is compared here with `npy_read` of the whole, and its line has how many differ. The bytes of a case and of a line are described in docs/FRAMES.md.
+#![tactic(auto)]
+
 ghost use Rattle.std.specs.Prelude.{◌<◌, ◌≤◌, length};
 
 use counts::Number;
@@ -42,7 +44,7 @@ const NEVER: usize = usize::MAX;
 const PARTS: u64 = 300000;
 
 // What document 02 says of a file: the number that is returned, the total of bytes used when it comes, and from where to where the text bytes are that the buffer then holds.
-#[derive(Drop)]
+#[derive(Clone, Copy)]
 struct Want {
     number: u8,
     total: usize,
@@ -51,7 +53,7 @@ struct Want {
 }
 
 // The cuttings of a kind that a case asks for, from one number up to another.
-#[derive(Drop)]
+#[derive(Clone, Copy)]
 struct Plan {
     kind: u8,
     from: u64,

@@ -1,11 +1,13 @@
 // Reads framed cases from standard input: a length in four bytes, the least significant first, then that many bytes. No contract can say what the input is; the contract
 // says that a case is inside the lent room. Called by the programs that replay recorded answers.
+#![tactic(auto)]
+
 ghost use Rattle.std.specs.Prelude.{◌<◌, length};
 ghost use Rattle.run_frames.specs.Inside.{Inside};
 
 use libc::STDIN_FILENO;
 
-#[derive(Drop)]
+#[derive(Clone, Copy)]
 pub enum Frame {
     // A case of this many bytes, at the front of the room.
     Case(usize),

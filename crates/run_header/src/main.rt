@@ -1,6 +1,8 @@
 // Replays recorded files, framed as run_frames reads them, one line an answer: the listing with `; ` between its lines, or `refused` and the number. A case is the room
 // lent for the table (in entries), for the names and for the shape, four bytes each, the least significant first; a byte that is 0 for a whole file and not 0 for the first
 // bytes of a longer one; and the file. The rooms hold 5s before the call: a line ends in ` changed` if a refusal changed a room, or a success the room beyond what was needed.
+#![tactic(auto)]
+
 ghost use Rattle.std.specs.Prelude.{◌≤◌, ◌<◌, ◌+◌, length};
 
 use counts::Number;

@@ -1,4 +1,6 @@
 // Replays recorded texts, framed as run_frames reads them, one line an answer: `ok`, or `6` or `7` and the place of the fault or the bracket.
+#![tactic(auto)]
+
 use libc::STDOUT_FILENO;
 use literal_bytes::Parsed;
 use run_frames::Frame;

@@ -1,5 +1,7 @@
 // Replays framed cases through every function of the C interface but `npy_feed` and `npy_feed_end` (run_feed), one line an answer: the returned number, the values, and the final content of each lent room. The
 // parts of a case and of a line are described in docs/FRAMES.md. Every lent number and byte is 5 before a call.
+#![tactic(auto)]
+
 ghost use Rattle.std.specs.Prelude.{◌≤◌, ◌<◌, length};
 
 use counts::Number;

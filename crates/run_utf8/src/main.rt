@@ -1,4 +1,6 @@
 // Replays recorded texts, framed as run_frames reads them, one line an answer: `ok`, or the place of the first ill-formed sequence.
+#![tactic(auto)]
+
 use libc::STDOUT_FILENO;
 use run_frames::Frame;
 use utf8::Text;

@@ -1,5 +1,7 @@
 // Sizes in bytes as an entry of the dtype table holds them: 2^64-1 where they are larger.
 // Called by the crates that fill a table (table_entry, table_fill, header) and by check_table, which checks one.
+#![tactic(auto)]
+
 ghost use Rattle.std.specs.Prelude.{◌≡◌, ◌+◌, ◌*◌};
 ghost use Rattle.counts.specs.Number.{capped};
 ghost use Rattle.counts.specs.Counts.{as_bytes};
@@ -9,7 +11,7 @@ use counts::{Bytes, Items};
 use type_str::{TypeBytes, TypeStr};
 
 // The size of a plain type; an object has 0.
-pub fn held_bytes_lem(t: TypeStr) -> Bytes
+pub fn held_bytes(t: TypeStr) -> Bytes
     ensures { result ≡ as_bytes (capped (plain_bytes t)) }
 {
     match t.num_bytes() {

@@ -1,5 +1,7 @@
 // The item count and the strides of a shape, or 22, or 23 (document 01, "The record"; `strides` of npyz's read.rs). Called by the check of a record, by item numbers, by
 // the listing and by the C interface.
+#![tactic(auto)]
+
 ghost use Rattle.std.specs.Prelude.{◌≡◌, false, ◌<◌, ◌≤◌, length};
 ghost use Rattle.dtype.specs.Shape.{strides};
 ghost use Rattle.dtype.specs.Limits.{over_shape};

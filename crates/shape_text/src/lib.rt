@@ -1,5 +1,7 @@
 // Shapes and sub-shapes in the text of a header (document 01, "The record"): `judge` decides 11 and 12 and outlines the dimensions for 13, 21 and 22; `fill` stores the
 // dimensions. Called by descr_field and judge, which judge a header's text, and by header, which stores an accepted one.
+#![tactic(auto)]
+
 ghost use Rattle.std.specs.Prelude.{◌≡◌, false, [], ◌≤◌, set};
 ghost use Rattle.decimal.specs.Decimal.{is_digit};
 ghost use Rattle.literal.specs.Literal.{value as value_of};
@@ -24,7 +26,7 @@ use refusal::Refusal;
 use shape_verdict::{Member, Outline, ShapeVerdict, joined, negative, positive};
 
 // How the text of a member ends, and the dimension that it is.
-#[derive(Drop)]
+#[derive(Clone, Copy)]
 pub struct Item {
     pub ended: Parsed,
     pub size: Member,
@@ -89,7 +91,7 @@ fn other_at(text: &[u8], at: usize, room: usize) -> Item
 }
 
 // How the text of a value ends, and what it is as a shape or sub-shape.
-#[derive(Drop)]
+#[derive(Clone, Copy)]
 pub struct ShapeJudged {
     pub ended: Parsed,
     pub verdict: ShapeVerdict,
@@ -204,7 +206,7 @@ fn shut(g: Gap, verdict: ShapeVerdict) -> ShapeJudged
 }
 
 // How many dimensions were met, and the gap after the last of them: shut where all members are dimensions.
-#[derive(Drop)]
+#[derive(Clone, Copy)]
 pub struct DimsStored {
     pub rank: usize,
     pub stop: Gap,

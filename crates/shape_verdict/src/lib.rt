@@ -1,5 +1,7 @@
 // Whether numbers are the dimensions of a shape or sub-shape (11, 12), and what 13, 21 and 22 need of them (document 01, "The record" and "The refusal numbers"). Called by
 // shape_text for each member of a shape in a header's text, and by descr_totals and judge_limits for the finished outline.
+#![tactic(auto)]
+
 ghost use Rattle.std.specs.Prelude.{◌≡◌, true, false, ℕ, ◌+◌};
 ghost use Rattle.shape_verdict.specs.Outline.{scaled_by, bytes_of_items, largest_in, over_in, extended_capped};
 ghost use Rattle.counts.specs.Number.{number, capped};
@@ -13,7 +15,7 @@ use dtype::Order;
 use refusal::Refusal;
 
 // How many dimensions there are, whether one is 0, and the products of those before the first 0 and after the last 0.
-#[derive(Drop)]
+#[derive(Clone, Copy)]
 pub struct Outline {
     pub rank: usize,
     pub empty: bool,
@@ -22,14 +24,14 @@ pub struct Outline {
 }
 
 // A shape or sub-shape; or 11; or 12.
-#[derive(Drop)]
+#[derive(Clone, Copy)]
 pub enum ShapeVerdict {
     Good(Outline),
     Refused(Refusal),
 }
 
 // A dimension; or 11; or 12.
-#[derive(Drop)]
+#[derive(Clone, Copy)]
 pub enum Member {
     Is(u64),
     Refused(Refusal),

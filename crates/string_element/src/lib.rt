@@ -1,5 +1,7 @@
 // Reads the value of a string element from its bytes into lent room, and writes one (document 01, "String elements"). The run is all the bytes of the element, as its place in a
 // file gives them. Called by the crate element and by the C interface.
+#![tactic(auto)]
+
 ghost use Rattle.std.specs.Prelude.{◌≡◌, [], ◌++◌, ◌≤◌, length, drop, get_or, take};
 ghost use Rattle.counts.specs.Outcome.{each, gives};
 ghost use Rattle.refusal.specs.Answers.{bytes_answer, points_answer};
@@ -17,7 +19,7 @@ use type_letters::{Endianness, TypeChar};
 use type_str::TypeStr;
 
 // What four bytes are: a scalar value, or none.
-#[derive(Drop)]
+#[derive(Clone, Copy)]
 pub enum PointRead {
     Scalar(u32),
     BadScalar,

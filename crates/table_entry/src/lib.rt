@@ -1,5 +1,7 @@
 // One entry of the dtype table: its nine numbers read from a table, and the type of a plain entry, to and from those numbers.
 // Called by every crate that walks a table: check_*, place, list_record, write_*; by table_fill, which writes one; and by npy_codes.
+#![tactic(auto)]
+
 ghost use Rattle.std.specs.Prelude.{◌≡◌, ◌*◌, ◌<◌, get_or, drop};
 ghost use Rattle.type_letters.specs.Letters.{order_of, letter_of};
 ghost use Rattle.type_letters.specs.Answer.{order_answer, letter_answer};
@@ -22,7 +24,7 @@ use type_units::{TimeUnits, UnitsRead};
 const LAST_BYTE: u64 = u8::MAX as u64;
 
 // The type of a plain entry, or that no type string has it.
-#[derive(Drop)]
+#[derive(Clone, Copy)]
 pub enum EntryType {
     Type(TypeStr),
     NoType,
@@ -134,7 +136,7 @@ pub fn plain_entry(t: TypeStr, parent: u64, name: u64) -> Entry
     let order = t.order;
     let letter = t.letter;
     let units = t.units;
-    let bytes = held_bytes_lem(t);
+    let bytes = held_bytes(t);
     Entry {
         parent: parent,
         kind: PLAIN,

@@ -1,5 +1,7 @@
 // Writes entries of the dtype table to lent room (document 01, "The record": "one entry for each plain type, array level and record"); an entry without room is not written.
 // Called by header. The levels of a sub-shape come before their type in the table, but their sizes are known only after it: the type's entries are moved to make room.
+#![tactic(auto)]
+
 ghost use Rattle.std.specs.Prelude.{◌≡◌, ◌+◌, ◌-◌, ◌*◌, ◌≤◌, length};
 ghost use Rattle.dtype.specs.Record.{entry_width};
 ghost use Rattle.dtype.specs.EntryOf.{entry_of};

@@ -1,18 +1,20 @@
 // Byte orders and letters of type strings (document 01, "The record"): each is an enum, read from a byte and written as one; any other byte is a syntax fault, 15.
 // Called wherever a type string is read, checked or printed, and for the byte order of numbers.
+#![tactic(auto)]
+
 ghost use Rattle.std.specs.Prelude.{◌≡◌};
 ghost use Rattle.type_letters.specs.Letters.{order_byte, order_of, letter_byte, letter_of, is_object, is_unicode};
 ghost use Rattle.type_letters.specs.Answer.{order_answer, letter_answer};
 
 // `<`, `>` or `|`, in this order.
-#[derive(Drop)]
+#[derive(Clone, Copy)]
 pub enum Endianness {
     Little,
     Big,
     Irrelevant,
 }
 
-#[derive(Drop)]
+#[derive(Clone, Copy)]
 pub enum OrderRead {
     Order(Endianness),
     NoOrder,
@@ -42,7 +44,7 @@ impl Endianness {
 }
 
 // b i u f c m M S U O V, in this order.
-#[derive(Drop)]
+#[derive(Clone, Copy)]
 pub enum TypeChar {
     Bool,
     Int,
@@ -57,7 +59,7 @@ pub enum TypeChar {
     RawData,
 }
 
-#[derive(Drop)]
+#[derive(Clone, Copy)]
 pub enum LetterRead {
     Letter(TypeChar),
     NoLetter,

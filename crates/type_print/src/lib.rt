@@ -1,5 +1,7 @@
 // Prints a type string (document 01, "Header bytes out": "Type strings print without leading zeros, `O` without a size"). write_pieces and list_record print one inside a
 // text, and the C interface prints one by itself.
+#![tactic(auto)]
+
 ghost use Rattle.emit.specs.Emits.{Emits};
 ghost use Rattle.type_str.specs.Text.{type_text};
 ghost use Rattle.type_print.specs.Printed.{Prints};

@@ -1,12 +1,14 @@
 // Units of type strings (document 01, "The record"): an enum, read from text and written as text; any other text is a syntax fault, 15.
 // Called by type_read and type_print, and by table_entry for the units of a table's entry.
+#![tactic(auto)]
+
 ghost use Rattle.std.specs.Prelude.{◌≡◌, get_or, [], ◌∷◌, ◌++◌};
 ghost use Rattle.emit.specs.Emits.{Emits};
 ghost use Rattle.type_units.specs.Units.{unit_name, is_one, unit_text, is_absent, units_of};
 ghost use Rattle.type_units.specs.Answer.{units_answer};
 
 // Y M W D h m s ms us ns ps fs as, in this order, after none at all.
-#[derive(Drop)]
+#[derive(Clone, Copy)]
 pub enum TimeUnits {
     Absent,
     Year,
@@ -24,7 +26,7 @@ pub enum TimeUnits {
     Attosecond,
 }
 
-#[derive(Drop)]
+#[derive(Clone, Copy)]
 pub enum UnitsRead {
     Units(TimeUnits),
     NoUnits,

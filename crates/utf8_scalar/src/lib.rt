@@ -1,5 +1,7 @@
 // Unicode scalar values (document 01, "String elements"): decides which numbers are one, and writes the UTF-8 encoding of one.
 // Called by utf8 for decoding and by string_element for the code points of `U` elements.
+#![tactic(auto)]
+
 ghost use Rattle.std.specs.Prelude.{◌≡◌, length};
 ghost use Rattle.utf8_scalar.specs.Scalar.{is_scalar};
 ghost use Rattle.utf8_scalar.specs.Encode.{encode};

@@ -1,6 +1,8 @@
 // The value of an element, from its bytes and its type (document 02, wish 1): a bool, an integer, a float or a pair of them with their exact bits, or a time count with its unit;
 // or 27 for a type that no reading gives, 31 for one without values, 27 for bytes that are not as many as the type's, 32 for a bool byte above 1. Called by element,
 // element_text and the C interface.
+#![tactic(auto)]
+
 ghost use Rattle.std.specs.Prelude.{◌≡◌, ◌≤◌, length};
 ghost use Rattle.number_bytes.specs.Numbers.{in_order};
 ghost use Rattle.counts.specs.Outcome.{gives};
@@ -18,7 +20,7 @@ use type_units::TimeUnits;
 use value_float::{Double, Single};
 
 // The value of an element.
-#[derive(Drop)]
+#[derive(Clone, Copy)]
 pub enum Value {
     Bool(bool),
     Signed(i64),
@@ -31,14 +33,14 @@ pub enum Value {
 }
 
 // A value; or 27, 31, 32.
-#[derive(Drop)]
+#[derive(Clone, Copy)]
 pub enum ValueAnswer {
     Is(Value),
     Refused(Refusal),
 }
 
 // How the bytes of a type are read.
-#[derive(Drop)]
+#[derive(Clone, Copy)]
 pub enum Form {
     Bool,
     Signed,

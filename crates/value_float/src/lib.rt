@@ -1,19 +1,21 @@
 // Floats with their exact bits, and half floats as the f32 of the same number (document 02, wish 1). A float of the language has one NaN, without sign and payload, and
 // `from_bits` takes no NaN's bits; so each float is returned together with its bits, which are exact for every pattern. Called by value.
+#![tactic(auto)]
+
 ghost use Rattle.std.specs.Prelude.{◌≡◌, ◌<◌, ◌^◌};
 ghost use Rattle.std.specs.Float.Ieee.Exact.{HasValue};
 ghost use Rattle.value_float.specs.Floats.{single_of, double_of};
 ghost use Rattle.value_float.specs.Half.{sign_bits, digits, shift, scaled, nearest_single, half_of};
 
 // A single float and its 32 bits. (Reading a value is quicker with the bits first, docs/BENCHMARKS.md.)
-#[derive(Drop)]
+#[derive(Clone, Copy)]
 pub struct Single {
     pub bits: u32,
     pub number: f32,
 }
 
 // A double float and its 64 bits.
-#[derive(Drop)]
+#[derive(Clone, Copy)]
 pub struct Double {
     pub bits: u64,
     pub number: f64,

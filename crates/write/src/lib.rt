@@ -1,5 +1,7 @@
 // Writes the header of a caller's record to lent room (document 01, "Header bytes out"): prefix, the dict's text, its padding. The C interface calls it. The text is first
 // put on one scratch byte, so that its length is known before a byte of the lent room is stored.
+#![tactic(auto)]
+
 ghost use Rattle.std.specs.Prelude.{◌≡◌, ◌∷◌, length};
 ghost use Rattle.counts.specs.Outcome.{gives};
 ghost use Rattle.counts.specs.Number.{capped};

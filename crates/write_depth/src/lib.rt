@@ -1,5 +1,7 @@
 // Decides whether the text of a caller's record would open more than 32 brackets at once (document 01, 7), from its flat table. write_text calls it. `within` and
 // `fields_within` call each other in a cycle, once for each record; array levels are passed in a loop, `innermost`.
+#![tactic(auto)]
+
 ghost use Rattle.std.specs.Prelude.{◌≡◌, cond, eqb};
 ghost use Rattle.counts.specs.Outcome.{each};
 ghost use Rattle.literal_grammar.specs.Print.{value_of, values_of};

@@ -1,5 +1,7 @@
 // Decides how a header's text is padded and which version it is written as, and puts what goes around the text: the prefix before it, spaces and one LF after it
 // (document 01, "Header bytes out", and document 02, "Wish 4"). write calls it.
+#![tactic(auto)]
+
 ghost use Rattle.std.specs.Prelude.{◌≤◌, ◌≡◌, ◌∷◌};
 ghost use Rattle.emit.specs.Emits.{Emits};
 ghost use Rattle.literal_grammar.specs.Print.{spaces};
@@ -26,7 +28,7 @@ const MOST_SHORT: usize = 65535;
 const LONGEST: usize = MOST_TEXT as usize;
 
 // A header's version, the spaces after its text, the length of the padded text, and that of the whole header.
-#[derive(Drop)]
+#[derive(Clone, Copy)]
 pub struct PaddingPlan {
     pub version: Version,
     pub spaces: usize,
@@ -35,7 +37,7 @@ pub struct PaddingPlan {
 }
 
 // A plan, or 4.
-#[derive(Drop)]
+#[derive(Clone, Copy)]
 pub enum Planned {
     Fits(PaddingPlan),
     Refused(Refusal),

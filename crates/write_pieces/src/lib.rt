@@ -1,5 +1,7 @@
 // Puts the pieces of a header's text that need no walk over a whole table (document 01, "Header bytes out"): names, types, shapes, what comes before and after a field's
 // type, and what comes after the descr. Each is put at `at`, as emit puts, and the place after it is returned. write_text calls it, and the listing for names and numbers.
+#![tactic(auto)]
+
 ghost use Rattle.std.specs.Prelude.{◌≡◌, ◌∷◌, ◌++◌};
 ghost use Rattle.decimal.specs.Decimal.{printed};
 ghost use Rattle.emit.specs.Emits.{Emits};

@@ -13,7 +13,7 @@ ghost use Rattle.write_text.specs.Walk.{ListedNamed, ListedNamedIn, Walked};
 use dtype::{Order, PLAIN};
 
 // The entry and the name byte that come after a dtype's own, and the place after its text.
-#[derive(Drop)]
+#[derive(Clone, Copy)]
 struct WalkEnd {
     entry: usize,
     byte: usize,

@@ -1,5 +1,7 @@
 // Prints the dict's text of a caller's record from its flat table, its names, its shape and its order (document 01, "Header bytes out"). write calls it. The walks over a
 // table that was checked are in `inner`.
+#![tactic(auto)]
+
 mod inner;
 
 ghost use Rattle.write_depth.specs.Printable.{printable};
@@ -10,7 +12,7 @@ use dtype::Order;
 use refusal::Refusal;
 
 // The place after the text; or 27, 13, 20, 21, 22, 7.
-#[derive(Drop)]
+#[derive(Clone, Copy)]
 pub enum Printed {
     End(usize),
     Refused(Refusal),

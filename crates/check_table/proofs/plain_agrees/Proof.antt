@@ -28,7 +28,7 @@ held-bytes-requires : tie.Need-held-bytes-requires
 held-bytes-requires c κs = search rules
 
 returns-3 : tie.Need-returns-3
-returns-3 c = plain_decided _ _ _ (matched type_answer c.before.before.before.before.before.before.before.before.type-of.ensures c.before.before.before.before.before.before.t.given.1) c.before.before.before.if1.false (ap (λ (b : Bytes). b.0) c.before.before.held_bytes_lem.ensures)
+returns-3 c = plain_decided _ _ _ (matched type_answer c.before.before.before.before.before.before.before.before.type-of.ensures c.before.before.before.before.before.before.t.given.1) c.before.before.before.if1.false (ap (λ (b : Bytes). b.0) c.before.before.held_bytes.ensures)
 
 pub plain-agrees-spec : {M : Type 1} → statement M
 plain-agrees-spec =

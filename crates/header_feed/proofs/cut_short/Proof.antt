@@ -1,7 +1,7 @@
 -- `header_feed::cut_short` meets its contract, by the test of byte 8.
 use borrow.Author.Tests.{lt-ltb, le-ltb}
-use Rattle.header_feed.proofs.cut_short_lem.Statement.{statement}
-use Rattle.header_feed.proofs.cut_short_lem.Tie as tie
+use Rattle.header_feed.proofs.cut_short.Statement.{statement}
+use Rattle.header_feed.proofs.cut_short.Tie as tie
 
 returns : tie.Need-returns
 returns c = rw (lt-ltb c.before.args.taken 8 c.if1.true)

@@ -5,7 +5,7 @@ use Rattle.header_feed.proofs.end.Statement.{statement}
 use Rattle.header_feed.proofs.end.Tie as tie
 use Rattle.header_feed.proofs.end.Reads as reads
 use Rattle.header_feed.proofs.end.Lts as lts
-use Rattle.header_feed.proofs.cut_short_lem.Reads as cut-short-reads
+use Rattle.header_feed.proofs.cut_short.Reads as cut-short-reads
 
 enum_told : tie.Need-enum-told
 enum_told c = search rules
@@ -20,7 +20,7 @@ enum-told-3 : tie.Need-enum-told-3
 enum-told-3 c = search rules
 
 returns : tie.Need-returns
-returns c = ends_early c.before.before.before.before.args.f _ c.before.enum_told.given.1 c.cut_short_lem.ensures
+returns c = ends_early c.before.before.before.before.args.f _ c.before.enum_told.given.1 c.cut_short.ensures
 
 returns-2 : tie.Need-returns-2
 returns-2 c = search rules

@@ -143,7 +143,7 @@ returns-2 c =
     let old = c.before.before.before.before.before.before.before.before.before.before.before.before.before.before.before.args.out.now in
     let us = l.invariant.0 ++ part s l.at to in
     let e = along_stop q s from to us l.escape _ w (sym c.before.before.piece-at.ensures) c.before.match.keys2 in
-    (rw (n, c.end_by_lem.ensures) (sym (ap scanned e)), c.before.before.before.before.before.put-run.ensures ∙ stored_more old l.invariant.0 (part s l.at to) _ _ l.invariant.3 l.invariant.4 ∙ sym (ap (λ (r : Spelled). sets old 0 r.bytes) e))
+    (rw (n, c.end_by.ensures) (sym (ap scanned e)), c.before.before.before.before.before.put-run.ensures ∙ stored_more old l.invariant.0 (part s l.at to) _ _ l.invariant.3 l.invariant.4 ∙ sym (ap (λ (r : Spelled). sets old 0 r.bytes) e))
 
 put-requires-2 : tie.Need-put-requires-2 invariant-loop decreases-loop
 put-requires-2 c κs = search rules

@@ -2,8 +2,8 @@
 use mathlib.Core.Path.{sym, ap}
 use Rattle.literal_escapes.specs.Strings.{end_by}
 use borrow.Author.Rules.{rules}
-use Rattle.literal_decode.proofs.end_by_lem.Statement.{statement}
-use Rattle.literal_decode.proofs.end_by_lem.Tie as tie
+use Rattle.literal_decode.proofs.end_by.Statement.{statement}
+use Rattle.literal_decode.proofs.end_by.Tie as tie
 
 enum-known-p : tie.Need-enum-known-p
 enum-known-p c = search rules

@@ -2,8 +2,8 @@
 use Rattle.saturating.proofs.Held.{sized_held, unsized_held, large_held}
 use mathlib.Core.Path.{sym, ◌∙◌}
 use borrow.Author.Rules.{rules}
-use Rattle.saturating.proofs.held_bytes_lem.Statement.{statement}
-use Rattle.saturating.proofs.held_bytes_lem.Tie as tie
+use Rattle.saturating.proofs.held_bytes.Statement.{statement}
+use Rattle.saturating.proofs.held_bytes.Tie as tie
 
 num-bytes-requires : tie.Need-num-bytes-requires
 num-bytes-requires c κs = search rules

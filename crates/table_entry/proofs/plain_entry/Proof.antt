@@ -25,7 +25,7 @@ units-number-requires : tie.Need-units-number-requires
 units-number-requires c κs = search rules
 
 returns : tie.Need-returns
-returns c = entry_of _ refl refl c.before.before.to-byte.ensures c.before.to-byte2.ensures refl c.units_number.ensures refl (ap (λ (b : Bytes). b.0) c.before.before.before.held_bytes_lem.ensures) refl
+returns c = entry_of _ refl refl c.before.before.to-byte.ensures c.before.to-byte2.ensures refl c.units_number.ensures refl (ap (λ (b : Bytes). b.0) c.before.before.before.held_bytes.ensures) refl
 
 pub plain-entry-spec : {M : Type 1} → statement M
 plain-entry-spec =

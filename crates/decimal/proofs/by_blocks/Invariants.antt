@@ -1,0 +1,12 @@
+-- `decimal::by_blocks` meets its contract: reading on is the same before a block and after it (`read_on_block`).
+use Prim.Native.Nat.{◌-◌}
+use mathlib.Core.Path.{◌≡◌}
+use lib.ListN.{length}
+use Rattle.decimal.specs.Blocks.{read_on}
+use Rattle.decimal.proofs.by_blocks.Given as goal
+
+abbrev pub invariant-loop-number : goal.invariant-loop-number
+invariant-loop-number l = read_on l.text l.from l.initial.number ≡ read_on l.text l.count l.number
+
+abbrev pub decreases-loop-number : goal.decreases-loop-number
+decreases-loop-number l = length l.text - l.count
