@@ -1,0 +1,10 @@
+-- `check_scan::level` meets its contract, by the kind.
+use native.Mathlib.Numerals.{add-one}
+use borrow.Author.Tests.{eq-eqb, ne_eqb}
+use Rattle.check_scan.proofs.level.Goals as goal
+
+pub returns-then-kind-eq-ARRAY : goal.returns-then-kind-eq-ARRAY
+returns-then-kind-eq-ARRAY c = simp (eq-eqb _ 1 c.if-kind-eq-ARRAY.true, add-one)
+
+pub returns-else-kind-eq-ARRAY : goal.returns-else-kind-eq-ARRAY
+returns-else-kind-eq-ARRAY c = simp (ne_eqb _ 1 c.if-kind-eq-ARRAY.false)

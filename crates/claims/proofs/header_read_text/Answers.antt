@@ -1,0 +1,9 @@
+-- The reader's contract, with every reading that keeps the promise.
+use Rattle.header.specs.Reads.{lent}
+use Rattle.claims.proofs.Readings.{read_text_tied}
+use Rattle.claims.proofs.header_read_text.Goals as goal
+
+pub returns : goal.returns
+returns c =
+    let a = c.args in
+    read_text_tied a.text.now (lent a.table.now a.names.now a.shape.now) _ _ c.read_text.ensures

@@ -1,0 +1,9 @@
+-- The reader's contract, with every reading that keeps the promise.
+use Rattle.header.specs.Reads.{lent}
+use Rattle.claims.proofs.Readings.{npy_read_held_tied}
+use Rattle.claims.proofs.npy_read_held.Goals as goal
+
+pub returns : goal.returns
+returns c =
+    let a = c.args in
+    npy_read_held_tied a.longer a.file.now (lent a.table.now a.names.now a.shape.now) a.said.now _ _ _ c.npy_read_held.ensures

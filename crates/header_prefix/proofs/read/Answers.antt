@@ -1,0 +1,21 @@
+-- Each test in its order.
+use mathlib.Core.Path.{sym, ap, ◌∙◌}
+use Rattle.counts.specs.Outcome.{then}
+use Rattle.counts.proofs.OneOutcome.{matched}
+use Rattle.record.specs.Prefix.{length_read}
+use Rattle.header_prefix.specs.Answer.{version_answer}
+use Rattle.header_prefix.proofs.Bytes.{short_is_1, other_is_1, then_version}
+use borrow.Author.Tests.{not-true, not-false}
+use Rattle.header_prefix.proofs.read.Goals as goal
+
+pub returns-then-file-lt8 : goal.returns-then-file-lt8
+returns-then-file-lt8 c = sym (short_is_1 _ c.if-file-lt8.true)
+
+pub returns-then-not-is_magic : goal.returns-then-not-is_magic
+returns-then-not-is_magic c = sym (other_is_1 _ c.if-file-lt8.false (sym c.is_magic.ensures ∙ not-true _ c.if-not-is_magic.true-raw))
+
+pub returns-in_default : goal.returns-in_default
+returns-in_default c = sym (then_version _ c.if-file-lt8.false (sym c.is_magic.ensures ∙ not-false _ c.if-not-is_magic.false-raw) ∙ ap (λ v. then v (λ v. length_read v c.args.file.now)) (sym (matched version_answer c.version_of-v.ensures c.in_default.is)))
+
+pub returns : goal.returns
+returns c = c.text_length.ensures ∙ sym (then_version _ c.if-file-lt8.false (sym c.is_magic.ensures ∙ not-false _ c.if-not-is_magic.false-raw) ∙ ap (λ v. then v (λ v. length_read v c.args.file.now)) (sym (matched version_answer c.version_of-v.ensures c.in-Is.is)))

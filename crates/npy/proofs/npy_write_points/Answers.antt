@@ -1,0 +1,16 @@
+-- The type, and then the answer of it; numbers that no type has are the refusal's number.
+use Rattle.string_value.specs.Rooms.{write_points}
+use Rattle.counts.proofs.OneOutcome.{matched}
+use Rattle.type_str.specs.Answer as typed
+use Rattle.npy.proofs.Putting.{then_put, none_put}
+use Rattle.npy.proofs.npy_write_points.Goals as goal
+
+pub returns-in-Read : goal.returns-in-Read
+returns-in-Read c =
+    let a = c.args in
+    then_put (λ t. write_points t a.value.now a.out.now) (matched typed.answer c.type_for.ensures c.in-Read.is) c.write_points.ensures c.return_bytes.ensures
+
+pub returns-in-Refused : goal.returns-in-Refused
+returns-in-Refused c =
+    let a = c.args in
+    none_put (λ t. write_points t a.value.now a.out.now) (matched typed.answer c.type_for.ensures c.in-Refused.is) c.number.ensures

@@ -1,0 +1,10 @@
+-- The loop keeps that the first i numbers of what is said are copied, and the measure is how many are left.
+use Prim.Native.Nat.{◌-◌}
+use Rattle.header_feed.proofs.Copies.{Copying}
+use Rattle.npy_codes.proofs.with_saying.Given as goal
+
+abbrev pub invariant-loop-i : goal.invariant-loop-i
+invariant-loop-i l = Copying l.initial.all 13 l.says 7 l.i l.all
+
+abbrev pub decreases-loop-i : goal.decreases-loop-i
+decreases-loop-i l = 7 - l.i

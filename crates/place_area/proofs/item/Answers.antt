@@ -1,0 +1,25 @@
+-- `place_area::item` meets its contract: each answer by the tests that led there.
+use Rattle.place_area.proofs.Answers.{answer_24, answer_25, answer_item}
+use Rattle.counts.proofs.OneOutcome.{matched}
+use Rattle.refusal.specs.Answers.{items_answer}
+use mathlib.Core.Path.{sym, ◌∙◌}
+use Rattle.place_area.proofs.item.Goals as goal
+use Rattle.place_area.proofs.item.Goals.{After-item_number}
+
+pub returns-in_default : goal.returns-in_default
+returns-in_default c = answer_24 _ _ _ _ _ _ _ c.in_default.is
+
+pub returns-then-is_short : goal.returns-then-is_short
+returns-then-is_short c = answer_25 _ _ _ _ _ _ _ _ c.in-Sized.is (sym c.if-is_short.true ∙ c.is_short.ensures)
+
+pub returns-in-Is : goal.returns-in-Is
+returns-in-Is c =
+    let at-number = (goal.at.returns-in-Is c).After-item_number in
+    answer_item _ _ _ _ _ _ _ _ at-number.before.before.before.before.size.given.1 (sym at-number.before.before.is-short.ensures ∙ at-number.before.if1.false)
+    _ (matched items_answer at-number.item_number.ensures c.in-Is.is)
+
+pub returns-in-Refused : goal.returns-in-Refused
+returns-in-Refused c =
+    let at-number = (goal.at.returns-in-Refused c).After-item_number in
+    answer_item _ _ _ _ _ _ _ _ at-number.before.before.before.before.size.given.1 (sym at-number.before.before.is-short.ensures ∙ at-number.before.if1.false)
+    _ (matched items_answer at-number.item_number.ensures c.in-Refused.is)

@@ -1,0 +1,12 @@
+-- `write_pieces::put_levels` meets its contract. The loop keeps that the dimensions from entry c on, put after those that were put, make the whole row (`Levels`); the measure is
+-- what is left of the table.
+use Prim.Native.Nat.{◌-◌}
+use lib.ListN.{length}
+use Rattle.write_pieces.proofs.Levels.{Levels}
+use Rattle.write_pieces.proofs.put_levels.Given as goal
+
+abbrev pub invariant-loop-kind : goal.invariant-loop-kind
+invariant-loop-kind l = Levels l.table l.e l.initial.out l.at l.out l.p l.c l.kind l.number
+
+abbrev pub decreases-loop-kind : goal.decreases-loop-kind
+decreases-loop-kind l = length l.table - l.c
