@@ -1,0 +1,4 @@
+use Rattle.element_text.proofs.+put_hex.Given as goal
+
+abbrev pub decreases-put_hex : goal.decreases-put_hex
+decreases-put_hex l = l.digits
