@@ -21,6 +21,7 @@ doubled : (d k : ℕ) → d * 2 ^ suc k ≡ d * 2 ^ k * 2
 doubled d k = ap (λ (z : ℕ). d * z) (pow-suc 2 k) ∙ sym (mul_assoc d (2 ^ k) 2)
 
 at_least : (d p : ℕ) → 1024 ≤ d → 0 < p → 1024 ≤ d * p
+at_least d zero h l = elim l [ ]
 at_least d (suc p) h l = omega (arith, mul-suc d p)
 
 unscaled_small : (j n : ℕ) → n < 2048 → unscaled j n ≡ n

@@ -5,7 +5,7 @@ use mathlib.Core.Path.{ap, ◌∙◌}
 use Rattle.check_record.proofs.entry_over.Goals as goal
 
 pub returns-then-entry-eq-PLAIN : goal.returns-then-entry-eq-PLAIN
-returns-then-entry-eq-PLAIN c = let a = c.args in c.plain_over_lem.ensures ∙ plain_size a.table.now a.n a.e _ c.entry_at-entry.ensures c.if-entry-eq-PLAIN.true
+returns-then-entry-eq-PLAIN c = let a = c.args in c.plain_over.ensures ∙ plain_size a.table.now a.n a.e _ c.entry_at-entry.ensures c.if-entry-eq-PLAIN.true
 
 pub returns-then-entry-eq-ARRAY : goal.returns-then-entry-eq-ARRAY
 returns-then-entry-eq-ARRAY c = let a = c.args in c.is_over.ensures ∙ ap bytes_over c.of_size-bytes.ensures ∙ array_size a.table.now a.n a.e _ c.entry_at-entry.ensures c.if-entry-eq-ARRAY.true _ c.entry_at-inner.ensures

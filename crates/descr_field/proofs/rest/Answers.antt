@@ -1,4 +1,5 @@
 -- All end as the items from the gap on do; each item that is read leaves less of the text.
+use borrow.Enum.Refused.{opened}
 use mathlib.Core.Path.{refl, sym, ◌∙◌}
 use Rattle.literal.specs.Literal.{value as value_of}
 use Rattle.literal.proofs.Ends.{value_ahead}
@@ -14,13 +15,13 @@ pub returns-in_default : goal.returns-in_default
 returns-in_default c =
     let a = c.args in
     let l = c.loop-g in
-    c.ended.ensures ∙ (from_end a.room a.text.now a.close l.g c.in_default.in_default-own.keys2 ∙ sym l.invariant)
+    c.ended.ensures ∙ (from_end a.room a.text.now a.close l.g (opened c.in_default.in_default-own.keys2) ∙ sym l.invariant)
 
 pub returns-in_default-r : goal.returns-in_default-r
 returns-in_default-r c =
     let a = c.args in
     let l = c.loop-g in
-    from_stop a.room a.text.now a.close l.g _ c.value-r.result c.in-Item.is c.value-r.ensures (stops c.value-r.result c.in_default-r.in_default-r-own.keys2) ∙ sym l.invariant
+    from_stop a.room a.text.now a.close l.g _ c.value-r.result c.in-Item.is c.value-r.ensures (stops c.value-r.result (opened c.in_default-r.in_default-r-own.keys2)) ∙ sym l.invariant
 
 pub loop-g-smaller : goal.loop-g-smaller
 loop-g-smaller c =

@@ -1,4 +1,5 @@
 -- By the gap: nothing more, a value that is no literal, a sub-shape and nothing more, or more.
+use borrow.Enum.Refused.{opened}
 use mathlib.Core.Path.{ap, ◌∙◌}
 use Rattle.counts.specs.Outcome.{Outcome}
 use Rattle.descr_totals.specs.declared.Totals.{Totals}
@@ -11,7 +12,7 @@ use Rattle.descr_field.proofs.sub_shape.Goals as goal
 pub returns-in_default : goal.returns-in_default
 returns-in_default c =
     let a = c.args in
-    let none = c.in_default.in_default-own.keys2 in
+    let none = (opened c.in_default.in_default-own.keys2) in
     (c.ended.ensures ∙ from_end a.room a.text.now a.close a.g none, c.join.ensures ∙ says_none a.room a.text.now a.close (verdict a.name) (verdict a.of) a.g none)
 
 pub returns-in_default-end : goal.returns-in_default-end
@@ -19,7 +20,7 @@ returns-in_default-end c =
     let a = c.args in
     let item = c.in-Item.is in
     let j = c.judge-shape in
-    let stop = stops j.result.ended c.in_default-end.in_default-end-own.keys2 in
+    let stop = stops j.result.ended (opened c.in_default-end.in_default-end-own.keys2) in
     (c.wrong_form.ensures.0 ∙ ends_stop a.room a.text.now a.close (verdict a.name) (verdict a.of) a.g _ item j.result j.ensures stop, ap verdict c.wrong_form.ensures.1 ∙ says_stop a.room a.text.now a.close (verdict a.name) (verdict a.of) a.g _ item j.result j.ensures stop)
 
 pub returns-in_default-next : goal.returns-in_default-next
@@ -30,7 +31,7 @@ returns-in_default-next c =
     let small = c.ranges.close.fits in
     let value = c.in-Value.is in
     let next = c.then_at-next in
-    let none = c.in_default-next.in_default-next-own.keys2 in (
+    let none = (opened c.in_default-next.in_default-next-own.keys2) in (
       c.ended-in_default-next.ensures ∙ ends_shape a.room a.text.now a.close (verdict a.name) (verdict a.of) a.g _ item j.result j.ensures small _ value next.result next.ensures none,
       c.join-in_default-next.ensures ∙ (ap (λ (o : Outcome Totals). both (verdict a.name) o) c.shaped.ensures ∙ says_shape a.room a.text.now a.close (verdict a.name) (verdict a.of) a.g _ item j.result j.ensures small _ value next.result next.ensures none),
     )

@@ -9,10 +9,10 @@ pub returns-then-is_dash : goal.returns-then-is_dash
 returns-then-is_dash c = none_listed c.args.text.now _ (sym c.is_dash.ensures ∙ c.if-is_dash.true)
 
 pub returns-then-not-is_list : goal.returns-then-not-is_list
-returns-then-not-is_list c = no_list c.args.text.now _ (sym c.is_dash.ensures ∙ c.if-is_dash.false) (sym c.is_list_lem.ensures ∙ not-true _ c.if-not-is_list.true-raw)
+returns-then-not-is_list c = no_list c.args.text.now _ (sym c.is_dash.ensures ∙ c.if-is_dash.false) (sym c.is_list.ensures ∙ not-true _ c.if-not-is_list.true-raw)
 
 pub returns-then-out-count : goal.returns-then-out-count
-returns-then-out-count c = listed_some c.args.text.now _ (sym c.is_dash.ensures ∙ c.if-is_dash.false) (sym c.is_list_lem.ensures ∙ not-false _ c.if-not-is_list.false-raw) _ _ c.put_listed-count.ensures (omega arith) (omega arith) _ (omega arith) (omega arith)
+returns-then-out-count c = listed_some c.args.text.now _ (sym c.is_dash.ensures ∙ c.if-is_dash.false) (sym c.is_list.ensures ∙ not-false _ c.if-not-is_list.false-raw) _ _ c.put_listed-count.ensures (omega arith) (omega arith) _ (omega arith) (omega arith)
 
 pub returns : goal.returns
-returns c = listed_all c.args.text.now _ (sym c.is_dash.ensures ∙ c.if-is_dash.false) (sym c.is_list_lem.ensures ∙ not-false _ c.if-not-is_list.false-raw) _ _ c.put_listed-count.ensures (omega arith) (omega arith) (omega arith)
+returns c = listed_all c.args.text.now _ (sym c.is_dash.ensures ∙ c.if-is_dash.false) (sym c.is_list.ensures ∙ not-false _ c.if-not-is_list.false-raw) _ _ c.put_listed-count.ensures (omega arith) (omega arith) (omega arith)

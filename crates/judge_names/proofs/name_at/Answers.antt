@@ -13,4 +13,4 @@ slice_bounds-key_of-end c =
     name_fits (spelled a.quote a.text.now a.from) _ d.ensures.0 _ d.ensures.1 c.if-s-gt-LONGEST.false
 
 pub returns : goal.returns
-returns c = let d = c.decode-s in name_stored _ _ d.ensures.0 _ d.ensures.1 c.if-s-gt-LONGEST.false _ c.key_of_lem.ensures
+returns c = let d = c.decode-s in name_stored _ _ d.ensures.0 _ d.ensures.1 c.if-s-gt-LONGEST.false _ c.key_of.ensures

@@ -1,4 +1,5 @@
 -- The kind of the first byte decides.
+use borrow.Enum.Refused.{opened}
 use mathlib.Core.Path.{sym, ap, ◌∙◌}
 use Rattle.judge_names.specs.Answer.{word_of}
 use Rattle.judge_names.proofs.Words.{no_word, order_true, order_false, order_other}
@@ -20,4 +21,4 @@ pub returns-in-Square : goal.returns-in-Square
 returns-in-Square c =
     let a = c.args in
     let hk = c.kind_at-k.ensures in
-    (λ k n e h. sym (order_other k a.text.now a.at e n h _ hk c.in-Square.in-Square-own.keys3), no_word c.kind_at-k.result c.in-Square.in-Square-own.keys3 ∙ ap word_of hk)
+    (λ k n e h. sym (order_other k a.text.now a.at e n h _ hk (opened c.in-Square.in-Square-own.keys3)), no_word c.kind_at-k.result (opened c.in-Square.in-Square-own.keys3) ∙ ap word_of hk)

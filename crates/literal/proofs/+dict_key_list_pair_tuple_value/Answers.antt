@@ -1,4 +1,5 @@
 use Prim.Native.Nat.{ℕ}
+use borrow.Enum.Refused.{opened}
 use lib.ListN.{length}
 use mathlib.Core.Path.{◌≡◌, sym, ap, ◌∙◌}
 use mathlib.Core.Bool.{Bool, true, false, not}
@@ -32,7 +33,7 @@ pub dict-returns-in_default : goal.dict-returns-in_default
 dict-returns-in_default t c =
     let s = c.args.text.now in
     let rd = pair_by (value_of c.args.room s) s in
-    turn_end rd s 125 c.args.from c.loop-g.g c.ended.result c.loop-g.invariant c.ended.ensures c.in_default.in_default-own.keys2
+    turn_end rd s 125 c.args.from c.loop-g.g c.ended.result c.loop-g.invariant c.ended.ensures (opened c.in_default.in_default-own.keys2)
 
 pub dict-pair-r-requires : goal.dict-pair-r-requires
 dict-pair-r-requires t c =
@@ -45,7 +46,7 @@ pub dict-returns-in_default-r : goal.dict-returns-in_default-r
 dict-returns-in_default-r t c =
     let s = c.args.text.now in
     let rd = pair_by (value_of c.args.room s) s in
-    c.same.ensures ∙ turn_stop rd s 125 c.args.from c.loop-g.g _ c.pair-r.result c.loop-g.invariant c.in-Item.is c.pair-r.ensures c.in_default-r.in_default-r-own.keys2
+    c.same.ensures ∙ turn_stop rd s 125 c.args.from c.loop-g.g _ c.pair-r.result c.loop-g.invariant c.in-Item.is c.pair-r.ensures (opened c.in_default-r.in_default-r-own.keys2)
 
 pub dict-loop-g-smaller : goal.dict-loop-g-smaller
 dict-loop-g-smaller t c =
@@ -69,7 +70,7 @@ key-returns-in_default t c =
     let s = c.args.text.now in
     let at = c.args.at in
     let rd = value_of c.args.room s in
-    key_stop rd s at c.value-r.result c.value-r.ensures (stops c.value-r.result c.in_default.in_default-own.keys2)
+    key_stop rd s at c.value-r.result c.value-r.ensures (stops c.value-r.result (opened c.in_default.in_default-own.keys2))
 
 pub key-returns : goal.key-returns
 key-returns t c =
@@ -89,7 +90,7 @@ pub list-returns-in_default : goal.list-returns-in_default
 list-returns-in_default t c =
     let s = c.args.text.now in
     let rd = value_of c.args.room s in
-    turn_end rd s c.args.close c.args.from c.loop-g.g c.ended.result c.loop-g.invariant c.ended.ensures c.in_default.in_default-own.keys2
+    turn_end rd s c.args.close c.args.from c.loop-g.g c.ended.result c.loop-g.invariant c.ended.ensures (opened c.in_default.in_default-own.keys2)
 
 pub list-value-r-requires : goal.list-value-r-requires
 list-value-r-requires t c =
@@ -102,7 +103,7 @@ pub list-returns-in_default-r : goal.list-returns-in_default-r
 list-returns-in_default-r t c =
     let s = c.args.text.now in
     let rd = value_of c.args.room s in
-    c.same.ensures ∙ turn_stop rd s c.args.close c.args.from c.loop-g.g _ c.value-r.result c.loop-g.invariant c.in-Item.is c.value-r.ensures c.in_default-r.in_default-r-own.keys2
+    c.same.ensures ∙ turn_stop rd s c.args.close c.args.from c.loop-g.g _ c.value-r.result c.loop-g.invariant c.in-Item.is c.value-r.ensures (opened c.in_default-r.in_default-r-own.keys2)
 
 pub list-loop-g-smaller : goal.list-loop-g-smaller
 list-loop-g-smaller t c =
@@ -126,7 +127,7 @@ pair-returns-in_default t c =
     let s = c.args.text.now in
     let at = c.args.at in
     let rd = value_of c.args.room s in
-    pair_stop rd s at c.key-k.result c.key-k.ensures (stops c.key-k.result c.in_default.in_default-own.keys2)
+    pair_stop rd s at c.key-k.result c.key-k.ensures (stops c.key-k.result (opened c.in_default.in_default-own.keys2))
 
 pub pair-value-requires : goal.pair-value-requires
 pair-value-requires t c =
@@ -148,7 +149,7 @@ tuple-returns-in_default t c =
     let s = c.args.text.now in
     let at = c.args.from in
     let rd = value_of c.args.room s in
-    c.ended.ensures ∙ tuple_end rd s at c.gap_at-g.result c.gap_at-g.ensures c.in_default.in_default-own.keys2
+    c.ended.ensures ∙ tuple_end rd s at c.gap_at-g.result c.gap_at-g.ensures (opened c.in_default.in_default-own.keys2)
 
 pub tuple-value-r-requires : goal.tuple-value-r-requires
 tuple-value-r-requires t c =
@@ -163,7 +164,7 @@ tuple-returns-in_default-r t c =
     let at = c.args.from in
     let rd = value_of c.args.room s in
     let hg : gap_at s at 41 ≡ _ = sym c.gap_at-g.ensures ∙ c.in-Item.is in
-    tuple_stop rd s at _ c.value-r.result hg c.value-r.ensures (stops c.value-r.result c.in_default-r.in_default-r-own.keys2)
+    tuple_stop rd s at _ c.value-r.result hg c.value-r.ensures (stops c.value-r.result (opened c.in_default-r.in_default-r-own.keys2))
 
 pub tuple-returns-in_default-c : goal.tuple-returns-in_default-c
 tuple-returns-in_default-c t c =
@@ -172,7 +173,7 @@ tuple-returns-in_default-c t c =
     let rd = value_of c.args.room s in
     let hg : gap_at s at 41 ≡ _ = sym c.gap_at-g.ensures ∙ c.in-Item.is in
     let hr = sym c.in-Value.is ∙ c.value-r.ensures in
-    tuple_comma rd s at _ _ c.need-c.result hg hr c.need-c.ensures (stops c.need-c.result c.in_default-c.in_default-c-own.keys2)
+    tuple_comma rd s at _ _ c.need-c.result hg hr c.need-c.ensures (stops c.need-c.result (opened c.in_default-c.in_default-c-own.keys2))
 
 pub tuple-list-requires : goal.tuple-list-requires
 tuple-list-requires t c =

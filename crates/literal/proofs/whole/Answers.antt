@@ -1,4 +1,5 @@
 -- Only blanks after the value, as in the definition; a refusal is passed on.
+use borrow.Enum.Refused.{opened}
 use Rattle.literal_bytes.proofs.Ends.{stops}
 use Rattle.literal.proofs.Steps.{whole_done, whole_more, whole_stop}
 use Rattle.literal.proofs.whole.Goals as goal
@@ -6,7 +7,7 @@ use Rattle.literal.proofs.whole.Goals as goal
 pub returns-in_default : goal.returns-in_default
 returns-in_default c =
     let a = c.args in
-    whole_stop a.text.now a.r (stops a.r c.in_default.in_default-own.keys2)
+    whole_stop a.text.now a.r (stops a.r (opened c.in_default.in_default-own.keys2))
 
 pub returns-then-e-text : goal.returns-then-e-text
 returns-then-e-text c =

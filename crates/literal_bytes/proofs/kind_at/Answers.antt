@@ -8,4 +8,4 @@ pub returns-then-b-ge-PAST : goal.returns-then-b-ge-PAST
 returns-then-b-ge-PAST c = kind_past c.peek-b.result c.if-b-ge-PAST.true ∙ ap kind_of c.peek-b.ensures
 
 pub returns : goal.returns
-returns c = c.kind_of_lem.ensures ∙ ap kind_of c.peek-b.ensures
+returns c = c.kind_of.ensures ∙ ap kind_of c.peek-b.ensures

@@ -1,5 +1,6 @@
 -- The invariant: the string is the bytes passed, followed by its pieces from `at` on; the bytes passed, `len` of them, are stored, and `escape` is whether one of them is an
 -- escape. A turn stores the byte of an escape, or a run of plain bytes and the byte of the escape after it.
+use borrow.Enum.Refused.{opened}
 use Prim.Native.Nat.{ℕ}
 use mathlib.Core.Path.{refl, sym, ap, subst, ◌∙◌}
 use mathlib.Core.Bool.{Bool, ◌||◌, or-true}
@@ -110,7 +111,7 @@ returns-in_default c =
     let n = plain_count q s l.at to c.plain_to-to.ensures l.invariant.0 l.len l.invariant.3 in
     let old = c.args.out.now in
     let us = l.invariant.0 ++ part s l.at to in
-    let e = along_stop q s from to us l.escape _ w (sym c.piece_at-p.ensures) c.in_default.in_default-own.keys2 in
+    let e = along_stop q s from to us l.escape _ w (sym c.piece_at-p.ensures) (opened c.in_default.in_default-own.keys2) in
     (rw (n, c.end_by.ensures) (sym (ap scanned e)), c.put_run.ensures ∙ stored_more old l.invariant.0 (part s l.at to) _ _ l.invariant.3 l.invariant.4 ∙ sym (ap (λ (r : Spelled). sets old 0 r.bytes) e))
 
 pub overflow_add-len-in-loop-escape-2 : goal.overflow_add-len-in-loop-escape-2

@@ -1,4 +1,5 @@
 -- The kind of the first byte decides, as in the definition; a byte that can begin something is in the text.
+use borrow.Enum.Refused.{opened}
 use Prim.Native.Nat.{ℕ, ◌+◌}
 use mathlib.Core.Path.{◌≡◌, refl, sym, ap, ◌∙◌}
 use native.Mathlib.Omega.{arith}
@@ -82,4 +83,4 @@ returns-in-Square c =
     let s = c.args.text.now in
     let at = c.args.at in
     let hk : kind_of (byte_at s at) ≡ c.kind_at-k.result = sym c.kind_at-k.ensures in
-    sym (no_token s at c.kind_at-k.result c.in-Square.in-Square-own.keys7) ∙ token_ends s at c.kind_at-k.result hk
+    sym (no_token s at c.kind_at-k.result (opened c.in-Square.in-Square-own.keys7)) ∙ token_ends s at c.kind_at-k.result hk

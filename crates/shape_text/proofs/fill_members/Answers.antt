@@ -1,4 +1,5 @@
 -- The loop over the members keeps that the numbers from the gap on, put after the i that were put, make the whole row, and that it stops where they stop (`Filling`).
+use borrow.Enum.Refused.{opened}
 use native.Mathlib.Omega.{arith}
 use Rattle.literal.specs.Literal as read
 use Rattle.literal.proofs.Ends.{value_ahead}
@@ -18,7 +19,7 @@ pub returns-in_default : goal.returns-in_default
 returns-in_default c =
     let a = c.args in
     let l = c.loop-g in
-    filling_end a.room a.text.now a.close a.from a.out.now l.out l.g l.i l.invariant c.in_default.in_default-own.keys2
+    filling_end a.room a.text.now a.close a.from a.out.now l.out l.g l.i l.invariant (opened c.in_default.in_default-own.keys2)
 
 pub shape_of-out-in_default-ended : goal.shape_of-out-in_default-ended
 shape_of-out-in_default-ended c = c.loop-g.invariant.same
@@ -27,7 +28,7 @@ pub returns-in_default-ended : goal.returns-in_default-ended
 returns-in_default-ended c =
     let a = c.args in
     let l = c.loop-g in
-    filling_stop a.room a.text.now a.close a.from a.out.now l.out l.g l.i l.invariant _ c.member_at-m.result.ended c.in-Item.is c.member_at-m.ensures.0 c.in_default-ended.in_default-ended-own.keys2
+    filling_stop a.room a.text.now a.close a.from a.out.now l.out l.g l.i l.invariant _ c.member_at-m.result.ended c.in-Item.is c.member_at-m.ensures.0 (opened c.in_default-ended.in_default-ended-own.keys2)
 
 pub shape_of-out-in_default-size : goal.shape_of-out-in_default-size
 shape_of-out-in_default-size c = c.loop-g.invariant.same

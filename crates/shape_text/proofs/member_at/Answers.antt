@@ -1,4 +1,5 @@
 -- Digits end somewhere exactly where there is one, and then they are the integer there.
+use borrow.Enum.Refused.{opened}
 use mathlib.Core.Path.{refl, sym, ◌∙◌}
 use Rattle.literal_bytes.specs.declared.ValueKind.TheVariants.{Digit}
 use Rattle.shape_verdict.specs.Answer.{member_answer}
@@ -6,7 +7,7 @@ use Rattle.shape_text.proofs.Numbers.{token_value, numeral_ends, numeral_number,
 use Rattle.shape_text.proofs.member_at.Goals as goal
 
 pub other_at-requires : goal.other_at-requires
-other_at-requires c = no_numeral c.args.text.now c.args.at c.numeral_at-d.result c.numeral_at-d.ensures c.in_default.in_default-own.keys2
+other_at-requires c = no_numeral c.args.text.now c.args.at c.numeral_at-d.result c.numeral_at-d.ensures (opened c.in_default.in_default-own.keys2)
 
 pub returns : goal.returns
 returns c =

@@ -1,5 +1,6 @@
 -- The loop over the members keeps that the list ends as its members from the gap on do, and that its verdict is the one on the members met, extended by those from the gap on
 -- (`Walking`).
+use borrow.Enum.Refused.{opened}
 use native.Mathlib.Omega.{arith}
 use Rattle.literal.specs.Literal as read
 use Rattle.literal.proofs.Ends.{value_ahead}
@@ -16,13 +17,13 @@ pub returns-in_default : goal.returns-in_default
 returns-in_default c =
     let a = c.args in
     let l = c.loop-g in
-    walking_end a.room a.text.now a.close a.from a.met l.g l.verdict c.shut.result l.invariant c.shut.ensures c.in_default.in_default-own.keys2
+    walking_end a.room a.text.now a.close a.from a.met l.g l.verdict c.shut.result l.invariant c.shut.ensures (opened c.in_default.in_default-own.keys2)
 
 pub returns-in_default-ended : goal.returns-in_default-ended
 returns-in_default-ended c =
     let a = c.args in
     let l = c.loop-g in
-    walking_stop a.room a.text.now a.close a.from a.met l.g l.verdict c.in-Item.p c.member_at-m.result.ended l.invariant c.in-Item.is c.member_at-m.ensures.0 c.in_default-ended.in_default-ended-own.keys2
+    walking_stop a.room a.text.now a.close a.from a.met l.g l.verdict c.in-Item.p c.member_at-m.result.ended l.invariant c.in-Item.is c.member_at-m.ensures.0 (opened c.in_default-ended.in_default-ended-own.keys2)
 
 pub loop-g-smaller : goal.loop-g-smaller
 loop-g-smaller c =

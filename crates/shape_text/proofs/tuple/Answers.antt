@@ -1,4 +1,5 @@
 -- A law for each way out; after the comma the members are walked over as a list's.
+use borrow.Enum.Refused.{opened}
 use native.Mathlib.Omega.{arith}
 use mathlib.Core.Path.{◌≡◌, sym, ◌∙◌}
 use mathlib.Core.List.{[]}
@@ -15,21 +16,21 @@ use Rattle.shape_text.proofs.tuple.Goals as goal
 pub returns-in_default : goal.returns-in_default
 returns-in_default c =
     let a = c.args in
-    round_end a.room a.text.now a.from c.gap_at-g.result c.nothing.result (outline_of []) c.shut.result c.gap_at-g.ensures c.in_default.in_default-own.keys2 c.nothing.ensures c.shut.ensures
+    round_end a.room a.text.now a.from c.gap_at-g.result c.nothing.result (outline_of []) c.shut.result c.gap_at-g.ensures (opened c.in_default.in_default-own.keys2) c.nothing.ensures c.shut.ensures
 
 pub returns-in_default-first : goal.returns-in_default-first
 returns-in_default-first c =
     let a = c.args in
     let s = a.text.now in
     let hg : gap_at s a.from 41 ≡ _ = sym c.gap_at-g.ensures ∙ c.in-Item.is in
-    round_stop a.room s a.from (gives (outline_of [])) _ c.member_at-m.result.ended hg c.member_at-m.ensures.0 c.in_default-first.in_default-first-own.keys2
+    round_stop a.room s a.from (gives (outline_of [])) _ c.member_at-m.result.ended hg c.member_at-m.ensures.0 (opened c.in_default-first.in_default-first-own.keys2)
 
 pub returns-in_default-c : goal.returns-in_default-c
 returns-in_default-c c =
     let a = c.args in
     let s = a.text.now in
     let hg : gap_at s a.from 41 ≡ _ = sym c.gap_at-g.ensures ∙ c.in-Item.is in
-    round_comma a.room s a.from (gives (outline_of [])) _ c.member_at-m.result.ended hg c.member_at-m.ensures.0 _ c.in-Value.is c.need-c.result c.need-c.ensures c.in_default-c.in_default-c-own.keys2
+    round_comma a.room s a.from (gives (outline_of [])) _ c.member_at-m.result.ended hg c.member_at-m.ensures.0 _ c.in-Value.is c.need-c.result c.need-c.ensures (opened c.in_default-c.in_default-c-own.keys2)
 
 pub members-requires : goal.members-requires
 members-requires c =

@@ -1,4 +1,5 @@
 -- `string_element::read_bytes` meets its contract: 27, and then by the letter of the type.
+use borrow.Enum.Refused.{opened}
 use Prim.Native.Nat.{ℕ}
 use mathlib.Core.Path.{◌≡◌, refl, sym, ap, ◌∙◌}
 use mathlib.Core.Bool.{true}
@@ -17,11 +18,11 @@ use Rattle.string_element.proofs.read_bytes.Goals as goal
 use Rattle.string_element.proofs.read_bytes.Goals.{After-is_type, Else-not-is_type}
 
 pub returns-then-not-is_type : goal.returns-then-not-is_type
-returns-then-not-is_type c = owes_same _ _ _ _ _ (read_bytes_none _ c.args.run.now _ (sym c.is_type_lem.ensures ∙ not-true _ c.if-not-is_type.true-raw)) (owes_refused 27 _)
+returns-then-not-is_type c = owes_same _ _ _ _ _ (read_bytes_none _ c.args.run.now _ (sym c.is_type.ensures ∙ not-true _ c.if-not-is_type.true-raw)) (owes_refused 27 _)
 
 -- past 27
 typed : (c : goal.Else-not-is_type) → is_type c.args.t ≡ true
-typed c = sym c.is_type_lem.ensures ∙ not-false _ c.if-not-is_type.false-raw
+typed c = sym c.is_type.ensures ∙ not-false _ c.if-not-is_type.false-raw
 
 pub slice_bounds-copy-end : goal.slice_bounds-copy-end
 slice_bounds-copy-end c = sym (length-take-le _ _ (omega (arith, c.kept.ensures, trim_length c.args.run.now)))
@@ -43,6 +44,6 @@ returns-in-RawData c =
 pub returns-in_default : goal.returns-in_default
 returns-in_default c =
     let a = c.args in
-    let no_bytes = no_letter is_bytes a.t.letter (0 ∷ 1 ∷ 2 ∷ 3 ∷ 4 ∷ 5 ∷ 6 ∷ 8 ∷ 9 ∷ []) c.in_default.in_default-own.keys3 refl in
-    let no-raw = no_letter is_raw a.t.letter (0 ∷ 1 ∷ 2 ∷ 3 ∷ 4 ∷ 5 ∷ 6 ∷ 8 ∷ 9 ∷ []) c.in_default.in_default-own.keys3 refl in
+    let no_bytes = no_letter is_bytes a.t.letter (0 ∷ 1 ∷ 2 ∷ 3 ∷ 4 ∷ 5 ∷ 6 ∷ 8 ∷ 9 ∷ []) (opened c.in_default.in_default-own.keys3) refl in
+    let no-raw = no_letter is_raw a.t.letter (0 ∷ 1 ∷ 2 ∷ 3 ∷ 4 ∷ 5 ∷ 6 ∷ 8 ∷ 9 ∷ []) (opened c.in_default.in_default-own.keys3) refl in
     owes_same _ _ _ _ _ (read_bytes_by a.t a.run.now _ (typed (goal.at.returns-in_default c).Else-not-is_type) _ (in_none _ _ no_bytes no-raw)) (owes_refused 26 _)

@@ -12,14 +12,14 @@ use Rattle.string_element.proofs.read_points.Goals as goal
 use Rattle.string_element.proofs.read_points.Goals.{Else-not-is_unicode}
 
 pub returns-then-not-is_type : goal.returns-then-not-is_type
-returns-then-not-is_type c = owes_same _ _ _ _ _ (read_points_none c.args.t c.args.run.now c.args.out.now (sym c.is_type_lem.ensures ∙ not-true _ c.if-not-is_type.true-raw)) (owes_refused 27 _)
+returns-then-not-is_type c = owes_same _ _ _ _ _ (read_points_none c.args.t c.args.run.now c.args.out.now (sym c.is_type.ensures ∙ not-true _ c.if-not-is_type.true-raw)) (owes_refused 27 _)
 
 pub returns-then-not-is_unicode : goal.returns-then-not-is_unicode
-returns-then-not-is_unicode c = owes_same _ _ _ _ _ (read_points_other c.args.t c.args.run.now c.args.out.now (sym c.is_type_lem.ensures ∙ not-false _ c.if-not-is_type.false-raw) (sym c.is_unicode.ensures ∙ not-true _ c.if-not-is_unicode.true-raw)) (owes_refused 26 _)
+returns-then-not-is_unicode c = owes_same _ _ _ _ _ (read_points_other c.args.t c.args.run.now c.args.out.now (sym c.is_type.ensures ∙ not-false _ c.if-not-is_type.false-raw) (sym c.is_unicode.ensures ∙ not-true _ c.if-not-is_unicode.true-raw)) (owes_refused 26 _)
 
 -- past 27 and 26
 typed : (c : goal.Else-not-is_unicode) → is_type c.args.t ≡ true
-typed c = sym c.is_type_lem.ensures ∙ not-false _ c.if-not-is_type.false-raw
+typed c = sym c.is_type.ensures ∙ not-false _ c.if-not-is_type.false-raw
 
 unicode : (c : goal.Else-not-is_unicode) → is_unicode c.args.t.letter ≡ true
 unicode c = sym c.is_unicode.ensures ∙ not-false _ c.if-not-is_unicode.false-raw

@@ -1,4 +1,5 @@
 -- `type_str::has_units` meets its contract: `m`, `M`, or one of the nine other letters.
+use borrow.Enum.Refused.{opened}
 use mathlib.Core.Path.{refl}
 use mathlib.Core.List.{[], ◌∷◌}
 use Rattle.type_letters.proofs.Tags.{no_letter}
@@ -12,4 +13,4 @@ pub returns-in-DateTime : goal.returns-in-DateTime
 returns-in-DateTime c = rw c.in-DateTime.is
 
 pub returns-in_default : goal.returns-in_default
-returns-in_default c = no_letter has_units c.args.letter (0 ∷ 1 ∷ 2 ∷ 3 ∷ 4 ∷ 7 ∷ 8 ∷ 9 ∷ 10 ∷ []) c.in_default.in_default-own.keys3 refl
+returns-in_default c = no_letter has_units c.args.letter (0 ∷ 1 ∷ 2 ∷ 3 ∷ 4 ∷ 7 ∷ 8 ∷ 9 ∷ 10 ∷ []) (opened c.in_default.in_default-own.keys3) refl

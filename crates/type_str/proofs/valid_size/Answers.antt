@@ -7,7 +7,7 @@ pub returns-in-Bool : goal.returns-in-Bool
 returns-in-Bool c = rw c.in-Bool.is
 
 pub returns-in-Int : goal.returns-in-Int
-returns-in-Int c = rw c.in-Int.is c.one_of_lem.ensures
+returns-in-Int c = rw c.in-Int.is c.one_of.ensures
 
 pub returns-in-Uint : goal.returns-in-Uint
 returns-in-Uint c = rw c.in-Uint.is c.one_of-in-Uint.ensures

@@ -43,10 +43,10 @@ returns-in_default c =
     (sym (c.loop-at.invariant.1 ∙ scan_ill at (drop at text) (rw length-drop (omega arith)) here))
 
 -- where a value was decoded
-abbrev text_of : tie.After-known-told invariant-loop decreases-loop → List ℕ
+abbrev text_of : goal.In-Scalar → List ℕ
 text_of c = c.args.text.now
 
-abbrev at_of : tie.After-known-told invariant-loop decreases-loop → ℕ
+abbrev at_of : goal.In-Scalar → ℕ
 at_of c = c.before.before.before.before.before.before.loop.at
 
 ahead : (c : goal.In-Scalar) → Onward (text_of c) (at_of c) c.in-Scalar.length

@@ -20,10 +20,10 @@ use Rattle.utf8_scalar.proofs.encode.Goals as goal
 use Rattle.utf8_scalar.proofs.encode.Goals.{Else-room-length}
 
 -- where the value is a scalar value and the room has its bytes
-abbrev value_of : tie.Else2 → ℕ
+abbrev value_of : goal.Else-room-length → ℕ
 value_of c = c.args.value
 
-abbrev room_of : tie.Else2 → List ℕ
+abbrev room_of : goal.Else-room-length → List ℕ
 room_of c = c.args.room.now
 
 scalar : (c : goal.Else-room-length) → is_scalar (value_of c) ≡ true

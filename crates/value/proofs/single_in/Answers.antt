@@ -9,4 +9,4 @@ pub overflow_cast-number_in : goal.overflow_cast-number_in
 overflow_cast-number_in c = omega (arith, c.number_in.ensures, below c.args.order c.args.run.now c.shared_slice_known-1.given 4 c.requires)
 
 pub returns : goal.returns
-returns c = c.Single-of.ensures ∙ ap single_of c.number_in.ensures
+returns c = c.single_of.ensures ∙ ap single_of c.number_in.ensures

@@ -42,7 +42,7 @@ signed_in-requires-in-Time c = eight_whole _ (sized_as (length c.args.run.now) c
 
 pub returns-in-Bool : goal.returns-in-Bool
 unfolding value_by
-returns-in-Bool c = by_form c.args.order c.args.units c.args.run.now c.in-Bool.is c.bool_in_lem.ensures
+returns-in-Bool c = by_form c.args.order c.args.units c.args.run.now c.in-Bool.is c.bool_in.ensures
 
 pub returns-in-Signed : goal.returns-in-Signed
 unfolding value_by

@@ -15,7 +15,7 @@ pub returns-then-exponent-eq-HALF_INFINITY : goal.returns-then-exponent-eq-HALF_
 unfolding half_of widened
 returns-then-exponent-eq-HALF_INFINITY c =
     let bits = c.args.bits in
-    c.Single-of.ensures
+    c.single_of.ensures
     ∙ ap (λ (n : ℕ). single_of (n + (0x7F800000 + bits % 1024 * 0x2000))) c.sign_bits.ensures
     ∙ sym (rw (half_of, widened, eq-eqb (bits / 1024 % 32) 31 c.if-exponent-eq-HALF_INFINITY.true))
 

@@ -1,4 +1,5 @@
 use Prim.Native.Nat.{◌+◌, ◌-◌}
+use borrow.Enum.Refused.{opened}
 use native.Mathlib.Omega.{arith}
 use mathlib.Core.Path.{refl, sym, ap, ◌∙◌}
 use lib.Dec.{lit<}
@@ -18,42 +19,42 @@ use Rattle.descr.proofs.inner.+field_fields_inner_at_judge.Goals.{Else-room-eq0}
 pub field-returns-then-close-eq0 : goal.field-returns-then-close-eq0
 field-returns-then-close-eq0 t c =
     let a = c.args in
-    field_no_form a.room a.text.now a.at c.wrong_form.result (c.wrong_form.ensures.0 ∙ c.value.ensures) (ap verdict c.wrong_form.ensures.1) (sym c.Closing-at.ensures ∙ c.if-close-eq0.true)
+    field_no_form a.room a.text.now a.at c.wrong_form.result (c.wrong_form.ensures.0 ∙ c.value.ensures) (ap verdict c.wrong_form.ensures.1) (sym c.closing_at.ensures ∙ c.if-close-eq0.true)
 
 pub field-returns-then-room-eq0 : goal.field-returns-then-room-eq0
 field-returns-then-room-eq0 t c =
     let a = c.args in
-    too_deep_lem a.room a.text.now a.at c.Closing-at.result c.Closing-at.ensures c.if-close-eq0.false field_by c.wrong_form-then-room-eq0.result c.if-room-eq0.true c.wrong_form-then-room-eq0.ensures.0
+    too_deep_lem a.room a.text.now a.at c.closing_at.result c.closing_at.ensures c.if-close-eq0.false field_by c.wrong_form-then-room-eq0.result c.if-room-eq0.true c.wrong_form-then-room-eq0.ensures.0
 
 pub field-overflow_add-at : goal.field-overflow_add-at
 field-overflow_add-at t c =
     let a = c.args in
-    let lt = bracket_in a.room a.text.now a.at c.Closing-at.result c.Closing-at.ensures c.if-close-eq0.false in
+    let lt = bracket_in a.room a.text.now a.at c.closing_at.result c.closing_at.ensures c.if-close-eq0.false in
     omega arith
 
 pub field-returns-in_default : goal.field-returns-in_default
 field-returns-in_default t c =
     let o = (goal.at.field-returns-in_default c).Else-room-eq0 in
     let a = o.args in
-    let b = o.Closing-at in
+    let b = o.closing_at in
     field_judged a.room a.text.now a.at b.result b.ensures o.if-close-eq0.false o.if-room-eq0.false _
-    (items_empty (a.room - 1) a.text.now (a.at + 1) b.result c.gap_at-g1.result c.gap_at-g1.ensures c.wrong_form-in_default.result c.in_default.in_default-own.keys2 (c.wrong_form-in_default.ensures.0 ∙ c.ended.ensures) (ap verdict c.wrong_form-in_default.ensures.1))
+    (items_empty (a.room - 1) a.text.now (a.at + 1) b.result c.gap_at-g1.result c.gap_at-g1.ensures c.wrong_form-in_default.result (opened c.in_default.in_default-own.keys2) (c.wrong_form-in_default.ensures.0 ∙ c.ended.ensures) (ap verdict c.wrong_form-in_default.ensures.1))
 
 pub field-returns-in_default-e1 : goal.field-returns-in_default-e1
 field-returns-in_default-e1 t c =
     let o = (goal.at.field-returns-in_default-e1 c).Else-room-eq0 in
     let a = o.args in
-    let b = o.Closing-at in
+    let b = o.closing_at in
     field_judged a.room a.text.now a.at b.result b.ensures o.if-close-eq0.false o.if-room-eq0.false _
-    (items_unread (a.room - 1) a.text.now (a.at + 1) b.result c.gap_at-g1.result c.gap_at-g1.ensures _ c.in-Item.is c.name_at-name.result c.name_at-name.ensures c.wrong_form-in_default-e1.result (stops c.name_at-name.result.ended c.in_default-e1.in_default-e1-own.keys2) c.wrong_form-in_default-e1.ensures.0)
+    (items_unread (a.room - 1) a.text.now (a.at + 1) b.result c.gap_at-g1.result c.gap_at-g1.ensures _ c.in-Item.is c.name_at-name.result c.name_at-name.ensures c.wrong_form-in_default-e1.result (stops c.name_at-name.result.ended (opened c.in_default-e1.in_default-e1-own.keys2)) c.wrong_form-in_default-e1.ensures.0)
 
 pub field-returns-in_default-g2 : goal.field-returns-in_default-g2
 field-returns-in_default-g2 t c =
     let o = (goal.at.field-returns-in_default-g2 c).Else-room-eq0 in
     let a = o.args in
-    let b = o.Closing-at in
+    let b = o.closing_at in
     field_judged a.room a.text.now a.at b.result b.ensures o.if-close-eq0.false o.if-room-eq0.false _
-    (items_alone (a.room - 1) a.text.now (a.at + 1) b.result c.gap_at-g1.result c.gap_at-g1.ensures _ c.in-Item.is c.name_at-name.result c.name_at-name.ensures (bracket_small a.room a.text.now a.at b.result b.ensures o.if-close-eq0.false) _ c.in-Value.is c.second_at-g2.result c.second_at-g2.ensures c.wrong_form-in_default-g2.result c.in_default-g2.in_default-g2-own.keys2 (c.wrong_form-in_default-g2.ensures.0 ∙ c.ended-in_default-g2.ensures) (ap verdict c.wrong_form-in_default-g2.ensures.1))
+    (items_alone (a.room - 1) a.text.now (a.at + 1) b.result c.gap_at-g1.result c.gap_at-g1.ensures _ c.in-Item.is c.name_at-name.result c.name_at-name.ensures (bracket_small a.room a.text.now a.at b.result b.ensures o.if-close-eq0.false) _ c.in-Value.is c.second_at-g2.result c.second_at-g2.ensures c.wrong_form-in_default-g2.result (opened c.in_default-g2.in_default-g2-own.keys2) (c.wrong_form-in_default-g2.ensures.0 ∙ c.ended-in_default-g2.ensures) (ap verdict c.wrong_form-in_default-g2.ensures.1))
 
 pub field-inner_at-inner-requires : goal.field-inner_at-inner-requires
 field-inner_at-inner-requires t c = omega arith
@@ -62,15 +63,15 @@ pub field-returns-in_default-e2 : goal.field-returns-in_default-e2
 field-returns-in_default-e2 t c =
     let o = (goal.at.field-returns-in_default-e2 c).Else-room-eq0 in
     let a = o.args in
-    let b = o.Closing-at in
+    let b = o.closing_at in
     field_judged a.room a.text.now a.at b.result b.ensures o.if-close-eq0.false o.if-room-eq0.false _
-    (items_broken (a.room - 1) a.text.now (a.at + 1) b.result c.gap_at-g1.result c.gap_at-g1.ensures _ c.in-Item.is c.name_at-name.result c.name_at-name.ensures (bracket_small a.room a.text.now a.at b.result b.ensures o.if-close-eq0.false) _ c.in-Value.is c.second_at-g2.result c.second_at-g2.ensures _ c.in-Item-g2.is c.inner_at-inner.result c.inner_at-inner.ensures c.wrong_form-in_default-e2.result (stops c.inner_at-inner.result.ended c.in_default-e2.in_default-e2-own.keys2) c.wrong_form-in_default-e2.ensures.0)
+    (items_broken (a.room - 1) a.text.now (a.at + 1) b.result c.gap_at-g1.result c.gap_at-g1.ensures _ c.in-Item.is c.name_at-name.result c.name_at-name.ensures (bracket_small a.room a.text.now a.at b.result b.ensures o.if-close-eq0.false) _ c.in-Value.is c.second_at-g2.result c.second_at-g2.ensures _ c.in-Item-g2.is c.inner_at-inner.result c.inner_at-inner.ensures c.wrong_form-in_default-e2.result (stops c.inner_at-inner.result.ended (opened c.in_default-e2.in_default-e2-own.keys2)) c.wrong_form-in_default-e2.ensures.0)
 
 pub field-returns : goal.field-returns
 field-returns t c =
     let o = (goal.at.field-returns c).Else-room-eq0 in
     let a = o.args in
-    let b = o.Closing-at in
+    let b = o.closing_at in
     field_judged a.room a.text.now a.at b.result b.ensures o.if-close-eq0.false o.if-room-eq0.false _
     (items_whole (a.room - 1) a.text.now (a.at + 1) b.result c.gap_at-g1.result c.gap_at-g1.ensures _ c.in-Item.is c.name_at-name.result c.name_at-name.ensures (bracket_small a.room a.text.now a.at b.result b.ensures o.if-close-eq0.false) _ c.in-Value.is c.second_at-g2.result c.second_at-g2.ensures _ c.in-Item-g2.is c.inner_at-inner.result c.inner_at-inner.ensures _ c.in-Value-e2.is c.then_at-g3.result c.then_at-g3.ensures c.sub_shape.result c.sub_shape.ensures)
 
@@ -81,7 +82,7 @@ pub fields-returns-in_default : goal.fields-returns-in_default
 fields-returns-in_default t c =
     let a = c.args in
     let l = c.loop-g in
-    turn_end a.room a.text.now a.from l.g l.verdict _ l.invariant c.in_default.in_default-own.keys2 c.ended.ensures refl
+    turn_end a.room a.text.now a.from l.g l.verdict _ l.invariant (opened c.in_default.in_default-own.keys2) c.ended.ensures refl
 
 pub fields-field-r-requires : goal.fields-field-r-requires
 fields-field-r-requires t c = omega arith
@@ -90,7 +91,7 @@ pub fields-returns-in_default-end : goal.fields-returns-in_default-end
 fields-returns-in_default-end t c =
     let a = c.args in
     let l = c.loop-g in
-    turn_stop a.room a.text.now a.from l.g l.verdict _ l.invariant c.in-Item.is c.field-r.result c.field-r.ensures c.wrong_form.result (stops c.field-r.result.ended c.in_default-end.in_default-end-own.keys2) c.wrong_form.ensures.0
+    turn_stop a.room a.text.now a.from l.g l.verdict _ l.invariant c.in-Item.is c.field-r.result c.field-r.ensures c.wrong_form.result (stops c.field-r.result.ended (opened c.in_default-end.in_default-end-own.keys2)) c.wrong_form.ensures.0
 
 pub fields-loop-g-smaller : goal.fields-loop-g-smaller
 fields-loop-g-smaller t c =
@@ -128,17 +129,17 @@ judge-returns-then-string_at t c =
 pub judge-returns-then-closing_at-ne93 : goal.judge-returns-then-closing_at-ne93
 judge-returns-then-closing_at-ne93 t c =
     let a = c.args in
-    descr_no_form a.room a.text.now a.at c.wrong_form.result (c.wrong_form.ensures.0 ∙ c.value.ensures) (ap verdict c.wrong_form.ensures.1) (sym c.string_at.ensures ∙ c.if-string_at.false) (λ z. c.if-closing_at-ne93.true (c.Closing-at.ensures ∙ z))
+    descr_no_form a.room a.text.now a.at c.wrong_form.result (c.wrong_form.ensures.0 ∙ c.value.ensures) (ap verdict c.wrong_form.ensures.1) (sym c.string_at.ensures ∙ c.if-string_at.false) (λ z. c.if-closing_at-ne93.true (c.closing_at.ensures ∙ z))
 
 pub judge-returns-then-room-eq0 : goal.judge-returns-then-room-eq0
 judge-returns-then-room-eq0 t c =
     let a = c.args in
-    too_deep_lem a.room a.text.now a.at c.Closing-at.result c.Closing-at.ensures (λ z. absurd (omega (arith, c.if-closing_at-ne93.false))) descr_by c.wrong_form-then-room-eq0.result c.if-room-eq0.true c.wrong_form-then-room-eq0.ensures.0
+    too_deep_lem a.room a.text.now a.at c.closing_at.result c.closing_at.ensures (λ z. absurd (omega (arith, c.if-closing_at-ne93.false))) descr_by c.wrong_form-then-room-eq0.result c.if-room-eq0.true c.wrong_form-then-room-eq0.ensures.0
 
 pub judge-overflow_add-at : goal.judge-overflow_add-at
 judge-overflow_add-at t c =
     let a = c.args in
-    let lt = bracket_in a.room a.text.now a.at c.Closing-at.result c.Closing-at.ensures (λ z. absurd (omega (arith, c.if-closing_at-ne93.false))) in
+    let lt = bracket_in a.room a.text.now a.at c.closing_at.result c.closing_at.ensures (λ z. absurd (omega (arith, c.if-closing_at-ne93.false))) in
     omega arith
 
 pub judge-fields-r-requires : goal.judge-fields-r-requires
@@ -147,4 +148,4 @@ judge-fields-r-requires t c = omega arith
 pub judge-returns : goal.judge-returns
 judge-returns t c =
     let a = c.args in
-    record_judged a.room a.text.now a.at c.Closing-at.result c.Closing-at.ensures (λ z. absurd (omega (arith, c.if-closing_at-ne93.false))) c.if-room-eq0.false c.if-closing_at-ne93.false c.fields-r.result _ c.fields-r.ensures refl c.join.ensures
+    record_judged a.room a.text.now a.at c.closing_at.result c.closing_at.ensures (λ z. absurd (omega (arith, c.if-closing_at-ne93.false))) c.if-room-eq0.false c.if-closing_at-ne93.false c.fields-r.result _ c.fields-r.ensures refl c.join.ensures

@@ -1,4 +1,5 @@
 -- After the type comes nothing, or a sub-shape, which is read to a local array; the levels are written from it.
+use borrow.Enum.Refused.{opened}
 use native.Mathlib.Omega.{arith}
 use mathlib.Core.Path.{refl, sym, ap, ◌∙◌}
 use lib.ListN.{length}
@@ -10,7 +11,7 @@ use Rattle.header.proofs.fill.shaped.Goals as goal
 pub returns-in_default : goal.returns-in_default
 returns-in_default c =
     let a = c.args in
-    λ e ns h. shaped_none a.room a.text.now a.close a.table.now a.r e ns h c.then_at-g.result c.then_at-g.ensures a.entry a.up a.name c.place_of.result c.in_default.in_default-own.keys2 c.place_of.ensures
+    λ e ns h. shaped_none a.room a.text.now a.close a.table.now a.r e ns h c.then_at-g.result c.then_at-g.ensures a.entry a.up a.name c.place_of.result (opened c.in_default.in_default-own.keys2) c.place_of.ensures
 
 pub slice_bounds-shape-end : goal.slice_bounds-shape-end
 slice_bounds-shape-end c =

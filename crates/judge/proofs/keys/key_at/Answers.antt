@@ -1,4 +1,5 @@
 -- What is no string has no name; a string is scanned once, and its bytes are the part of the text after its quote, or are decoded.
+use borrow.Enum.Refused.{opened}
 use native.Mathlib.Omega.{arith}
 use mathlib.Core.Path.{refl}
 use Rattle.literal_bytes.proofs.Positions.{kind_in}
@@ -31,7 +32,7 @@ returns-in_default c =
     let a = c.args in
     let z = begins_string a.text.now a.at _ c.string_at.ensures c.if-not-string_at.false-raw in
     let r = c.scan_at-s in
-    key_fault a.text.now a.at z r.result r.ensures a.room _ (stops r.result.ended c.in_default.in_default-own.keys2)
+    key_fault a.text.now a.at z r.result r.ensures a.room _ (stops r.result.ended (opened c.in_default.in_default-own.keys2))
 
 pub returns-then-s : goal.returns-then-s
 returns-then-s c =
@@ -61,5 +62,5 @@ returns c =
     let s = a.text.now in
     let z = begins_string a.text.now a.at _ c.string_at.ensures c.if-not-string_at.false-raw in
     let r = c.scan_at-s in
-    let n = raw_named s a.at z r.result r.ensures c.if-s.false _ c.key_of_lem.ensures in
+    let n = raw_named s a.at z r.result r.ensures c.if-s.false _ c.key_of.ensures in
     key_string s a.at z r.result r.ensures a.room _ _ _ c.in-Value.is c.colon_at-begins.ensures n

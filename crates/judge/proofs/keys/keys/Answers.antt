@@ -1,4 +1,5 @@
 -- No brace; or a dict, whose pairs are walked over.
+use borrow.Enum.Refused.{opened}
 use Prim.Native.Nat.{◌-◌}
 use native.Mathlib.Omega.{arith}
 use mathlib.Core.Path.{refl, sym, ◌∙◌}
@@ -11,7 +12,7 @@ pub returns-in_default : goal.returns-in_default
 returns-in_default c =
     let a = c.args in
     let hk = c.kind_at-k.ensures in
-    record { ended = c.value.ensures; keys = no_dict (most_open - 1) a.text.now a.at _ hk c.in_default.in_default-own.keys2 _ refl refl refl refl }
+    record { ended = c.value.ensures; keys = no_dict (most_open - 1) a.text.now a.at _ hk (opened c.in_default.in_default-own.keys2) _ refl refl refl refl }
 
 pub overflow_add-at : goal.overflow_add-at
 overflow_add-at c =

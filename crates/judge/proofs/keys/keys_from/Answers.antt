@@ -1,5 +1,6 @@
 -- The loop over the pairs keeps that what was seen of the three keys, with what the pairs from the gap on have, is what all pairs have, and whether the keys so far are strings
 -- (`Seen`); and that the pairs end as those from the gap on do.
+use borrow.Enum.Refused.{opened}
 use lib.Dec.{lit<}
 use mathlib.Core.Path.{sym, ◌∙◌}
 use mathlib.Core.Logic.{⊎_elim}
@@ -24,26 +25,26 @@ pub returns-in_default : goal.returns-in_default
 returns-in_default c =
     let a = c.args in
     let l = c.loop-g in
-    walked_end a.room a.text.now a.from l.strings _ l.g c.ended.result c.walk_end.result l.invariant.0 l.invariant.1 c.in_default.in_default-own.keys2 c.ended.ensures c.walk_end.ensures
+    walked_end a.room a.text.now a.from l.strings _ l.g c.ended.result c.walk_end.result l.invariant.0 l.invariant.1 (opened c.in_default.in_default-own.keys2) c.ended.ensures c.walk_end.ensures
 
 pub returns-in_default-k : goal.returns-in_default-k
 returns-in_default-k c =
     let a = c.args in
     let s = a.text.now in
     let l = c.loop-g in
-    let k = c.key_place in
-    let hr = pair_stop (read.value a.room s) s _ k.result.begins k.ensures.begins (stops k.result.begins c.in_default-k.in_default-k-own.keys2) in
-    walked_stop a.room s a.from l.strings _ l.g _ k.result.begins c.walk_end-in_default-k.result l.invariant.0 c.in-Item.is hr c.in_default-k.in_default-k-own.keys2 c.walk_end-in_default-k.ensures
+    let k = c.key_at in
+    let hr = pair_stop (read.value a.room s) s _ k.result.begins k.ensures.begins (stops k.result.begins (opened c.in_default-k.in_default-k-own.keys2)) in
+    walked_stop a.room s a.from l.strings _ l.g _ k.result.begins c.walk_end-in_default-k.result l.invariant.0 c.in-Item.is hr (opened c.in_default-k.in_default-k-own.keys2) c.walk_end-in_default-k.ensures
 
 -- where the arms meet: what is found after the pair
-paired : (c : goal.Joined-name)
-    → PairIs c.args.room c.args.text.now c.in-Value.at c.key_place.result.name (record { descr = c.loop-g.descr; order = c.loop-g.order; shape = c.loop-g.shape }) c.match-name.v
+paired : (c : goal.joined_name)
+    → PairIs c.args.room c.args.text.now c.in-Value.at c.key_at.result.name (record { descr = c.loop-g.descr; order = c.loop-g.order; shape = c.loop-g.shape }) c.match-name.v
     (record { descr = c.match-name.descr; order = c.order_at-order.result; shape = c.match-name.shape })
 paired c =
     let a = c.args in
     let s = a.text.now in
     let at = c.in-Value.at in
-    let n = c.key_place.result.name in
+    let n = c.key_at.result.name in
     let l = c.loop-g in
     let o = c.order_at-order in
     ⊎_elim
@@ -59,8 +60,8 @@ returns-in_default-v c =
     let s = a.text.now in
     let l = c.loop-g in
     let v = c.match-name.v in
-    let hr = (paired (goal.at.returns-in_default-v c).Joined-name).ended ∙ pair_more (read.value a.room s) s _ _ (sym c.in-Value.is ∙ c.key_place.ensures.begins) in
-    walked_stop a.room s a.from l.strings _ l.g _ v c.walk_end-in_default-v.result l.invariant.0 c.in-Item.is hr c.in_default-v.in_default-v-own.keys2 c.walk_end-in_default-v.ensures
+    let hr = (paired (goal.at.returns-in_default-v c).joined_name).ended ∙ pair_more (read.value a.room s) s _ _ (sym c.in-Value.is ∙ c.key_at.ensures.begins) in
+    walked_stop a.room s a.from l.strings _ l.g _ v c.walk_end-in_default-v.result l.invariant.0 c.in-Item.is hr (opened c.in_default-v.in_default-v-own.keys2) c.walk_end-in_default-v.ensures
 
 pub loop-g-smaller : goal.loop-g-smaller
 loop-g-smaller c =
@@ -68,7 +69,7 @@ loop-g-smaller c =
     let s = a.text.now in
     let rd = read.value a.room s in
     let v = c.match-name.v in
-    let hr = (paired (goal.at.loop-g-smaller c).Joined-name).ended ∙ pair_more rd s _ _ (sym c.in-Value.is ∙ c.key_place.ensures.begins) in
+    let hr = (paired (goal.at.loop-g-smaller c).joined_name).ended ∙ pair_more rd s _ _ (sym c.in-Value.is ∙ c.key_at.ensures.begins) in
     turn_less (pair_by rd s) s 125 a.from (pair_ahead rd s (value_ahead a.room s)) (lit< tt) c.loop-g.g c.then_at-g.result _ _ v c.in-Item.is c.in-Value-v.is hr c.then_at-g.ensures
 
 pub loop-g-preserved : goal.loop-g-preserved
@@ -78,8 +79,8 @@ loop-g-preserved c =
     let rd = read.value a.room s in
     let l = c.loop-g in
     let m = c.match-name in
-    let k = c.key_place in
-    let one = paired (goal.at.loop-g-preserved c).Joined-name in
+    let k = c.key_at in
+    let one = paired (goal.at.loop-g-preserved c).joined_name in
     let ha = sym c.in-Value.is ∙ k.ensures.begins in
     let hr = one.ended ∙ pair_more rd s _ _ ha in
     let hg = c.in-Item.is in

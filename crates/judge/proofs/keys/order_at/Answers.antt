@@ -1,4 +1,5 @@
 -- The key's own value, or the order as it was.
+use borrow.Enum.Refused.{opened}
 use Rattle.judge.proofs.Seek.{order_here, order_kept}
 use Rattle.judge.proofs.keys.order_at.Goals as goal
 
@@ -8,4 +9,4 @@ returns-in-Order c =
     order_here a.text.now a.at a.name a.was c.word_at.result c.in-Order.is c.word_at.ensures.0
 
 pub returns-in-Descr : goal.returns-in-Descr
-returns-in-Descr c = let a = c.args in order_kept a.text.now a.at a.name a.was c.in-Descr.in-Descr-own.keys2
+returns-in-Descr c = let a = c.args in order_kept a.text.now a.at a.name a.was (opened c.in-Descr.in-Descr-own.keys2)
