@@ -39,4 +39,4 @@ returns-then-byte_is c =
     let a = c.args in
     let h = c.plain_any-to.ensures in
     let to = c.plain_any-to.result in
-    (plain_scan a.quote a.text.now a.from to h _ c.byte_is.ensures c.if-byte_is.true, c.put_run.ensures ∙ sym (ap (λ (r : Spelled). sets a.out.now 0 r.bytes) (plain_string a.quote a.text.now a.from to h _ c.byte_is.ensures c.if-byte_is.true)))
+    record { value = plain_scan a.quote a.text.now a.from to h _ c.byte_is.ensures c.if-byte_is.true; out_after = c.put_run.ensures ∙ sym (ap (λ (r : Spelled). sets a.out.now 0 r.bytes) (plain_string a.quote a.text.now a.from to h _ c.byte_is.ensures c.if-byte_is.true)) }

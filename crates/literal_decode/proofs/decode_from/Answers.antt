@@ -20,7 +20,7 @@ pub returns-then-text-from : goal.returns-then-text-from
 returns-then-text-from c =
     let a = c.args in
     let e = spelled_outside a.quote a.text.now a.from (omega (arith, c.if-text-from.true)) in
-    (sym (ap scanned e), sym (ap (λ (r : Spelled). sets a.out.now 0 r.bytes) e))
+    record { value = sym (ap scanned e); out_after = sym (ap (λ (r : Spelled). sets a.out.now 0 r.bytes) e) }
 
 pub loop-escape-init : goal.loop-escape-init
 loop-escape-init c = ([], along_start c.args.quote c.args.text.now c.args.from, omega arith, refl, refl)
@@ -112,7 +112,7 @@ returns-in_default c =
     let old = c.args.out.now in
     let us = l.invariant.0 ++ part s l.at to in
     let e = along_stop q s from to us l.escape _ w (sym c.piece_at-p.ensures) (opened c.in_default.in_default-own.keys2) in
-    (rw (n, c.end_by.ensures) (sym (ap scanned e)), c.put_run.ensures ∙ stored_more old l.invariant.0 (part s l.at to) _ _ l.invariant.3 l.invariant.4 ∙ sym (ap (λ (r : Spelled). sets old 0 r.bytes) e))
+    record { value = rw (n, c.end_by.ensures) (sym (ap scanned e)); out_after = c.put_run.ensures ∙ stored_more old l.invariant.0 (part s l.at to) _ _ l.invariant.3 l.invariant.4 ∙ sym (ap (λ (r : Spelled). sets old 0 r.bytes) e) }
 
 pub overflow_add-len-in-loop-escape-2 : goal.overflow_add-len-in-loop-escape-2
 overflow_add-len-in-loop-escape-2 c =

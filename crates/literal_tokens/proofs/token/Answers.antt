@@ -83,4 +83,4 @@ returns-in-Square c =
     let s = c.args.text.now in
     let at = c.args.at in
     let hk : kind_of (byte_at s at) ≡ c.kind_at-k.result = sym c.kind_at-k.ensures in
-    sym (no_token s at c.kind_at-k.result (opened c.in-Square.in-Square-own.keys7)) ∙ token_ends s at c.kind_at-k.result hk
+    sym (no_token s at c.kind_at-k.result c.in-Square.in-Square-own.keys7) ∙ token_ends s at c.kind_at-k.result hk

@@ -47,7 +47,7 @@ abbrev text_of : goal.In-Scalar → List ℕ
 text_of c = c.args.text.now
 
 abbrev at_of : goal.In-Scalar → ℕ
-at_of c = c.before.before.before.before.before.before.loop.at
+at_of c = c.loop-at.at
 
 ahead : (c : goal.In-Scalar) → Onward (text_of c) (at_of c) c.in-Scalar.length
 ahead c =

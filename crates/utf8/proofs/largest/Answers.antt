@@ -6,6 +6,7 @@ use borrow.Author.Count.{below_more}
 use lib.ListN.{length, get_or, get_or-eq_default}
 use Rattle.counts.proofs.Sides.{lt_or_ge}
 use Rattle.utf8.proofs.largest.Goals as goal
+use Rattle.utf8.proofs.largest.Goals.{then-most-text, else-most-text}
 
 pub loop-at-init : goal.loop-at-init
 loop-at-init c = (omega arith, λ k h. absurd (omega arith))
@@ -28,8 +29,8 @@ loop-at-preserved c =
     let at = c.loop-at.at in
     let passed = c.loop-at.invariant.1 in
     let most = c.if-most-text.most in
-    let kept : ((k : ℕ) → k < at → get_or text k 0 ≤ most) = λ k h. ⊎_elim (λ w. omega (arith, passed k h)) (λ w. omega (arith, passed k h)) c.if-most-text.branch in
-    let here : get_or text at 0 ≤ most = ⊎_elim (λ w. omega arith) (λ w. omega arith) c.if-most-text.branch in
+    let kept : ((k : ℕ) → k < at → get_or text k 0 ≤ most) = λ k h. elim c.if-most-text.branch [ then-most-text w ↦ omega (arith, passed k h) | else-most-text w ↦ omega (arith, passed k h) ] in
+    let here : get_or text at 0 ≤ most = elim c.if-most-text.branch [ then-most-text w ↦ omega arith | else-most-text w ↦ omega arith ] in
     (omega arith, below_more _ _ kept here)
 
 pub returns : goal.returns

@@ -7,4 +7,4 @@ use Rattle.type_units.proofs.Tags.{no_units}
 use Rattle.type_units.proofs.TimeUnits.is_one_letter.Goals as goal
 
 pub returns-in_default : goal.returns-in_default
-returns-in_default c = no_units (λ u. is_one (unit_name u)) c.args.self (0 ∷ 8 ∷ 9 ∷ 10 ∷ 11 ∷ 12 ∷ 13 ∷ []) (opened c.in_default.in_default-own.keys8) refl
+returns-in_default c = no_units (λ u. is_one (unit_name u)) c.args.self (0 ∷ 8 ∷ 9 ∷ 10 ∷ 11 ∷ 12 ∷ 13 ∷ []) c.in_default.in_default-own.keys8 refl
