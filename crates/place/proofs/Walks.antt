@@ -269,10 +269,14 @@ mutual
   path_typed (plain t) [] ty u g h = let z : t ≡ ty = cc in rw (← z) (not-false (is_type t) u)
   path_typed (array n d) (i ∷ p) ty u g h = path_typed d p ty u g.1 (simp (lt-leb n i g.0) at h)
   path_typed (record_of fs) (i ∷ p) ty u g h = field_typed fs i p ty u g h
+  path_typed (plain t) (i ∷ p) ty u g h = elim g [ ]
+  path_typed (array n d) [] ty u g h = elim g [ ]
+  path_typed (record_of fs) [] ty u g h = elim g [ ]
 
   field_typed : (fs : Fields) (i : ℕ) (p : List ℕ) (ty : TypeStr) → some_entry_in bad fs ≡ false → FieldPath fs i p → plain_of fs i p ≡ gives ty → is_type ty ≡ true
   field_typed (field_then name d fs) zero p ty u g h = path_typed d p ty (or_left (some_entry bad d) (some_entry_in bad fs) u) g h
   field_typed (field_then name d fs) (suc i) p ty u g h = field_typed fs i p ty (or_right (some_entry bad d) (some_entry_in bad fs) u) g h
+  field_typed end_of_fields i p ty u g h = elim g [ ]
 
 pub plain_typed : (d : Dtype) (p : List ℕ) (ty : TypeStr) → untyped d ≡ false → plain_at d p ≡ gives ty → is_type ty ≡ true
 plain_typed d p ty u h = path_typed d p ty u (plain_path d p ty h) h

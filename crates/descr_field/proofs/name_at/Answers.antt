@@ -29,9 +29,9 @@ returns-then-string_at c =
     let quote = get_d_any s a.at 0 256 (string_in s a.at k) in
     let end = ap (λ (r : Scan). r.ended) c.scan_at-s.ensures ∙ ap (λ (b : ℕ). (spelled b s (a.at + 1)).ended) quote in
     let len = ap (λ (r : Scan). r.len) c.scan_at-s.ensures ∙ ap (λ (b : ℕ). length (spelled b s (a.at + 1)).bytes) quote in
-    (string_ends s a.at a.room _ k end, ap gives (c.named.ensures ∙ ap name_totals len) ∙ name_string s a.at k)
+    record { ended_value = string_ends s a.at a.room _ k end; verdict_value = ap gives (c.named.ensures ∙ ap name_totals len) ∙ name_string s a.at k }
 
 pub returns : goal.returns
 returns c =
     let a = c.args in
-    (c.wrong_form.ensures.0 ∙ c.value.ensures, ap verdict c.wrong_form.ensures.1 ∙ name_other a.text.now a.at (sym c.string_at.ensures ∙ c.if-string_at.false))
+    record { ended_value = c.wrong_form.ensures.ended_value ∙ c.value.ensures; verdict_value = ap verdict c.wrong_form.ensures.verdict_value ∙ name_other a.text.now a.at (sym c.string_at.ensures ∙ c.if-string_at.false) }

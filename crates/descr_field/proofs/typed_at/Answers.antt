@@ -10,7 +10,7 @@ pub returns-then-s-text : goal.returns-then-s-text
 returns-then-s-text c =
     let a = c.args in
     let r = c.scan_at-s in
-    (ap (λ (x : Scan). x.ended) r.ensures, escaped_says a.quote a.text.now a.from r.result r.ensures c.if-s-text.true)
+    record { ended_value = ap (λ (x : Scan). x.ended) r.ensures; read_value = escaped_says a.quote a.text.now a.from r.result r.ensures c.if-s-text.true }
 
 pub overflow_add-to : goal.overflow_add-to
 overflow_add-to c =
@@ -29,4 +29,4 @@ pub returns : goal.returns
 returns c =
     let a = c.args in
     let r = c.scan_at-s in
-    (ap (λ (x : Scan). x.ended) r.ensures, c.parse.ensures ∙ ap type_string (raw_says a.quote a.text.now a.from r.result r.ensures c.if-s-text.false))
+    record { ended_value = ap (λ (x : Scan). x.ended) r.ensures; read_value = c.parse.ensures ∙ ap type_string (raw_says a.quote a.text.now a.from r.result r.ensures c.if-s-text.false) }

@@ -35,16 +35,13 @@ returns-then-stored-n c = λ was taken h e.
 
 pub slice_bounds-read_whole-end-2 : goal.slice_bounds-read_whole-end-2
 slice_bounds-read_whole-end-2 c =
-    let o = c.before.before.before.before.before.before.before.before.before.before.before.before.before.before.before.before in
-    let same = hand_length o.requires.0.0 o.args.text.now o.requires.0.1 o.args.head o.args.got (rooms o.args.table.now o.args.names.now o.args.shape.now) o.requires.0.2 (prefix_is o.args.p) o.requires.0.3 o.args.part.now o.args.used c.if1.false _ c.text-start.ensures _ _ c.less.ensures c.least.ensures _ c.copy.ensures in
-    sym (length-take-le o.args.p.length c.copy.new.0 (omega (arith, same, c.if1.false)))
+    let same = hand_length c.requires.0.0 c.args.text.now c.requires.0.1 c.args.head c.args.got (rooms c.args.table.now c.args.names.now c.args.shape.now) c.requires.0.2 (prefix_is c.args.p) c.requires.0.3 c.args.part.now c.args.used c.if-text-length.false _ c.text_start-start.ensures _ _ c.less.ensures c.least-n.ensures _ c.copy.ensures in
+    sym (length-take-le c.args.p.length c.copy.new.0 (omega (arith, same, c.if-text-length.false)))
 
 pub overflow_add-got-2 : goal.overflow_add-got-2
 overflow_add-got-2 c =
-    let o = c.before.before.before.before.before.before.before.before.before.before.before.before.before.before.before.before.before.before.before.before.before.before.before.before.before.before in
-    record { fits = omega (arith, o.well_formed.1.1.1.1.1.0.1, hand_sum o.requires.0.0 o.args.text.now o.requires.0.1 o.args.head o.args.got (rooms o.args.table.now o.args.names.now o.args.shape.now) o.requires.0.2 (prefix_is o.args.p) o.requires.0.3 o.args.part.now o.args.used c.if1.false _ c.text-start.ensures _ _ c.less.ensures c.least.ensures) }
+    record { fits = omega (arith, c.well_formed.1.1.1.1.1.0.1, hand_sum c.requires.0.0 c.args.text.now c.requires.0.1 c.args.head c.args.got (rooms c.args.table.now c.args.names.now c.args.shape.now) c.requires.0.2 (prefix_is c.args.p) c.requires.0.3 c.args.part.now c.args.used c.if-text-length.false _ c.text_start-start.ensures _ _ c.less.ensures c.least-n.ensures) }
 
 pub returns : goal.returns
 returns c = λ was taken h e.
-    let o = c.before.before.before.before.before.before.before.before.before.before.before.before.before.before.before.before.before.before.before.before.before.before.before.before.before.before.before in
-    hand_whole was o.args.text.now taken o.args.head o.args.got (rooms o.args.table.now o.args.names.now o.args.shape.now) h (prefix_is o.args.p) e o.args.part.now o.args.used c.if1.false _ c.text-start.ensures _ _ c.less.ensures c.least.ensures _ c.copy.ensures (omega (arith, c.if2.false)) _ _ c.read_whole-said.ensures _ c.after-2.ensures
+    hand_whole was c.args.text.now taken c.args.head c.args.got (rooms c.args.table.now c.args.names.now c.args.shape.now) h (prefix_is c.args.p) e c.args.part.now c.args.used c.if-text-length.false _ c.text_start-start.ensures _ _ c.less.ensures c.least-n.ensures _ c.copy.ensures (omega (arith, c.if-stored-n.false)) _ _ c.read_whole-said.ensures _ c.after-2.ensures

@@ -13,22 +13,12 @@ use mathlib.Core.List.{List}
 use mathlib.Core.Path.{◌≡◌, sym, ◌∙◌}
 use Prim.Native.Nat.{ℕ, ◌^◌, ◌<◌}
 use Rattle.place.proofs.in_record.Goals as goal
-use Rattle.place.proofs.in_record.Goals.{After-follow-found, In-At-1, In-Item}
-
--- a file's length fits a u64
-file_fits : (c : goal.Start) → c.args.file.0 < 2 ^ 64
-file_fits c = omega arith
-
--- the item, once it is taken out of its answer
-item_here : (c : goal.In-Item)
-    → let a = c.args in
-    gives c.in-Item.item ≡ indexed a.file.0 a.start.0 a.size a.count.0 a.order a.shape.now a.index.now
-item_here c = matched answer c.item.ensures c.in-Item.is
+use Rattle.place.proofs.in_record.Goals.{After-follow-found}
 
 pub follow-found-requires : goal.follow-found-requires
 follow-found-requires c =
     let p = c.requires in
-    let asks = follow_asks _ p.0 _ _ p.1 _ _ p.2 _ (item_shows _ _ _ _ _ _ _ _ (item_here c)).0 in
+    let asks = follow_asks _ p.0 _ _ p.1 _ _ p.2 _ (item_shows _ _ _ _ _ _ _ _ (matched answer c.item.ensures c.in-Item.is)).0 in
     (p.1, asks.0, asks.1)
 
 -- what the path leads to
@@ -36,24 +26,22 @@ follow_here : (c : goal.After-follow-found) (ns : List ℕ) (d : Dtype)
     → let a = c.args in
     Accepted a.table.now ns a.shape.now a.order d a.size a.count → Finds d a.path.now c.follow-found.result
 follow_here c ns d a =
-    let asks = follow_asks _ ns _ _ d _ _ a _ (item_shows _ _ _ _ _ _ _ _ (item_here c.before)).0 in
+    let asks = follow_asks _ ns _ _ d _ _ a _ (item_shows _ _ _ _ _ _ _ _ (matched answer c.item.ensures c.in-Item.is)).0 in
     c.follow-found.ensures d asks.0 asks.1 (readable_typed d a.valid.readable)
 
 pub returns-in_default : goal.returns-in_default
 returns-in_default c = λ ns d a.
     rw c.in_default.is
-    (answer_path _ ns _ _ d _ _ a _ _ _ _ _ (item_here (goal.at.returns-in_default c).In-Item) _ (rw c.in_default.is at (follow_here (goal.at.returns-in_default c).After-follow-found ns d a)))
+    (answer_path _ ns _ _ d _ _ a _ _ _ _ _ (matched answer c.item.ensures c.in-Item.is) _ (rw c.in_default.is at (follow_here (goal.at.returns-in_default c).After-follow-found ns d a)))
 
 pub returns-in_default-first_byte : goal.returns-in_default-first_byte
 returns-in_default-first_byte c = λ ns d a.
-    let at-follow = (goal.at.returns-in_default-first_byte c).In-At-1 in
-    answer_over _ ns _ _ d _ _ a _ _ _ _ _ (item_here at-follow.before) _ (rw c.in-At.is at (follow_here at-follow ns d a))
-    (file_fits at-follow.before.before.before.before.before.before.before.before.before) (sym c.in_default-first_byte.is ∙ c.first_byte.ensures)
+    answer_over _ ns _ _ d _ _ a _ _ _ _ _ (matched answer c.item.ensures c.in-Item.is) _ (rw c.in-At.is at (follow_here (goal.at.returns-in_default-first_byte c).After-follow-found ns d a))
+    (omega arith) (sym c.in_default-first_byte.is ∙ c.first_byte.ensures)
 
 pub returns-in-Is : goal.returns-in-Is
 returns-in-Is c = λ ns d a.
-    let at-follow = (goal.at.returns-in-Is c).In-At-1 in
-    answer_at _ ns _ _ d _ _ a _ _ _ _ _ (item_here at-follow.before) _ (rw c.in-At.is at (follow_here at-follow ns d a)) _
+    answer_at _ ns _ _ d _ _ a _ _ _ _ _ (matched answer c.item.ensures c.in-Item.is) _ (rw c.in-At.is at (follow_here (goal.at.returns-in-Is c).After-follow-found ns d a)) _
     (sym c.in-Is.is ∙ c.first_byte.ensures)
 
 pub returns-in-Refused : goal.returns-in-Refused

@@ -4,7 +4,6 @@ use Rattle.counts.proofs.OneOutcome.{matched}
 use Rattle.refusal.specs.Answers.{items_answer}
 use mathlib.Core.Path.{sym, ◌∙◌}
 use Rattle.place_area.proofs.item.Goals as goal
-use Rattle.place_area.proofs.item.Goals.{After-item_number}
 
 pub returns-in_default : goal.returns-in_default
 returns-in_default c = answer_24 _ _ _ _ _ _ _ c.in_default.is
@@ -14,12 +13,10 @@ returns-then-is_short c = answer_25 _ _ _ _ _ _ _ _ c.in-Sized.is (sym c.if-is_s
 
 pub returns-in-Is : goal.returns-in-Is
 returns-in-Is c =
-    let at-number = (goal.at.returns-in-Is c).After-item_number in
-    answer_item _ _ _ _ _ _ _ _ at-number.before.before.before.before.size.given.1 (sym at-number.before.before.is-short.ensures ∙ at-number.before.if1.false)
-    _ (matched items_answer at-number.item_number.ensures c.in-Is.is)
+    answer_item _ _ _ _ _ _ _ _ c.in-Sized.is (sym c.is_short.ensures ∙ c.if-is_short.false)
+    _ (matched items_answer c.item_number.ensures c.in-Is.is)
 
 pub returns-in-Refused : goal.returns-in-Refused
 returns-in-Refused c =
-    let at-number = (goal.at.returns-in-Refused c).After-item_number in
-    answer_item _ _ _ _ _ _ _ _ at-number.before.before.before.before.size.given.1 (sym at-number.before.before.is-short.ensures ∙ at-number.before.if1.false)
-    _ (matched items_answer at-number.item_number.ensures c.in-Refused.is)
+    answer_item _ _ _ _ _ _ _ _ c.in-Sized.is (sym c.is_short.ensures ∙ c.if-is_short.false)
+    _ (matched items_answer c.item_number.ensures c.in-Refused.is)

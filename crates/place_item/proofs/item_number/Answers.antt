@@ -4,7 +4,6 @@ use native.Mathlib.Omega.{arith}
 use borrow.Author.Tests.{not-true, not-false}
 use mathlib.Core.Path.{sym, ◌∙◌}
 use Rattle.place_item.proofs.item_number.Goals as goal
-use Rattle.place_item.proofs.item_number.Goals.{After-in_range, After-strides-counted}
 
 pub returns-then-shape-gt-MOST_DIMENSIONS : goal.returns-then-shape-gt-MOST_DIMENSIONS
 returns-then-shape-gt-MOST_DIMENSIONS c = number_13 _ _ _ c.if-shape-gt-MOST_DIMENSIONS.true
@@ -14,17 +13,12 @@ returns-in_default c = number_22 _ _ _ _ _ _ c.strides-counted.ensures (omega ar
 
 pub returns-then-not-in_range : goal.returns-then-not-in_range
 returns-then-not-in_range c =
-    let at-strides = (goal.at.returns-then-not-in_range c).After-strides-counted in
-    number_26 _ _ _ _ _ _ at-strides.strides2.ensures (omega arith) at-strides.before.before.if1.false _ c.in-Is.is (sym c.index_in_range.ensures ∙ not-true _ c.if-not-in_range.true-raw)
+    number_26 _ _ _ _ _ _ c.strides-counted.ensures (omega arith) c.if-shape-gt-MOST_DIMENSIONS.false _ c.in-Is.is (sym c.in_range.ensures ∙ not-true _ c.if-not-in_range.true-raw)
 
 pub returns-in-Is-sum_of_products : goal.returns-in-Is-sum_of_products
 returns-in-Is-sum_of_products c =
-    let at-range = (goal.at.returns-in-Is-sum_of_products c).After-in_range in
-    let at-strides = at-range.before.before.before.before.before in
-    number_gives _ _ _ _ _ _ at-strides.strides2.ensures (omega arith) at-strides.before.before.if1.false _ at-range.before.before.counted.given.1 (sym at-range.index_in_range.ensures ∙ not-false _ c.if-not-in_range.false-raw) _ (sym c.in-Is-sum_of_products.is ∙ c.sum_of_products.ensures)
+    number_gives _ _ _ _ _ _ c.strides-counted.ensures (omega arith) c.if-shape-gt-MOST_DIMENSIONS.false _ c.in-Is.is (sym c.in_range.ensures ∙ not-false _ c.if-not-in_range.false-raw) _ (sym c.in-Is-sum_of_products.is ∙ c.sum_of_products.ensures)
 
 pub returns-in-Over : goal.returns-in-Over
 returns-in-Over c =
-    let at-range = (goal.at.returns-in-Over c).After-in_range in
-    let at-strides = at-range.before.before.before.before.before in
-    number_over _ _ _ _ _ _ at-strides.strides2.ensures (omega arith) at-strides.before.before.if1.false _ at-range.before.before.counted.given.1 (sym at-range.index_in_range.ensures ∙ not-false _ c.if-not-in_range.false-raw) (sym c.in-Over.is ∙ c.sum_of_products.ensures)
+    number_over _ _ _ _ _ _ c.strides-counted.ensures (omega arith) c.if-shape-gt-MOST_DIMENSIONS.false _ c.in-Is.is (sym c.in_range.ensures ∙ not-false _ c.if-not-in_range.false-raw) (sym c.in-Over.is ∙ c.sum_of_products.ensures)

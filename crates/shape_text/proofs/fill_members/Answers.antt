@@ -28,7 +28,7 @@ pub returns-in_default-ended : goal.returns-in_default-ended
 returns-in_default-ended c =
     let a = c.args in
     let l = c.loop-g in
-    filling_stop a.room a.text.now a.close a.from a.out.now l.out l.g l.i l.invariant _ c.member_at-m.result.ended c.in-Item.is c.member_at-m.ensures.0 (opened c.in_default-ended.in_default-ended-own.keys2)
+    filling_stop a.room a.text.now a.close a.from a.out.now l.out l.g l.i l.invariant _ c.member_at-m.result.ended c.in-Item.is c.member_at-m.ensures.ended_value (opened c.in_default-ended.in_default-ended-own.keys2)
 
 pub shape_of-out-in_default-size : goal.shape_of-out-in_default-size
 shape_of-out-in_default-size c = c.loop-g.invariant.same
@@ -38,13 +38,13 @@ returns-in_default-size c =
     let a = c.args in
     let l = c.loop-g in
     let m = c.member_at-m in
-    filling_none a.room a.text.now a.close a.from a.out.now l.out l.g l.i l.invariant _ m.result.ended c.in-Item.is m.ensures.0 m.result.size m.ensures.1.0 _ c.in-Value.is _ c.in_default-size.is
+    filling_none a.room a.text.now a.close a.from a.out.now l.out l.g l.i l.invariant _ m.result.ended c.in-Item.is m.ensures.ended_value m.result.size m.ensures.size_at _ c.in-Value.is _ c.in_default-size.is
 
 pub overflow_add-i : goal.overflow_add-i
 overflow_add-i c =
     let a = c.args in
     let l = c.loop-g in
-    let n = filling_count a.room a.text.now a.close a.from a.out.now l.out l.g l.i l.invariant _ c.member_at-m.result.ended c.in-Item.is c.member_at-m.ensures.0 c.member_at-m.result.size c.member_at-m.ensures.1.0 _ c.in-Value.is in
+    let n = filling_count a.room a.text.now a.close a.from a.out.now l.out l.g l.i l.invariant _ c.member_at-m.result.ended c.in-Item.is c.member_at-m.ensures.ended_value c.member_at-m.result.size c.member_at-m.ensures.size_at _ c.in-Value.is in
     omega arith
 
 pub loop-g-smaller : goal.loop-g-smaller
@@ -52,10 +52,10 @@ loop-g-smaller c =
     let a = c.args in
     let l = c.loop-g in
     let s = a.text.now in
-    turn_less (read.value a.room s) s a.close a.from (value_ahead a.room s) c.ranges.close.fits l.g c.then_at-g.result _ _ c.member_at-m.result.ended c.in-Item.is c.in-Value.is c.member_at-m.ensures.0 c.then_at-g.ensures
+    turn_less (read.value a.room s) s a.close a.from (value_ahead a.room s) c.ranges.close.fits l.g c.then_at-g.result _ _ c.member_at-m.result.ended c.in-Item.is c.in-Value.is c.member_at-m.ensures.ended_value c.then_at-g.ensures
 
 pub loop-g-preserved : goal.loop-g-preserved
 loop-g-preserved c =
     let a = c.args in
     let l = c.loop-g in
-    filling_more a.room a.text.now a.close a.from a.out.now l.out l.g l.i l.invariant _ c.member_at-m.result.ended c.in-Item.is c.member_at-m.ensures.0 c.member_at-m.result.size c.member_at-m.ensures.1.0 _ c.in-Value.is c.ranges.close.fits _ c.then_at-g.result _ c.in-Is.is c.put.ensures c.then_at-g.ensures
+    filling_more a.room a.text.now a.close a.from a.out.now l.out l.g l.i l.invariant _ c.member_at-m.result.ended c.in-Item.is c.member_at-m.ensures.ended_value c.member_at-m.result.size c.member_at-m.ensures.size_at _ c.in-Value.is c.ranges.close.fits _ c.then_at-g.result _ c.in-Is.is c.put.ensures c.then_at-g.ensures

@@ -15,10 +15,4 @@ returns c =
     let s = a.text.now in
     let r = c.numeral_at-d.result in
     let hr = c.numeral_at-d.ensures in
-    let hk = numeral_there s a.at r hr _ c.in-Value.is in (
-      sym c.in-Value.is ∙ numeral_ends s a.at r hr ∙ token_value a.room s a.at Digit hk refl,
-      (
-        λ k n e h. dimension_digit k s a.at e n h (member_answer c.positive.result) hk (λ e he. c.positive.ensures.0 _ (numeral_number s a.at r hr e he)),
-        member_digit s a.at c.positive.result r hr _ c.in-Value.is c.positive.ensures.1,
-      ),
-    )
+    let hk = numeral_there s a.at r hr _ c.in-Value.is in record { ended_value = sym c.in-Value.is ∙ numeral_ends s a.at r hr ∙ token_value a.room s a.at Digit hk refl; size_at = (λ k n e h. dimension_digit k s a.at e n h (member_answer c.positive.result) hk (λ e he. c.positive.ensures.by_index _ (numeral_number s a.at r hr e he))); size_value = member_digit s a.at c.positive.result r hr _ c.in-Value.is c.positive.ensures.value }

@@ -23,16 +23,16 @@ pub returns-in_default-ended : goal.returns-in_default-ended
 returns-in_default-ended c =
     let a = c.args in
     let l = c.loop-g in
-    walking_stop a.room a.text.now a.close a.from a.met l.g l.verdict c.in-Item.p c.member_at-m.result.ended l.invariant c.in-Item.is c.member_at-m.ensures.0 (opened c.in_default-ended.in_default-ended-own.keys2)
+    walking_stop a.room a.text.now a.close a.from a.met l.g l.verdict c.in-Item.p c.member_at-m.result.ended l.invariant c.in-Item.is c.member_at-m.ensures.ended_value (opened c.in_default-ended.in_default-ended-own.keys2)
 
 pub loop-g-smaller : goal.loop-g-smaller
 loop-g-smaller c =
     let a = c.args in
     let s = a.text.now in
-    turn_less (read.value a.room s) s a.close a.from (value_ahead a.room s) c.ranges.close.fits c.loop-g.g c.then_at-g.result c.in-Item.p c.in-Value.q c.member_at-m.result.ended c.in-Item.is c.in-Value.is c.member_at-m.ensures.0 c.then_at-g.ensures
+    turn_less (read.value a.room s) s a.close a.from (value_ahead a.room s) c.ranges.close.fits c.loop-g.g c.then_at-g.result c.in-Item.p c.in-Value.q c.member_at-m.result.ended c.in-Item.is c.in-Value.is c.member_at-m.ensures.ended_value c.then_at-g.ensures
 
 pub loop-g-preserved : goal.loop-g-preserved
 loop-g-preserved c =
     let a = c.args in
     let l = c.loop-g in
-    walking_more a.room a.text.now a.close a.from a.met c.ranges.close.fits l.g c.then_at-g.result l.verdict c.joined-verdict.result c.in-Item.p c.in-Value.q c.member_at-m.result.ended c.member_at-m.result.size c.in-Item.is c.in-Value.is c.member_at-m.ensures.0 c.member_at-m.ensures.1.0 c.joined-verdict.ensures c.then_at-g.ensures (omega arith) l.invariant
+    walking_more a.room a.text.now a.close a.from a.met c.ranges.close.fits l.g c.then_at-g.result l.verdict c.joined-verdict.result c.in-Item.p c.in-Value.q c.member_at-m.result.ended c.member_at-m.result.size c.in-Item.is c.in-Value.is c.member_at-m.ensures.ended_value c.member_at-m.ensures.size_at c.joined-verdict.ensures c.then_at-g.ensures (omega arith) l.invariant

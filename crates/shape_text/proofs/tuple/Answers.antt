@@ -23,14 +23,14 @@ returns-in_default-first c =
     let a = c.args in
     let s = a.text.now in
     let hg : gap_at s a.from 41 ≡ _ = sym c.gap_at-g.ensures ∙ c.in-Item.is in
-    round_stop a.room s a.from (gives (outline_of [])) _ c.member_at-m.result.ended hg c.member_at-m.ensures.0 (opened c.in_default-first.in_default-first-own.keys2)
+    round_stop a.room s a.from (gives (outline_of [])) _ c.member_at-m.result.ended hg c.member_at-m.ensures.ended_value (opened c.in_default-first.in_default-first-own.keys2)
 
 pub returns-in_default-c : goal.returns-in_default-c
 returns-in_default-c c =
     let a = c.args in
     let s = a.text.now in
     let hg : gap_at s a.from 41 ≡ _ = sym c.gap_at-g.ensures ∙ c.in-Item.is in
-    round_comma a.room s a.from (gives (outline_of [])) _ c.member_at-m.result.ended hg c.member_at-m.ensures.0 _ c.in-Value.is c.need-c.result c.need-c.ensures (opened c.in_default-c.in_default-c-own.keys2)
+    round_comma a.room s a.from (gives (outline_of [])) _ c.member_at-m.result.ended hg c.member_at-m.ensures.ended_value _ c.in-Value.is c.need-c.result c.need-c.ensures (opened c.in_default-c.in_default-c-own.keys2)
 
 pub members-requires : goal.members-requires
 members-requires c =
@@ -46,4 +46,4 @@ returns c =
     let hg : gap_at s a.from 41 ≡ _ = sym c.gap_at-g.ensures ∙ c.in-Item.is in
     let m = c.member_at-m in
     let one = first_joined c.nothing-2.result c.joined.result m.result.size c.nothing-2.ensures c.joined.ensures in
-    round_more a.room s a.from (gives (outline_of [])) _ m.result.ended hg m.ensures.0 _ c.in-Value.is c.need-c.result c.need-c.ensures _ m.result.size c.joined.result c.members.result c.in-Value-c.is m.ensures.1.0 one.0 c.members.ensures
+    round_more a.room s a.from (gives (outline_of [])) _ m.result.ended hg m.ensures.ended_value _ c.in-Value.is c.need-c.result c.need-c.ensures _ m.result.size c.joined.result c.members.result c.in-Value-c.is m.ensures.size_at one.0 c.members.ensures

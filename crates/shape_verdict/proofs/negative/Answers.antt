@@ -5,10 +5,10 @@ use Rattle.shape_verdict.proofs.Signs.{negative_zero, negative_more, negative_ov
 use Rattle.shape_verdict.proofs.negative.Goals as goal
 
 pub returns-then-n-eq0 : goal.returns-then-n-eq0
-returns-then-n-eq0 c = (λ m e. negative_zero _ _ m c.in-Is.is c.if-n-eq0.true e, zero_after _ _ c.in-Is.is c.if-n-eq0.true)
+returns-then-n-eq0 c = record { by_index = (λ m e. negative_zero _ _ m c.in-Is.is c.if-n-eq0.true e); value = zero_after _ _ c.in-Is.is c.if-n-eq0.true }
 
 pub returns-else-n-eq0 : goal.returns-else-n-eq0
-returns-else-n-eq0 c = (λ m e. negative_more _ _ m c.in-Is.is c.if-n-eq0.false e, more_after _ _ c.in-Is.is c.if-n-eq0.false)
+returns-else-n-eq0 c = record { by_index = (λ m e. negative_more _ _ m c.in-Is.is c.if-n-eq0.false e); value = more_after _ _ c.in-Is.is c.if-n-eq0.false }
 
 pub returns-in-Over : goal.returns-in-Over
-returns-in-Over c = (λ m e. negative_over _ m c.in-Over.is e, ap negative_of (sym c.in-Over.is))
+returns-in-Over c = record { by_index = (λ m e. negative_over _ m c.in-Over.is e); value = ap negative_of (sym c.in-Over.is) }

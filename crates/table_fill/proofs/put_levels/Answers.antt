@@ -34,4 +34,4 @@ returns c =
     let a = c.args in
     let l = c.loop-k in
     let all = above_all a.shape.now a.entry a.up a.name a.stop a.size.0 a.table.now l.k l.table l.held.0 l.invariant (omega (arith, c.loop-k-test.false)) in
-    (bytes_eq all.0, all.1)
+    record { value = bytes_eq all.0; table_after = all.1 }

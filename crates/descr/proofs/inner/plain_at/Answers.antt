@@ -15,6 +15,6 @@ returns c =
     let a = c.args in
     let s = a.text.now in
     let quote = get_d_any s a.at 0 256 c.requires in
-    let end = c.typed_at-t.ensures.0 ∙ ap (λ (b : ℕ). (spelled b s (a.at + 1)).ended) quote in
-    let read = c.typed_at-t.ensures.1 ∙ ap (λ (b : ℕ). type_string (spelled b s (a.at + 1)).bytes) quote in
-    (end, c.type-inv.ensures ∙ ap (λ (o : Outcome TypeStr). each (λ x. totals_of (plain x)) o) read)
+    let end = c.typed_at-t.ensures.ended_value ∙ ap (λ (b : ℕ). (spelled b s (a.at + 1)).ended) quote in
+    let read = c.typed_at-t.ensures.read_value ∙ ap (λ (b : ℕ). type_string (spelled b s (a.at + 1)).bytes) quote in
+    record { ended_value = end; verdict_value = c.typed.ensures ∙ ap (λ (o : Outcome TypeStr). each (λ x. totals_of (plain x)) o) read }

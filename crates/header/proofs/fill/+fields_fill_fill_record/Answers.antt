@@ -28,7 +28,7 @@ fields-head_at-h-requires t c =
     let l = c.loop-g in
     let x = c.requires in
     let f = filling_field a.room a.text.now a.from a.entry a.up a.byte a.table.now a.names.now l.g l.at l.b l.count l.size l.table l.names l.invariant _ c.in-Item.is x.0 x.1 x.2 x.3 in
-    head_due a.room a.text.now _ l.at a.up l.b l.table l.names c.closing_at.result c.closing_at.ensures f.0 f.1 f.2 f.3
+    head_due a.room a.text.now _ l.at a.up l.b l.table l.names c.closing_at-close.result c.closing_at-close.ensures f.0 f.1 f.2 f.3
 
 pub fields-overflow_sub-room : goal.fields-overflow_sub-room
 fields-overflow_sub-room t c =
@@ -36,7 +36,7 @@ fields-overflow_sub-room t c =
     let l = c.loop-g in
     let x = c.requires in
     let f = filling_field a.room a.text.now a.from a.entry a.up a.byte a.table.now a.names.now l.g l.at l.b l.count l.size l.table l.names l.invariant _ c.in-Item.is x.0 x.1 x.2 x.3 in
-    omega (arith, field_deep a.room a.text.now _ l.at a.up l.b l.table l.names c.closing_at.result c.closing_at.ensures f.0 f.1 f.2 f.3)
+    omega (arith, field_deep a.room a.text.now _ l.at a.up l.b l.table l.names c.closing_at-close.result c.closing_at-close.ensures f.0 f.1 f.2 f.3)
 
 pub fields-fill-q-requires : goal.fields-fill-q-requires
 fields-fill-q-requires t c =
@@ -44,7 +44,7 @@ fields-fill-q-requires t c =
     let l = c.loop-g in
     let x = c.requires in
     let f = filling_field a.room a.text.now a.from a.entry a.up a.byte a.table.now a.names.now l.g l.at l.b l.count l.size l.table l.names l.invariant _ c.in-Item.is x.0 x.1 x.2 x.3 in
-    (omega (arith, field_deep a.room a.text.now _ l.at a.up l.b l.table l.names c.closing_at.result c.closing_at.ensures f.0 f.1 f.2 f.3), inner_due a.room a.text.now _ l.at a.up l.b l.table l.names c.closing_at.result c.closing_at.ensures f.0 f.1 f.2 f.3 c.head_at-h.result _ c.head_at-h.ensures)
+    (omega (arith, field_deep a.room a.text.now _ l.at a.up l.b l.table l.names c.closing_at-close.result c.closing_at-close.ensures f.0 f.1 f.2 f.3), inner_due a.room a.text.now _ l.at a.up l.b l.table l.names c.closing_at-close.result c.closing_at-close.ensures f.0 f.1 f.2 f.3 c.head_at-h.result _ c.head_at-h.ensures)
 
 pub fields-overflow_sub-room-in-loop-g : goal.fields-overflow_sub-room-in-loop-g
 fields-overflow_sub-room-in-loop-g t c =
@@ -52,7 +52,7 @@ fields-overflow_sub-room-in-loop-g t c =
     let l = c.loop-g in
     let x = c.requires in
     let f = filling_field a.room a.text.now a.from a.entry a.up a.byte a.table.now a.names.now l.g l.at l.b l.count l.size l.table l.names l.invariant _ c.in-Item.is x.0 x.1 x.2 x.3 in
-    omega (arith, field_deep a.room a.text.now _ l.at a.up l.b l.table l.names c.closing_at.result c.closing_at.ensures f.0 f.1 f.2 f.3)
+    omega (arith, field_deep a.room a.text.now _ l.at a.up l.b l.table l.names c.closing_at-close.result c.closing_at-close.ensures f.0 f.1 f.2 f.3)
 
 pub fields-shaped-r-requires : goal.fields-shaped-r-requires
 fields-shaped-r-requires t c =
@@ -60,7 +60,7 @@ fields-shaped-r-requires t c =
     let l = c.loop-g in
     let x = c.requires in
     let f = filling_field a.room a.text.now a.from a.entry a.up a.byte a.table.now a.names.now l.g l.at l.b l.count l.size l.table l.names l.invariant _ c.in-Item.is x.0 x.1 x.2 x.3 in
-    shape_due a.room a.text.now _ l.at a.up l.b l.table l.names c.closing_at.result c.closing_at.ensures f.0 f.1 f.2 f.3 c.head_at-h.result _ c.head_at-h.ensures _ _ c.fill-q.result c.fill-q.ensures
+    shape_due a.room a.text.now _ l.at a.up l.b l.table l.names c.closing_at-close.result c.closing_at-close.ensures f.0 f.1 f.2 f.3 c.head_at-h.result _ c.head_at-h.ensures _ _ c.fill-q.result c.fill-q.ensures
 
 pub fields-overflow_add-count : goal.fields-overflow_add-count
 fields-overflow_add-count t c =
@@ -75,7 +75,7 @@ fields-loop-g-smaller t c =
     let l = c.loop-g in
     let x = c.requires in
     filling_less a.room a.text.now a.from a.entry a.up a.byte a.table.now a.names.now l.g l.at l.b l.count l.size l.table l.names l.invariant _ c.in-Item.is c.shaped-r.result c.then_at-g.result _ _ c.then_at-g.ensures
-    (λ v q f h. field_whole a.room a.text.now _ l.at a.up l.b l.table l.names c.closing_at.result c.closing_at.ensures v q f h c.head_at-h.result _ c.head_at-h.ensures _ _ c.fill-q.result c.fill-q.ensures (omega (arith, l.invariant.long, c.well_formed.1.1.1.0.0)) _ c.shaped-r.result c.shaped-r.ensures) x.0 x.1 x.2 x.3
+    (λ v q f h. field_whole a.room a.text.now _ l.at a.up l.b l.table l.names c.closing_at-close.result c.closing_at-close.ensures v q f h c.head_at-h.result _ c.head_at-h.ensures _ _ c.fill-q.result c.fill-q.ensures (omega (arith, l.invariant.long, c.well_formed.1.1.1.0.0)) _ c.shaped-r.result c.shaped-r.ensures) x.0 x.1 x.2 x.3
 
 pub fields-loop-g-preserved : goal.fields-loop-g-preserved
 fields-loop-g-preserved t c =
@@ -83,7 +83,7 @@ fields-loop-g-preserved t c =
     let l = c.loop-g in
     let x = c.requires in
     filling_more a.room a.text.now a.from a.entry a.up a.byte a.table.now a.names.now l.g l.at l.b l.count l.size l.table l.names l.invariant _ c.in-Item.is c.shaped-r.result c.then_at-g.result _ _ c.then_at-g.ensures
-    (λ v q f h. field_whole a.room a.text.now _ l.at a.up l.b l.table l.names c.closing_at.result c.closing_at.ensures v q f h c.head_at-h.result _ c.head_at-h.ensures _ _ c.fill-q.result c.fill-q.ensures (omega (arith, l.invariant.long, c.well_formed.1.1.1.0.0)) _ c.shaped-r.result c.shaped-r.ensures) x.0 x.1 x.2 x.3 c.held_sum-size.result c.held_sum-size.ensures
+    (λ v q f h. field_whole a.room a.text.now _ l.at a.up l.b l.table l.names c.closing_at-close.result c.closing_at-close.ensures v q f h c.head_at-h.result _ c.head_at-h.ensures _ _ c.fill-q.result c.fill-q.ensures (omega (arith, l.invariant.long, c.well_formed.1.1.1.0.0)) _ c.shaped-r.result c.shaped-r.ensures) x.0 x.1 x.2 x.3 c.held_sum-size.result c.held_sum-size.ensures
 
 pub fill-fill_plain-requires : goal.fill-fill_plain-requires
 fill-fill_plain-requires t c =

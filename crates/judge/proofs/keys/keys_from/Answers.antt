@@ -3,7 +3,6 @@
 use borrow.Enum.Refused.{opened}
 use lib.Dec.{lit<}
 use mathlib.Core.Path.{sym, ◌∙◌}
-use mathlib.Core.Logic.{⊎_elim}
 use Rattle.literal.specs.Brackets.{pair_by}
 use Rattle.literal.specs.Literal as read
 use Rattle.literal.proofs.Ends.{value_ahead, pair_ahead}
@@ -12,7 +11,7 @@ use Rattle.literal_bytes.proofs.Ends.{stops}
 use Rattle.shape_text.proofs.Goes.{goes_start, goes_more}
 use Rattle.judge.proofs.Seek.{PairIs, pair_descr, pair_shape, pair_else, pair_as, Seen, seen_start, seen_more, walked_end, walked_stop}
 use Rattle.judge.proofs.keys.keys_from.Goals as goal
-use Rattle.judge.proofs.keys.keys_from.Goals.{Joined-name}
+use Rattle.judge.proofs.keys.keys_from.Goals.{Joined-name, in-Descr, in-Shape, in-Order}
 
 pub loop-g-init : goal.loop-g-init
 loop-g-init c =
@@ -32,27 +31,26 @@ returns-in_default-k c =
     let a = c.args in
     let s = a.text.now in
     let l = c.loop-g in
-    let k = c.key_at in
+    let k = c.key_at-key in
     let hr = pair_stop (read.value a.room s) s _ k.result.begins k.ensures.begins (stops k.result.begins (opened c.in_default-k.in_default-k-own.keys2)) in
     walked_stop a.room s a.from l.strings _ l.g _ k.result.begins c.walk_end-in_default-k.result l.invariant.0 c.in-Item.is hr (opened c.in_default-k.in_default-k-own.keys2) c.walk_end-in_default-k.ensures
 
 -- where the arms meet: what is found after the pair
-paired : (c : goal.joined_name)
-    → PairIs c.args.room c.args.text.now c.in-Value.at c.key_at.result.name (record { descr = c.loop-g.descr; order = c.loop-g.order; shape = c.loop-g.shape }) c.match-name.v
+paired : (c : goal.Joined-name)
+    → PairIs c.args.room c.args.text.now c.in-Value.at c.key_at-key.result.name (record { descr = c.loop-g.descr; order = c.loop-g.order; shape = c.loop-g.shape }) c.match-name.v
     (record { descr = c.match-name.descr; order = c.order_at-order.result; shape = c.match-name.shape })
 paired c =
     let a = c.args in
     let s = a.text.now in
     let at = c.in-Value.at in
-    let n = c.key_at.result.name in
+    let n = c.key_at-key.result.name in
     let l = c.loop-g in
     let o = c.order_at-order in
-    ⊎_elim
-    (λ w. pair_as a.room s at n l.descr l.order o.result l.shape o.ensures w.4 w.5 w.6 (pair_descr a.room s at n l.descr l.order o.result l.shape o.ensures w.1.given.1 w.2.result w.3.result w.2.ensures w.3.ensures))
-    (⊎_elim
-    (λ w. pair_as a.room s at n l.descr l.order o.result l.shape o.ensures w.4 w.5 w.6 (pair_shape a.room s at n l.descr l.order o.result l.shape o.ensures w.1.given.1 w.2.result w.3.result w.2.ensures w.3.ensures))
-    (λ w. pair_as a.room s at n l.descr l.order o.result l.shape o.ensures w.2 w.3 w.4 (pair_else a.room s at n l.descr l.order o.result l.shape o.ensures w.0.keys3 w.1.result w.1.ensures)))
-    c.match-name.branch
+    elim c.match-name.branch [
+      | in-Descr w ↦ pair_as a.room s at n l.descr l.order o.result l.shape o.ensures w.descr-is w.shape-is w.v-is (pair_descr a.room s at n l.descr l.order o.result l.shape o.ensures w.in-Descr.is w.judge-one.result w.descr_found-descr.result w.judge-one.ensures w.descr_found-descr.ensures)
+      | in-Shape w ↦ pair_as a.room s at n l.descr l.order o.result l.shape o.ensures w.descr-is w.shape-is w.v-is (pair_shape a.room s at n l.descr l.order o.result l.shape o.ensures w.in-Shape.is w.judge-one-in-Shape.result w.shape_found-shape.result w.judge-one-in-Shape.ensures w.shape_found-shape.ensures)
+      | in-Order w ↦ pair_as a.room s at n l.descr l.order o.result l.shape o.ensures w.descr-is w.shape-is w.v-is (pair_else a.room s at n l.descr l.order o.result l.shape o.ensures (opened w.in-Order.in-Order-own.keys3) w.value-v.result w.value-v.ensures)
+    ]
 
 pub returns-in_default-v : goal.returns-in_default-v
 returns-in_default-v c =
@@ -60,7 +58,7 @@ returns-in_default-v c =
     let s = a.text.now in
     let l = c.loop-g in
     let v = c.match-name.v in
-    let hr = (paired (goal.at.returns-in_default-v c).joined_name).ended ∙ pair_more (read.value a.room s) s _ _ (sym c.in-Value.is ∙ c.key_at.ensures.begins) in
+    let hr = (paired (goal.at.returns-in_default-v c).Joined-name).ended ∙ pair_more (read.value a.room s) s _ _ (sym c.in-Value.is ∙ c.key_at-key.ensures.begins) in
     walked_stop a.room s a.from l.strings _ l.g _ v c.walk_end-in_default-v.result l.invariant.0 c.in-Item.is hr (opened c.in_default-v.in_default-v-own.keys2) c.walk_end-in_default-v.ensures
 
 pub loop-g-smaller : goal.loop-g-smaller
@@ -69,7 +67,7 @@ loop-g-smaller c =
     let s = a.text.now in
     let rd = read.value a.room s in
     let v = c.match-name.v in
-    let hr = (paired (goal.at.loop-g-smaller c).joined_name).ended ∙ pair_more rd s _ _ (sym c.in-Value.is ∙ c.key_at.ensures.begins) in
+    let hr = (paired (goal.at.loop-g-smaller c).Joined-name).ended ∙ pair_more rd s _ _ (sym c.in-Value.is ∙ c.key_at-key.ensures.begins) in
     turn_less (pair_by rd s) s 125 a.from (pair_ahead rd s (value_ahead a.room s)) (lit< tt) c.loop-g.g c.then_at-g.result _ _ v c.in-Item.is c.in-Value-v.is hr c.then_at-g.ensures
 
 pub loop-g-preserved : goal.loop-g-preserved
@@ -79,8 +77,8 @@ loop-g-preserved c =
     let rd = read.value a.room s in
     let l = c.loop-g in
     let m = c.match-name in
-    let k = c.key_at in
-    let one = paired (goal.at.loop-g-preserved c).joined_name in
+    let k = c.key_at-key in
+    let one = paired (goal.at.loop-g-preserved c).Joined-name in
     let ha = sym c.in-Value.is ∙ k.ensures.begins in
     let hr = one.ended ∙ pair_more rd s _ _ ha in
     let hg = c.in-Item.is in

@@ -10,7 +10,7 @@ use Rattle.judge.proofs.keys.keys_from.Given as goal
 
 abbrev pub invariant-loop-g : goal.invariant-loop-g
 invariant-loop-g l =
-    Turn (pair_by (read.value l.room l.text) l.text) l.text 125 l.from l.g × Goes (pair_by (read.value l.room l.text) l.text) l.text 125 l.from (Seen l.room l.text l.strings (record { l.descr = l.descr; l.order = l.order; l.shape = l.shape })) l.g
+    Turn (pair_by (read.value l.room l.text) l.text) l.text 125 l.from l.g × Goes (pair_by (read.value l.room l.text) l.text) l.text 125 l.from (Seen l.room l.text l.strings (record { descr = l.descr; order = l.order; shape = l.shape })) l.g
 
 abbrev pub decreases-loop-g : goal.decreases-loop-g
 decreases-loop-g l = gap_left (length l.text) l.g

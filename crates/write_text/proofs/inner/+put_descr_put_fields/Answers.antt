@@ -47,6 +47,13 @@ put_fields-overflow_add-end t c =
     let y = going_next _ _ l.c l.start _ c.entry_at-field.ensures _ _ _ _ _ l.p l.left x.0 (l.invariant x.0 x.1 x.2) c.loop-left-test.true in
     omega (arith, y.2.fits)
 
+pub put_fields-slice_bounds-open_field-end : goal.put_fields-slice_bounds-open_field-end
+put_fields-slice_bounds-open_field-end t c =
+    let x = c.requires in
+    let l = c.loop-left in
+    let y = going_next _ _ l.c l.start _ c.entry_at-field.ensures _ _ _ _ _ l.p l.left x.0 (l.invariant x.0 x.1 x.2) c.loop-left-test.true in
+    omega (arith, y.2.fits)
+
 pub put_fields-put_descr-inner-requires : goal.put_fields-put_descr-inner-requires
 put_fields-put_descr-inner-requires t c =
     let x = c.requires in
