@@ -88,7 +88,7 @@ fields-loop-g-preserved t c =
 pub fill-fill_plain-requires : goal.fill-fill_plain-requires
 fill-fill_plain-requires t c =
     let a = c.args in
-    (sym c.string_at.ensures ∙ c.if-string_at.true, (a.room, a.names.now, c.requires))
+    record { at_value = sym c.string_at.ensures ∙ c.if-string_at.true; due_plain_at = (a.room, a.names.now, c.requires) }
 
 pub fill-shape_of-table-then-string_at : goal.fill-shape_of-table-then-string_at
 fill-shape_of-table-then-string_at t c =
@@ -118,40 +118,40 @@ fill-returns t c = c.fill_record.ensures
 pub fill_record-overflow_add-at : goal.fill_record-overflow_add-at
 fill_record-overflow_add-at t c =
     let a = c.args in
-    let x = c.requires.1 in
-    omega (arith, (fields_asked a.room a.text.now a.at a.entry a.up a.name a.byte a.table.now a.names.now x.0 x.1 x.2 x.3 c.requires.0).0)
+    let x = c.requires.due_at in
+    omega (arith, (fields_asked a.room a.text.now a.at a.entry a.up a.name a.byte a.table.now a.names.now x.0 x.1 x.2 x.3 c.requires.at_value).0)
 
 pub fill_record-overflow_sub-room : goal.fill_record-overflow_sub-room
 fill_record-overflow_sub-room t c =
     let a = c.args in
-    let x = c.requires.1 in
-    omega (arith, (fields_asked a.room a.text.now a.at a.entry a.up a.name a.byte a.table.now a.names.now x.0 x.1 x.2 x.3 c.requires.0).1)
+    let x = c.requires.due_at in
+    omega (arith, (fields_asked a.room a.text.now a.at a.entry a.up a.name a.byte a.table.now a.names.now x.0 x.1 x.2 x.3 c.requires.at_value).1)
 
 pub fill_record-overflow_add-entry : goal.fill_record-overflow_add-entry
 fill_record-overflow_add-entry t c =
-    let x = c.requires.1 in
+    let x = c.requires.due_at in
     omega (arith, x.3.room, some_entry_lem x.2)
 
 pub fill_record-fields-r-requires : goal.fill_record-fields-r-requires
 fill_record-fields-r-requires t c =
     let a = c.args in
-    let x = c.requires.1 in
-    let l = fields_asked a.room a.text.now a.at a.entry a.up a.name a.byte a.table.now a.names.now x.0 x.1 x.2 x.3 c.requires.0 in
+    let x = c.requires.due_at in
+    let l = fields_asked a.room a.text.now a.at a.entry a.up a.name a.byte a.table.now a.names.now x.0 x.1 x.2 x.3 c.requires.at_value in
     (omega (arith, l.1), l.2)
 
 pub fill_record-shape_of-table : goal.fill_record-shape_of-table
 fill_record-shape_of-table t c =
     let a = c.args in
-    let x = c.requires.1 in
-    (filled_long (record_whole a.room a.text.now a.at a.entry a.up a.name a.byte a.table.now a.names.now x.0 x.1 x.2 x.3 c.requires.0 c.fields-r.result _ _ c.fields-r.ensures _ c.put_record.ensures)).0
+    let x = c.requires.due_at in
+    (filled_long (record_whole a.room a.text.now a.at a.entry a.up a.name a.byte a.table.now a.names.now x.0 x.1 x.2 x.3 c.requires.at_value c.fields-r.result _ _ c.fields-r.ensures _ c.put_record.ensures)).0
 
 pub fill_record-shape_of-names : goal.fill_record-shape_of-names
 fill_record-shape_of-names t c =
     let a = c.args in
-    let x = c.requires.1 in
-    (filled_long (record_whole a.room a.text.now a.at a.entry a.up a.name a.byte a.table.now a.names.now x.0 x.1 x.2 x.3 c.requires.0 c.fields-r.result _ _ c.fields-r.ensures _ c.put_record.ensures)).1
+    let x = c.requires.due_at in
+    (filled_long (record_whole a.room a.text.now a.at a.entry a.up a.name a.byte a.table.now a.names.now x.0 x.1 x.2 x.3 c.requires.at_value c.fields-r.result _ _ c.fields-r.ensures _ c.put_record.ensures)).1
 
 pub fill_record-returns : goal.fill_record-returns
 fill_record-returns t c =
     let a = c.args in
-    λ n e d h. record_whole a.room a.text.now a.at a.entry a.up a.name a.byte a.table.now a.names.now n e d h c.requires.0 c.fields-r.result _ _ c.fields-r.ensures _ c.put_record.ensures
+    λ n e d h. record_whole a.room a.text.now a.at a.entry a.up a.name a.byte a.table.now a.names.now n e d h c.requires.at_value c.fields-r.result _ _ c.fields-r.ensures _ c.put_record.ensures

@@ -18,14 +18,14 @@ name_at-m-requires c =
     let a = c.args in
     let s = a.text.now in
     let p : c.place_of-p.result ≡ name_place s a.at a.close = c.place_of-p.ensures ∙ ap gap_place c.gap_at.ensures in
-    (omega (arith, p, c.requires.begins), subst (λ (x : ℕ). a.byte + length (spelled (byte_at s x) s (x + 1)).bytes ≤ length a.names.now) (sym p) c.requires.room)
+    record { at_in_bounds = omega (arith, p, c.requires.begins); at_in_bounds_2 = subst (λ (x : ℕ). a.byte + length (spelled (byte_at s x) s (x + 1)).bytes ≤ length a.names.now) (sym p) c.requires.room }
 
 pub overflow_add-result : goal.overflow_add-result
 overflow_add-result c =
     let a = c.args in
     let s = a.text.now in
     let p : c.place_of-p.result ≡ name_place s a.at a.close = c.place_of-p.ensures ∙ ap gap_place c.gap_at.ensures in
-    omega (arith, ap (λ (x : Scan). x.len) c.name_at-m.ensures.0 ∙ ap (λ (x : ℕ). length (spelled (byte_at s x) s (x + 1)).bytes) p, c.requires.room, c.well_formed.1.1.1.0.0)
+    omega (arith, ap (λ (x : Scan). x.len) c.name_at-m.ensures.value ∙ ap (λ (x : ℕ). length (spelled (byte_at s x) s (x + 1)).bytes) p, c.requires.room, c.well_formed.1.1.1.0.0)
 
 pub returns : goal.returns
 returns c =
@@ -33,12 +33,12 @@ returns c =
     let s = a.text.now in
     let p : c.place_of-p.result ≡ name_place s a.at a.close = c.place_of-p.ensures ∙ ap gap_place c.gap_at.ensures in
     let z = ap (λ (x : ℕ). spelled (byte_at s x) s (x + 1)) p in
-    let m = c.name_at-m.ensures.0 in
+    let m = c.name_at-m.ensures.value in
     let len = ap (λ (x : Scan). x.len) m ∙ ap (λ (x : Spelled). length x.bytes) z in
     record {
       counted = len;
       next_name = ap (λ (x : ℕ). a.byte + x) len;
       goes_on = c.place_of.ensures ∙ ap gap_place c.then_at.ensures
           ∙ ap (λ (x : ℕ). gap_place (then_at s x a.close)) (c.end_place.ensures ∙ ap (λ (x : Scan). end_of x.ended) m ∙ ap (λ (x : Spelled). end_of x.ended) z);
-      names_after = c.name_at-m.ensures.1 ∙ ap (λ (x : Spelled). sets a.names.now a.byte x.bytes) z;
+      names_after = c.name_at-m.ensures.names_after ∙ ap (λ (x : Spelled). sets a.names.now a.byte x.bytes) z;
     }

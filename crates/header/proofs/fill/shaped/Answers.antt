@@ -40,4 +40,4 @@ returns c =
     λ e ns h.
     let st = stored_shape a.room a.text.now _ _ _ _ c.fill-s.ensures ns (shape_there a.room a.text.now a.close a.table.now a.r e ns h c.then_at-g.result c.then_at-g.ensures _ c.in-Item.is) in
     shaped_some a.room a.text.now a.close a.table.now a.r e ns h c.then_at-g.result c.then_at-g.ensures _ c.in-Item.is a.entry a.up a.name c.fill-s.result.rank c.place_of-2.result c.place_of-3.result c.put_sub_shape-size.result _ _ st.counted
-    (shape_front ns _ _ _ _ _ st h.after.low refl) (c.place_of-2.ensures ∙ ap gap_place st.stopped) (c.place_of-3.ensures ∙ ap gap_place c.then_at.ensures) c.put_sub_shape-size.ensures.0 c.put_sub_shape-size.ensures.1
+    (shape_front ns _ _ _ _ _ st h.after.low refl) (c.place_of-2.ensures ∙ ap gap_place st.stopped) (c.place_of-3.ensures ∙ ap gap_place c.then_at.ensures) c.put_sub_shape-size.ensures.value c.put_sub_shape-size.ensures.table_after
