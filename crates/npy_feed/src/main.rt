@@ -9,8 +9,11 @@ use dtype::{MOST_DIMENSIONS, MOST_NAMES, TABLE};
 use get_file::Listed;
 use header::HeaderRead;
 use header_feed::{Fed, Feeder};
-use libc::{STDERR_FILENO, STDIN_FILENO, STDOUT_FILENO};
 use refusal::BytesAnswer;
+use std::env::FillError;
+use std::io;
+use std::io::Read;
+use std::rt::Env;
 
 // How many bytes a part has at most.
 const PART: usize = 65536;
@@ -31,33 +34,38 @@ struct Turn {
     more: bool,
 }
 
-fn main() {
+fn main(rt: HostRuntime) -> io::Result<()> {
     let mut part = [0u8; PART];
-    let most = part_length();
+    let most = part_length(&rt);
     if most == 0 {
-        say(b"npy-feed: at most one argument, N: a decimal number from 1 up\n");
-        return;
+        return say(
+            &rt,
+            "npy-feed: at most one argument, N: a decimal number from 1 up\n",
+        );
     }
-    list_input(&mut part[..most]);
+    list_input(&rt, &mut rt.stdin(), &mut part[..most])
 }
 
 // How many bytes of a part are read at most: N, or `PART` where there is no argument. 0 where N is no number from 1 up, or has another argument beside it.
-fn part_length() -> usize
+fn part_length(rt: &impl Env) -> usize
     ensures { result ≤ 65536 }
 {
-    let words = os::arg_count();
-    if words < 2 {
+    if !has_argument(rt, 1) {
         return PART;
     }
-    if 2 < words {
+    if has_argument(rt, 2) {
         return 0;
     }
-    let mut text = io::large_buffer();
-    let n = os::arg(1, &mut text);
-    if os::errno() != 0 {
+    let mut text = [0u8; 65536];
+    let Ok(n) = rt.arg(1, &mut text) else {
         return 0;
-    }
+    };
     length_in(&text[..n])
+}
+
+fn has_argument(rt: &impl Env, i: usize) -> bool {
+    let mut text = [0u8; 1];
+    !matches!(rt.arg(i, &mut text), Err(FillError::NotPresent))
 }
 
 // The one number of a text, or `PART` where that is larger; 0 for any other text.
@@ -84,22 +92,27 @@ fn at_most_part(n: u64) -> usize
 }
 
 // Prints the header on standard input, which is read to `part`, or why it is refused.
-fn list_input(part: &mut [u8]) {
+fn list_input(
+    rt: &(impl Print + Eprint),
+    input: &mut impl Read,
+    part: &mut [u8],
+) -> io::Result<()> {
     let mut text = [0u8; TEXT];
     let mut table = [0u64; TABLE];
     let mut names = [0u8; MOST_NAMES];
     let mut shape = [0u64; MOST_DIMENSIONS];
-    let f = take_header(part, &mut text, &mut table, &mut names, &mut shape);
+    let f = take_header(input, part, &mut text, &mut table, &mut names, &mut shape);
     let said = f.said;
     match said {
-        Fed::Read(h) => print(HeaderRead::Read(h), &table, &names, &shape),
-        Fed::Refused(why) => print(HeaderRead::Refused(why), &table, &names, &shape),
-        Fed::More => say(b"npy-feed: the input could not be read\n"),
+        Fed::Read(h) => print(rt, HeaderRead::Read(h), &table, &names, &shape),
+        Fed::Refused(why) => print(rt, HeaderRead::Refused(why), &table, &names, &shape),
+        Fed::More => say(rt, "npy-feed: the input could not be read\n"),
     }
 }
 
 // Reads until the outcome comes, or a read fails.
 fn take_header(
+    input: &mut impl Read,
     part: &mut [u8],
     text: &mut [u8],
     table: &mut [u64],
@@ -110,7 +123,7 @@ fn take_header(
     let mut more = true;
     let mut reads: usize = 0;
     while more && reads < READS {
-        let turn = take_part(f, part, text, table, names, shape);
+        let turn = take_part(f, input, part, text, table, names, shape);
         let next = turn.feeder;
         f = next;
         more = turn.more;
@@ -122,27 +135,26 @@ fn take_header(
 // Reads once, and feeds what came. The end of the input is an outcome too; a read that fails is none.
 fn take_part(
     f: Feeder,
+    input: &mut impl Read,
     part: &mut [u8],
     text: &mut [u8],
     table: &mut [u64],
     names: &mut [u8],
     shape: &mut [u64],
 ) -> Turn {
-    let got = libc::read(STDIN_FILENO, part);
-    if got < 0 {
+    let Ok(n) = input.read(part) else {
         return Turn {
             feeder: f,
             more: false,
         };
-    }
-    if got == 0 {
+    };
+    if n == 0 {
         let feeder = header_feed::end(f);
         return Turn {
             feeder,
             more: false,
         };
     }
-    let n = io::count(got, part);
     let fed = header_feed::feed(f, &part[..n], text, table, names, shape);
     let feeder = fed.feeder;
     Turn {
@@ -161,19 +173,25 @@ fn needs_more(f: Feeder) -> bool {
 }
 
 // Prints what a reading says of a header, which it left in the rooms.
-fn print(r: HeaderRead, table: &[u64], names: &[u8], shape: &[u64]) {
+fn print(
+    rt: &(impl Print + Eprint),
+    r: HeaderRead,
+    table: &[u64],
+    names: &[u8],
+    shape: &[u64],
+) -> io::Result<()> {
     let mut out = [0u8; ROOM];
     match list_file::put_read(r, table, names, shape, &mut out) {
         BytesAnswer::Is(n) => {
             let end = n.0 as usize;
-            io::write_all(STDOUT_FILENO, &out[..end]);
+            rt.write_all(&out[..end])
         }
         // not reached: the rooms are as the reading left them, and there is room for every text
-        BytesAnswer::Refused(_) => say(b"npy-feed: no room for the text\n"),
+        BytesAnswer::Refused(_) => say(rt, "npy-feed: no room for the text\n"),
     }
 }
 
 // Writes to standard error.
-fn say(text: &[u8]) {
-    io::write_all(STDERR_FILENO, text);
+fn say(rt: &impl Eprint, text: &str) -> io::Result<()> {
+    rt.eprint(text)
 }

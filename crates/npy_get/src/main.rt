@@ -1,17 +1,21 @@
 // Prints the element at a place of the NPY file on standard input: `npy_get INDEX PATH`, each numbers separated by commas, `-` for none. The program reads, calls and writes; which
-// bytes are the element's is get_file's, and what is printed of them element_text's. It reads the first bytes, which hold the header, and those from the element on, so the file may be of any size.
+// bytes are the element's is get_file's, and what is printed of them element_text's. It reads the first bytes, which hold the header, and those from the element on, so the file may be of any size;
+// of an input that cannot be sought in, as a pipe, it reads all, and only if that is not long.
 // Where it prints nothing to standard output, standard error says why.
 #![tactic(auto)]
 
-ghost use Rattle.std.specs.Prelude.{ℕ, ◌≤◌, ◌≡◌, length};
+ghost use Rattle.std.specs.Prelude.{ℕ, ◌≤◌, ◌≡◌, length, IfOk};
 ghost use Rattle.get_file.specs.declared.Listed.{Listed};
 
 use counts::Bytes;
 use get_file::Listed;
-use libc::{STDERR_FILENO, STDIN_FILENO, STDOUT_FILENO};
 use place::Placed;
 use place_area::Run;
 use refusal::{BytesAnswer, Refusal};
+use std::io::{Cursor, Read, Seek, SeekFrom};
+use std::os::unix::fs::FileTypeExt;
+use std::rt::{Env, Files};
+use std::{fs, io};
 use type_str::TypeStr;
 
 // How many of a file's first bytes are held: the longest header.
@@ -20,57 +24,112 @@ const HELD: usize = 131084;
 // How many bytes of an element are held; a longer one is refused with 23.
 const ELEMENT: usize = 65536;
 
+// How many bytes are held of an input that cannot be sought in; of a longer one nothing is printed.
+const UNSOUGHT: usize = HELD + ELEMENT;
+
 // How many bytes are room enough for the line of any of these elements (`line_fits` in element_text/proofs/Enough.antt), so that 28 is never printed.
 const ROOM: usize = 4 * ELEMENT + 64;
 
 // The last byte that can be sought: 2^63-1.
 const LAST_SOUGHT: u64 = 0x7FFF_FFFF_FFFF_FFFF;
 
-fn main() {
+// Standard input by name: to open it gives a file that can be sought in.
+const INPUT: &str = "/dev/stdin";
+
+const NOT_SOUGHT: &str = "npy-get: the file cannot be sought in\n";
+
+const NOT_READ: &str = "npy-get: the file could not be read, or was cut while it was read\n";
+
+fn main(rt: HostRuntime) -> io::Result<()> {
     let mut index = [0u64; get_file::INDEX];
     let mut path = [0u64; get_file::PATH];
-    let Listed::Are(rank) = argument(1, &mut index) else {
-        say(b"npy-get: INDEX is not numbers separated by commas, or `-`, or is too long\n");
-        return;
+    let Listed::Are(rank) = argument(&rt, 1, &mut index) else {
+        return say(
+            &rt,
+            "npy-get: INDEX is not numbers separated by commas, or `-`, or is too long\n",
+        );
     };
-    let Listed::Are(depth) = argument(2, &mut path) else {
-        say(b"npy-get: PATH is not numbers separated by commas, or `-`, or is too long\n");
-        return;
+    let Listed::Are(depth) = argument(&rt, 2, &mut path) else {
+        return say(
+            &rt,
+            "npy-get: PATH is not numbers separated by commas, or `-`, or is too long\n",
+        );
     };
-    print_element(&index[..rank], &path[..depth]);
+    print_input(&rt, &index[..rank], &path[..depth])
 }
 
 // The numbers of an argument. One that is missing, or too long to be held, is no list.
-fn argument(i: usize, out: &mut [u64]) -> Listed
+fn argument(rt: &impl Env, i: usize, out: &mut [u64]) -> Listed
     ensures { (n : ℕ) → result ≡ Listed.Are n → n ≤ length out.new }
 {
-    let mut text = io::large_buffer();
-    let n = os::arg(i, &mut text);
-    if os::errno() != 0 {
+    let mut text = [0u8; 65536];
+    let Ok(n) = rt.arg(i, &mut text) else {
         return Listed::NoList;
-    }
+    };
     get_file::numbers(&text[..n], out)
 }
 
-// Prints the element that an index and a path name, or why there is none.
-fn print_element(index: &[u64], path: &[u64]) {
-    let length = libc::lseek(STDIN_FILENO, 0, libc::SEEK_END);
-    if length < 0 {
-        say(b"npy-get: the file cannot be sought in\n");
-        return;
+// Prints the element of the file on standard input.
+fn print_input<R: Files + Input + Print + Eprint>(
+    rt: &R,
+    index: &[u64],
+    path: &[u64],
+) -> io::Result<()> {
+    match sought(rt) {
+        Some(mut file) => print_element(rt, &mut file, index, path),
+        None => print_unsought(rt, index, path),
     }
-    libc::lseek(STDIN_FILENO, 0, libc::SEEK_SET);
-    let mut file = [0u8; HELD];
-    let held = io::read_full(STDIN_FILENO, &mut file);
-    let bytes = length as u64;
+}
+
+// The file on standard input, if it can be sought in. To open a FIFO would wait for a writer.
+fn sought<R: Files>(rt: &R) -> Option<R::File> {
+    if fs::metadata(rt, INPUT).ok()?.file_type().is_fifo() {
+        return None;
+    }
+    let mut file = fs::open(rt, INPUT).ok()?;
+    file.stream_position().ok()?;
+    Some(file)
+}
+
+// Prints the element of an input that cannot be sought in.
+fn print_unsought<R: Input + Print + Eprint>(
+    rt: &R,
+    index: &[u64],
+    path: &[u64],
+) -> io::Result<()> {
+    let mut room = [0u8; UNSOUGHT + 1];
+    let n = read_full(&mut rt.reader(), &mut room)?;
+    if UNSOUGHT < n {
+        return say(rt, NOT_SOUGHT);
+    }
+    print_element(rt, &mut Cursor::new(&room[..n]), index, path)
+}
+
+// Prints the element that an index and a path name, or why there is none.
+fn print_element<F: Read + Seek>(
+    rt: &(impl Print + Eprint),
+    file: &mut F,
+    index: &[u64],
+    path: &[u64],
+) -> io::Result<()> {
+    let Ok(bytes) = file.seek(SeekFrom::End(0)) else {
+        return say(rt, NOT_SOUGHT);
+    };
+    if LAST_SOUGHT < bytes {
+        return say(rt, NOT_SOUGHT);
+    }
+    file.rewind()?;
+    let mut front = [0u8; HELD];
+    let Ok(held) = read_full(file, &mut front) else {
+        return say(rt, NOT_READ);
+    };
     if is_cut(held, bytes) {
-        say(b"npy-get: the file could not be read, or was cut while it was read\n");
-        return;
+        return say(rt, NOT_READ);
     }
     let longer = (HELD as u64) < bytes;
-    match get_file::find(&file[..held], longer, Bytes(bytes), index, path) {
-        Placed::At(run) => print_run(run),
-        Placed::Refused(why) => print_refused(why),
+    match get_file::find(&front[..held], longer, Bytes(bytes), index, path) {
+        Placed::At(run) => print_run(rt, file, run),
+        Placed::Refused(why) => print_refused(rt, why),
     }
 }
 
@@ -84,47 +143,62 @@ fn is_cut(held: usize, bytes: u64) -> bool {
 }
 
 // Prints the element in these bytes of the file.
-fn print_run(run: Run) {
+fn print_run<F: Read + Seek>(rt: &(impl Print + Eprint), file: &mut F, run: Run) -> io::Result<()> {
     let first = run.first;
     let len = run.len;
     let kind = run.kind;
     if (ELEMENT as u64) < len.0 {
-        print_refused(Refusal::Room);
-        return;
+        return print_refused(rt, Refusal::Room);
     }
     let count = len.0 as usize;
     if LAST_SOUGHT < first.0 {
         // not reached: the place is inside a file whose length was sought
-        return;
+        return Ok(());
     }
-    libc::lseek(STDIN_FILENO, first.0 as i64, libc::SEEK_SET);
+    file.seek(SeekFrom::Start(first.0))?;
     let mut element = [0u8; ELEMENT];
-    if io::read_full(STDIN_FILENO, &mut element) < count {
-        say(b"npy-get: the file could not be read, or was cut while it was read\n");
-        return;
+    let Ok(n) = read_full(file, &mut element) else {
+        return say(rt, NOT_READ);
+    };
+    if n < count {
+        return say(rt, NOT_READ);
     }
-    print_line(&element[..count], kind);
+    print_line(rt, &element[..count], kind)
 }
 
 // Prints the line of an element, or its refusal.
-fn print_line(element: &[u8], kind: TypeStr) {
+fn print_line(rt: &impl Print, element: &[u8], kind: TypeStr) -> io::Result<()> {
     let mut out = [0u8; ROOM];
     match element_text::put(element, kind, &mut out) {
         BytesAnswer::Is(n) => {
             let end = n.0 as usize;
-            io::write_all(STDOUT_FILENO, &out[..end]);
+            rt.write_all(&out[..end])
         }
-        BytesAnswer::Refused(why) => print_refused(why),
+        BytesAnswer::Refused(why) => print_refused(rt, why),
     }
 }
 
-fn print_refused(why: Refusal) {
-    io::write_all(STDOUT_FILENO, b"refused ");
-    io::print_decimal(STDOUT_FILENO, why.number() as u64);
-    io::write_all(STDOUT_FILENO, b"\n");
+fn print_refused(rt: &impl Print, why: Refusal) -> io::Result<()> {
+    let number = why.number();
+    println!(rt; "refused {number}")
+}
+
+// Reads until the room is full or the input ends, and returns how many bytes that are.
+fn read_full(input: &mut impl Read, room: &mut [u8]) -> io::Result<usize>
+    ensures { IfOk result (λ n. n ≤ length room.new) }
+{
+    let mut done = 0;
+    while done < room.len() {
+        let n = input.read(&mut room[done..])?;
+        if n == 0 {
+            break;
+        }
+        done += n;
+    }
+    Ok(done)
 }
 
 // Writes to standard error.
-fn say(text: &[u8]) {
-    io::write_all(STDERR_FILENO, text);
+fn say(rt: &impl Eprint, text: &str) -> io::Result<()> {
+    rt.eprint(text)
 }

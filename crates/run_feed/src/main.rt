@@ -6,8 +6,8 @@ ghost use Rattle.std.specs.Prelude.{◌<◌, ◌≤◌, length};
 
 use counts::Number;
 use dtype::{MOST_NAMES, TABLE};
-use libc::STDOUT_FILENO;
 use run_frames::Frame;
+use std::io::Read;
 use type_letters::Endianness;
 
 // The room for a case.
@@ -60,17 +60,27 @@ struct Plan {
     upto: u64,
 }
 
-fn main() {
+fn main(rt: HostRuntime) {
     let mut room = [0u8; CASE];
     let mut text = [5u8; TEXT];
     let mut table = [5u64; TABLE];
     let mut names = [5u8; MOST_NAMES];
     let mut shape = [5u64; DIMENSIONS];
-    run_cases(&mut room, &mut text, &mut table, &mut names, &mut shape);
+    run_cases(
+        &rt,
+        &mut rt.stdin(),
+        &mut room,
+        &mut text,
+        &mut table,
+        &mut names,
+        &mut shape,
+    );
 }
 
 // A proved loop has to end, and nothing says that the input does; no run has this many cases.
 fn run_cases(
+    rt: &impl Print,
+    input: &mut impl Read,
     room: &mut [u8],
     text: &mut [u8],
     table: &mut [u64],
@@ -78,28 +88,37 @@ fn run_cases(
     shape: &mut [u64],
 ) {
     let mut turns = u64::MAX;
-    while turns > 0 && run_case(room, text, table, names, shape) {
+    while turns > 0 && run_case(rt, input, room, text, table, names, shape) {
         turns -= 1;
     }
 }
 
 // Runs one case, and returns whether to go on.
 fn run_case(
+    rt: &impl Print,
+    input: &mut impl Read,
     room: &mut [u8],
     text: &mut [u8],
     table: &mut [u64],
     names: &mut [u8],
     shape: &mut [u64],
 ) -> bool {
-    let Frame::Case(n) = run_frames::next(room) else {
+    let Frame::Case(n) = run_frames::next(input, room) else {
         return false;
     };
-    lend(&room[..n], text, table, names, shape);
-    io::write_all(STDOUT_FILENO, b"\n")
+    lend(rt, &room[..n], text, table, names, shape);
+    rt.write_all(b"\n").is_ok()
 }
 
 // Lends the front of each room, as long as the case says.
-fn lend(case: &[u8], text: &mut [u8], table: &mut [u64], names: &mut [u8], shape: &mut [u64]) {
+fn lend(
+    rt: &impl Print,
+    case: &[u8],
+    text: &mut [u8],
+    table: &mut [u64],
+    names: &mut [u8],
+    shape: &mut [u64],
+) {
     let mut given = [0u64; 6];
     store(tail(case, 1), &mut given);
     let bytes = at_most(given[0], text.len());
@@ -107,6 +126,7 @@ fn lend(case: &[u8], text: &mut [u8], table: &mut [u64], names: &mut [u8], shape
     let named = at_most(given[2], names.len());
     let rank = at_most(given[3], shape.len());
     replay(
+        rt,
         case,
         given[4],
         given[5],
@@ -118,6 +138,7 @@ fn lend(case: &[u8], text: &mut [u8], table: &mut [u64], names: &mut [u8], shape
 }
 
 fn replay(
+    rt: &impl Print,
     case: &[u8],
     from: u64,
     upto: u64,
@@ -129,9 +150,10 @@ fn replay(
     let kind = first(case);
     refill(text, table, names, shape);
     if kind == 0 {
-        replay_calls(case, text, table, names, shape);
+        replay_calls(rt, case, text, table, names, shape);
     } else {
         replay_cuts(
+            rt,
             Plan { kind, from, upto },
             tail(case, FILE),
             text,
@@ -228,6 +250,7 @@ fn store(bytes: &[u8], room: &mut [u64]) {
 // ---- calls
 
 fn replay_calls(
+    rt: &impl Print,
     case: &[u8],
     text: &mut [u8],
     table: &mut [u64],
@@ -236,16 +259,25 @@ fn replay_calls(
 ) {
     let mut feeder = [0u64; 20];
     store(tail(case, NUMBERS), &mut feeder);
-    run_calls(tail(case, CALLS), &mut feeder, text, table, names, shape);
-    say(b";");
-    say_feeder(&feeder);
-    show_bytes(text);
-    show(table);
-    show_bytes(names);
-    show(shape);
+    run_calls(
+        rt,
+        tail(case, CALLS),
+        &mut feeder,
+        text,
+        table,
+        names,
+        shape,
+    );
+    say(rt, b";");
+    say_feeder(rt, &feeder);
+    show_bytes(rt, text);
+    show(rt, table);
+    show_bytes(rt, names);
+    show(rt, shape);
 }
 
 fn run_calls(
+    rt: &impl Print,
     calls: &[u8],
     feeder: &mut [u64; 20],
     text: &mut [u8],
@@ -257,6 +289,7 @@ fn run_calls(
     while at < calls.len() {
         let end = at + part_end(&calls[at..]);
         run_call(
+            rt,
             at > 0,
             between(calls, at + 4, end),
             feeder,
@@ -271,6 +304,7 @@ fn run_calls(
 
 // A call of under 4 bytes is the end; another has how many bytes of the text buffer are lent, and the part.
 fn run_call(
+    rt: &impl Print,
     later: bool,
     call: &[u8],
     feeder: &mut [u64; 20],
@@ -280,24 +314,25 @@ fn run_call(
     shape: &mut [u64],
 ) {
     if later {
-        say(b",");
+        say(rt, b",");
     }
     if call.len() < 4 {
-        call_end(feeder);
+        call_end(rt, feeder);
         return;
     }
     let n = at_most(number(&call[0..4], Endianness::Little), text.len());
-    call_feed(&call[4..], feeder, &mut text[..n], table, names, shape);
+    call_feed(rt, &call[4..], feeder, &mut text[..n], table, names, shape);
 }
 
-fn call_end(feeder: &mut [u64; 20]) {
+fn call_end(rt: &impl Print, feeder: &mut [u64; 20]) {
     let mut said = [5u64; 6];
     let r = npy::npy_feed_end(feeder, &mut said);
-    io::print_decimal(STDOUT_FILENO, r as u64);
-    tell_said(r, &said);
+    say_number(rt, r as u64);
+    tell_said(rt, r, &said);
 }
 
 fn call_feed(
+    rt: &impl Print,
     part: &[u8],
     feeder: &mut [u64; 20],
     text: &mut [u8],
@@ -310,16 +345,16 @@ fn call_feed(
     let r = npy::npy_feed(
         feeder, part, text, table, names, shape, &mut said, &mut used,
     );
-    io::print_decimal(STDOUT_FILENO, r as u64);
-    say(b" ");
-    io::print_decimal(STDOUT_FILENO, used[0]);
-    tell_said(r, &said);
+    say_number(rt, r as u64);
+    say(rt, b" ");
+    say_number(rt, used[0]);
+    tell_said(rt, r, &said);
 }
 
 // Prints a header's values if they were returned or changed.
-fn tell_said(r: u8, said: &[u64; 6]) {
+fn tell_said(rt: &impl Print, r: u8, said: &[u64; 6]) {
     if r == 0 || changed(said) > 0 {
-        say_numbers(said);
+        say_numbers(rt, said);
     }
 }
 
@@ -327,6 +362,7 @@ fn tell_said(r: u8, said: &[u64; 6]) {
 
 // The file, and after it the file that is fed if that is another one.
 fn replay_cuts(
+    rt: &impl Print,
     plan: Plan,
     parts: &[u8],
     text: &mut [u8],
@@ -335,21 +371,22 @@ fn replay_cuts(
     shape: &mut [u64],
 ) {
     if parts.len() < 4 {
-        say(b"short");
+        say(rt, b"short");
         return;
     }
     let end = part_end(parts);
     let file = between(parts, 4, end);
     let other = tail(parts, end);
     if other.len() == 0 {
-        read_whole(plan, file, file, text, table, names, shape);
+        read_whole(rt, plan, file, file, text, table, names, shape);
     } else {
-        read_whole(plan, file, other, text, table, names, shape);
+        read_whole(rt, plan, file, other, text, table, names, shape);
     }
 }
 
 // Lends rooms of the same lengths for reading the whole file.
 fn read_whole(
+    rt: &impl Print,
     plan: Plan,
     file: &[u8],
     fed: &[u8],
@@ -365,6 +402,7 @@ fn read_whole(
     let named = at_most(names.len() as u64, MOST_NAMES);
     let rank = at_most(shape.len() as u64, DIMENSIONS);
     compare(
+        rt,
         plan,
         file,
         fed,
@@ -380,6 +418,7 @@ fn read_whole(
 
 // Reads the whole file, and then feeds the other in its cuttings.
 fn compare(
+    rt: &impl Print,
     plan: Plan,
     file: &[u8],
     fed: &[u8],
@@ -401,6 +440,7 @@ fn compare(
         &mut said,
     );
     cut_all(
+        rt,
         plan,
         want,
         fed,
@@ -481,6 +521,7 @@ fn wanted(number: u8, total: usize, from: usize, to: usize) -> Want {
 
 // Feeds every cutting from one number up to another, and prints what was expected, how many were fed and how many differ.
 fn cut_all(
+    rt: &impl Print,
     plan: Plan,
     want: Want,
     fed: &[u8],
@@ -502,11 +543,11 @@ fn cut_all(
             plan.kind, cutting, want, fed, said, want_text, want_table, want_names, want_shape,
             text, table, names, shape,
         );
-        compared = std::num::wrapping_add_u64(compared, one_if(found != NO_CUTTING));
-        differ = std::num::wrapping_add_u64(differ, one_if(found == DIFFERS));
+        compared = compared.wrapping_add(one_if(found != NO_CUTTING));
+        differ = differ.wrapping_add(one_if(found == DIFFERS));
         cutting += 1;
     }
-    tell_cuts(want, compared, differ);
+    tell_cuts(rt, want, compared, differ);
 }
 
 fn one_if(so: bool) -> u64 {
@@ -543,18 +584,18 @@ fn cut_next(
     }
 }
 
-fn tell_cuts(want: Want, compared: u64, differ: u64) {
-    io::print_decimal(STDOUT_FILENO, want.number as u64);
+fn tell_cuts(rt: &impl Print, want: Want, compared: u64, differ: u64) {
+    say_number(rt, want.number as u64);
     if want.total == NEVER {
-        say(b" -");
+        say(rt, b" -");
     } else {
-        say(b" ");
-        io::print_decimal(STDOUT_FILENO, want.total as u64);
+        say(rt, b" ");
+        say_number(rt, want.total as u64);
     }
-    say(b" ");
-    io::print_decimal(STDOUT_FILENO, compared);
-    say(b" ");
-    io::print_decimal(STDOUT_FILENO, differ);
+    say(rt, b" ");
+    say_number(rt, compared);
+    say(rt, b" ");
+    say_number(rt, differ);
 }
 
 // Feeds one cutting, and what comes after it.
@@ -728,7 +769,7 @@ fn end_of(kind: u8, cutting: u64, part: u64, at: usize, n: usize) -> usize {
         1 => { if part < 2 { cutting } else { n as u64 } }
         2 => third(cutting, part, n),
         3 => part / 2 + part % 2,
-        4 => std::num::wrapping_add_u64(at as u64, cutting),
+        4 => (at as u64).wrapping_add(cutting),
         _ => next_bit(cutting, at, n) as u64,
     };
     if end < at as u64 { at } else { at_most(end, n) }
@@ -828,42 +869,47 @@ fn same6(a: &[u64; 6], b: &[u64; 6]) -> bool {
 
 // ---- the line
 
-fn say(text: &[u8]) {
-    io::write_all(STDOUT_FILENO, text);
+// Writes text. A write that fails is passed over: the line's end then fails too, and ends the run.
+fn say(rt: &impl Print, text: &[u8]) {
+    let _ = rt.write_all(text);
 }
 
-fn say_feeder(numbers: &[u64; 20]) {
-    say_numbers(numbers);
+fn say_number(rt: &impl Print, n: u64) {
+    let _ = rt.print(n);
 }
 
-fn say_numbers(numbers: &[u64]) {
+fn say_feeder(rt: &impl Print, numbers: &[u64; 20]) {
+    say_numbers(rt, numbers);
+}
+
+fn say_numbers(rt: &impl Print, numbers: &[u64]) {
     let mut i: usize = 0;
     while i < numbers.len() {
-        say(b" ");
-        io::print_decimal(STDOUT_FILENO, numbers[i]);
+        say(rt, b" ");
+        say_number(rt, numbers[i]);
         i += 1;
     }
 }
 
 // Prints a room without the 5s at its end.
-fn show(room: &[u64]) {
-    say(b";");
+fn show(rt: &impl Print, room: &[u64]) {
+    say(rt, b";");
     let end = changed(room);
-    say_numbers(&room[..end]);
+    say_numbers(rt, &room[..end]);
 }
 
-fn show_bytes(room: &[u8]) {
-    say(b";");
+fn show_bytes(rt: &impl Print, room: &[u8]) {
+    say(rt, b";");
     let end = changed_bytes(room);
-    show_run(&room[..end]);
+    show_run(rt, &room[..end]);
 }
 
 // Prints bytes in hexadecimal, eight at a time.
-fn show_run(run: &[u8]) {
+fn show_run(rt: &impl Print, run: &[u8]) {
     let mut at: usize = 0;
     while at < run.len() {
         let to = next_eight(at, run.len());
-        say_hex(&run[at..to]);
+        say_hex(rt, &run[at..to]);
         at = to;
     }
 }
@@ -875,9 +921,10 @@ fn next_eight(at: usize, end: usize) -> usize
     if end - at < 8 { end } else { at + 8 }
 }
 
-fn say_hex(run: &[u8]) {
+fn say_hex(rt: &impl Print, run: &[u8]) {
     let n = number(run, Endianness::Big);
-    io::print_hex(STDOUT_FILENO, n, 2 * at_most(run.len() as u64, 8));
+    let width = 2 * at_most(run.len() as u64, 8);
+    let _ = print!(rt; "{n:0width$x}");
 }
 
 fn changed(room: &[u64]) -> usize

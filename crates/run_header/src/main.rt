@@ -6,8 +6,8 @@
 ghost use Rattle.std.specs.Prelude.{◌≤◌, ◌<◌, ◌+◌, length};
 
 use counts::Number;
-use libc::STDOUT_FILENO;
 use run_frames::Frame;
+use std::io::Read;
 use type_letters::Endianness;
 
 // The room for a case.
@@ -25,44 +25,45 @@ const FRONT: usize = 13;
 // The last of them says whether the file is longer.
 const LONGER: usize = FRONT - 1;
 
-fn main() {
+fn main(rt: HostRuntime) {
     let mut room = [0u8; CASE];
-    run_cases(&mut room);
+    run_cases(&rt, &mut rt.stdin(), &mut room);
 }
 
 // A proved loop has to end, and nothing says that the input does; no run has this many cases.
-fn run_cases(room: &mut [u8]) {
+fn run_cases(rt: &impl Print, input: &mut impl Read, room: &mut [u8]) {
     let mut turns = u64::MAX;
-    while turns > 0 && run_case(room) {
+    while turns > 0 && run_case(rt, input, room) {
         turns -= 1;
     }
 }
 
 // Runs one case, and returns whether to go on.
-fn run_case(room: &mut [u8]) -> bool {
-    let Frame::Case(n) = run_frames::next(room) else {
+fn run_case(rt: &impl Print, input: &mut impl Read, room: &mut [u8]) -> bool {
+    let Frame::Case(n) = run_frames::next(input, room) else {
         return false;
     };
-    replay(&room[..n]);
-    io::write_all(STDOUT_FILENO, b"\n")
+    replay(rt, &room[..n]);
+    rt.write_all(b"\n").is_ok()
 }
 
-fn replay(case: &[u8]) {
+fn replay(rt: &impl Print, case: &[u8]) {
     let mut table = [5u64; dtype::TABLE];
     let mut names = [5u8; dtype::MOST_NAMES];
     let mut shape = [5u64; DIMENSIONS];
-    lend(case, &mut table, &mut names, &mut shape);
+    lend(rt, case, &mut table, &mut names, &mut shape);
 }
 
-fn lend(case: &[u8], table: &mut [u64], names: &mut [u8], shape: &mut [u64]) {
+fn lend(rt: &impl Print, case: &[u8], table: &mut [u64], names: &mut [u8], shape: &mut [u64]) {
     if case.len() < FRONT {
-        say(b"short");
+        say(rt, b"short");
         return;
     }
     let entries = at_most(&case[0..4], table.len() / dtype::ENTRY);
     let bytes = at_most(&case[4..8], names.len());
     let rank = at_most(&case[8..LONGER], shape.len());
     read_case(
+        rt,
         &case[FRONT..],
         case[LONGER] != 0,
         &mut table[..dtype::ENTRY * entries],
@@ -88,36 +89,48 @@ fn least(n: u64, most: usize) -> usize
     if n < most as u64 { n as usize } else { most }
 }
 
-fn say(text: &[u8]) {
-    io::write_all(STDOUT_FILENO, text);
+// Writes text. A write that fails is passed over: the line's end then fails too, and ends the run.
+fn say(rt: &impl Print, text: &[u8]) {
+    let _ = rt.write_all(text);
 }
 
-fn read_case(file: &[u8], longer: bool, table: &mut [u64], names: &mut [u8], shape: &mut [u64]) {
+fn say_number(rt: &impl Print, n: u64) {
+    let _ = rt.print(n);
+}
+
+fn read_case(
+    rt: &impl Print,
+    file: &[u8],
+    longer: bool,
+    table: &mut [u64],
+    names: &mut [u8],
+    shape: &mut [u64],
+) {
     let mut said = [0u64; 6];
     let r = npy::npy_read_held(file, longer, table, names, shape, &mut said);
     if r == 0 {
-        list_record(&said, table, names, shape);
+        list_record(rt, &said, table, names, shape);
     } else {
-        refuse(r);
-        look(table, names, shape);
+        refuse(rt, r);
+        look(rt, table, names, shape);
     }
 }
 
-fn refuse(r: u8) {
-    say(b"refused ");
-    io::print_decimal(STDOUT_FILENO, r as u64);
+fn refuse(rt: &impl Print, r: u8) {
+    say(rt, b"refused ");
+    say_number(rt, r as u64);
 }
 
 // Lists the record at the front of the rooms, and checks the room beyond it.
-fn list_record(said: &[u64; 6], table: &[u64], names: &[u8], shape: &[u64]) {
+fn list_record(rt: &impl Print, said: &[u64; 6], table: &[u64], names: &[u8], shape: &[u64]) {
     let numbers = dtype::ENTRY * least(said[3], table.len() / dtype::ENTRY);
     let bytes = least(said[4], names.len());
     let rank = least(said[2], shape.len());
-    list(said, &table[..numbers], &names[..bytes], &shape[..rank]);
-    look(&table[numbers..], &names[bytes..], &shape[rank..]);
+    list(rt, said, &table[..numbers], &names[..bytes], &shape[..rank]);
+    look(rt, &table[numbers..], &names[bytes..], &shape[rank..]);
 }
 
-fn list(said: &[u64; 6], table: &[u64], names: &[u8], shape: &[u64]) {
+fn list(rt: &impl Print, said: &[u64; 6], table: &[u64], names: &[u8], shape: &[u64]) {
     let mut out = [0u8; LISTING];
     let mut length = [0u64; 1];
     let r = npy::npy_list(
@@ -131,51 +144,51 @@ fn list(said: &[u64; 6], table: &[u64], names: &[u8], shape: &[u64]) {
         &mut length,
     );
     if r == 0 {
-        show(&out, length[0]);
+        show(rt, &out, length[0]);
     } else {
-        refuse(r);
+        refuse(rt, r);
     }
 }
 
 // Prints the listing in one line.
-fn show(room: &[u8], length: u64) {
+fn show(rt: &impl Print, room: &[u8], length: u64) {
     let end = least(length, room.len());
-    show_lines(&room[..end]);
+    show_lines(rt, &room[..end]);
 }
 
-fn show_lines(text: &[u8]) {
+fn show_lines(rt: &impl Print, text: &[u8]) {
     let mut from: usize = 0;
     let mut i: usize = 0;
     while i < text.len() {
-        from = show_line(text, from, i);
+        from = show_line(rt, text, from, i);
         i += 1;
     }
 }
 
 // Prints the line that began at `from` if it ends at `i`, and returns where the next one begins.
-fn show_line(text: &[u8], from: usize, i: usize) -> usize
+fn show_line(rt: &impl Print, text: &[u8], from: usize, i: usize) -> usize
     requires { (from ≤ i) × (i < length text.now) }
     ensures { result ≤ i + 1 }
 {
     if text[i] != b'\n' {
         return from;
     }
-    say(&text[from..i]);
-    part_from(text, i + 1);
+    say(rt, &text[from..i]);
+    part_from(rt, text, i + 1);
     i + 1
 }
 
 // Prints the separator after a line of the listing, except after the last.
-fn part_from(text: &[u8], at: usize) {
+fn part_from(rt: &impl Print, text: &[u8], at: usize) {
     if at < text.len() {
-        say(b"; ");
+        say(rt, b"; ");
     }
 }
 
 // Prints ` changed` unless all of these rooms still hold 5s.
-fn look(table: &[u64], names: &[u8], shape: &[u64]) {
+fn look(rt: &impl Print, table: &[u64], names: &[u8], shape: &[u64]) {
     if !(all_fives64(table) & all_fives8(names) & all_fives64(shape)) {
-        say(b" changed");
+        say(rt, b" changed");
     }
 }
 

@@ -6,8 +6,8 @@ ghost use Rattle.std.specs.Prelude.{◌≤◌, ◌<◌, length};
 
 use counts::Number;
 use dtype::{MOST_NAMES, TABLE};
-use libc::STDOUT_FILENO;
 use run_frames::Frame;
+use std::io::Read;
 use type_letters::Endianness;
 
 // The room for a case.
@@ -31,31 +31,31 @@ const FEW_NUMBERS: u64 = FEW as u64;
 // The most bytes that a case lends.
 const MANY: usize = 131088;
 
-fn main() {
+fn main(rt: HostRuntime) {
     let mut room = [0u8; CASE];
     let mut table = [0u64; TABLE_NUMBERS];
-    run_cases(&mut room, &mut table);
+    run_cases(&rt, &mut rt.stdin(), &mut room, &mut table);
 }
 
 // A proved loop has to end, and nothing says that the input does; no run has this many cases.
-fn run_cases(room: &mut [u8], table: &mut [u64]) {
+fn run_cases(rt: &impl Print, input: &mut impl Read, room: &mut [u8], table: &mut [u64]) {
     let mut turns = u64::MAX;
-    while turns > 0 && run_case(room, table) {
+    while turns > 0 && run_case(rt, input, room, table) {
         turns -= 1;
     }
 }
 
 // Runs one case, and returns whether to go on.
-fn run_case(room: &mut [u8], table: &mut [u64]) -> bool {
-    let Frame::Case(n) = run_frames::next(room) else {
+fn run_case(rt: &impl Print, input: &mut impl Read, room: &mut [u8], table: &mut [u64]) -> bool {
+    let Frame::Case(n) = run_frames::next(input, room) else {
         return false;
     };
-    replay(&room[..n], table);
-    io::write_all(STDOUT_FILENO, b"\n")
+    replay(rt, &room[..n], table);
+    rt.write_all(b"\n").is_ok()
 }
 
 // Runs a case. The numbers of its table are stored at the front of `table`, and only these are lent.
-fn replay(case: &[u8], table: &mut [u64]) {
+fn replay(rt: &impl Print, case: &[u8], table: &mut [u64]) {
     if case.len() == 0 {
         return;
     }
@@ -70,6 +70,7 @@ fn replay(case: &[u8], table: &mut [u64]) {
     let numbers = store(part(parts, 4), table);
     let steps = store(part(parts, 6), &mut path);
     ask(
+        rt,
         case[0],
         &given,
         part(parts, 0),
@@ -150,6 +151,7 @@ fn front(numbers: &[u64], count: usize) -> &[u64] {
 // ---- the calls, by what is lent: three rooms for a record; a room of numbers, bytes or code points; only the values
 
 fn ask(
+    rt: &impl Print,
     op: u8,
     given: &[u64; 7],
     bytes: &[u8],
@@ -160,17 +162,18 @@ fn ask(
     path: &[u64],
 ) {
     if op < 3 {
-        lend_record(op, given, bytes);
+        lend_record(rt, op, given, bytes);
     } else if op < 6 {
-        lend_values(op, given, bytes, table, names, shape, index, path);
+        lend_values(rt, op, given, bytes, table, names, shape, index, path);
     } else if op < 18 {
-        lend_room(op, given, bytes, table, names, shape, index, path);
+        lend_room(rt, op, given, bytes, table, names, shape, index, path);
     } else {
-        lend_value(op, given, bytes, table, names, shape, index, path);
+        lend_value(rt, op, given, bytes, table, names, shape, index, path);
     }
 }
 
 fn lend_values(
+    rt: &impl Print,
     op: u8,
     given: &[u64; 7],
     bytes: &[u8],
@@ -188,20 +191,21 @@ fn lend_values(
     let mut six = [5u64; 6];
     match op {
         3 => {
-            tell4(npy::npy_type_read(bytes, &mut four), &four);
+            tell4(rt, npy::npy_type_read(bytes, &mut four), &four);
         }
         4 => {
-            tell5(npy::npy_check(table, names, shape, a, &mut five), &five);
+            tell5(rt, npy::npy_check(table, names, shape, a, &mut five), &five);
         }
         _ => {
             let r = npy::npy_place(c, b, table, names, shape, a, index, path, &mut six);
-            tell6(r, &six);
+            tell6(rt, r, &six);
         }
     }
 }
 
 // The value of an element, at a place or in a run of bytes.
 fn lend_value(
+    rt: &impl Print,
     op: u8,
     given: &[u64; 7],
     bytes: &[u8],
@@ -220,10 +224,10 @@ fn lend_value(
         18 => npy::npy_element_value(bytes, b, table, names, shape, a, index, path, &mut said),
         _ => npy::npy_read_value(bytes, a, b, c, d, &mut said),
     };
-    tell4(r, &said);
+    tell4(rt, r, &said);
 }
 
-fn lend_record(op: u8, given: &[u64; 7], bytes: &[u8]) {
+fn lend_record(rt: &impl Print, op: u8, given: &[u64; 7], bytes: &[u8]) {
     let mut table = [5u64; TABLE];
     let mut names = [5u8; MOST_NAMES];
     let mut shape = [5u64; DIMENSIONS];
@@ -231,6 +235,7 @@ fn lend_record(op: u8, given: &[u64; 7], bytes: &[u8]) {
     let named = at_most(given[5], MOST_NAMES);
     let rank = at_most(given[6], DIMENSIONS);
     read_record(
+        rt,
         op,
         given[0] != 0,
         bytes,
@@ -241,6 +246,7 @@ fn lend_record(op: u8, given: &[u64; 7], bytes: &[u8]) {
 }
 
 fn read_record(
+    rt: &impl Print,
     op: u8,
     longer: bool,
     bytes: &[u8],
@@ -252,13 +258,13 @@ fn read_record(
     let mut four = [5u64; 4];
     let r = call_read(op, longer, bytes, table, names, shape, &mut six, &mut four);
     if op < 2 {
-        tell6(r, &six);
+        tell6(rt, r, &six);
     } else {
-        tell4(r, &four);
+        tell4(rt, r, &four);
     }
-    show(table);
-    show_bytes(names);
-    show(shape);
+    show(rt, table);
+    show_bytes(rt, names);
+    show(rt, shape);
 }
 
 fn call_read(
@@ -279,6 +285,7 @@ fn call_read(
 }
 
 fn lend_room(
+    rt: &impl Print,
     op: u8,
     given: &[u64; 7],
     bytes: &[u8],
@@ -289,7 +296,7 @@ fn lend_room(
     path: &[u64],
 ) {
     if given[4] <= FEW_NUMBERS {
-        lend_small(op, given, bytes, table, names, shape, index, path);
+        lend_small(rt, op, given, bytes, table, names, shape, index, path);
         return;
     }
     let mut numbers = [5u64; FEW];
@@ -298,6 +305,7 @@ fn lend_room(
     let few = at_most(given[4], FEW);
     let many = at_most(given[4], MANY);
     ask_room(
+        rt,
         op,
         given,
         bytes,
@@ -314,6 +322,7 @@ fn lend_room(
 
 // The same with small rooms, since filling large ones for each case takes long.
 fn lend_small(
+    rt: &impl Print,
     op: u8,
     given: &[u64; 7],
     bytes: &[u8],
@@ -328,6 +337,7 @@ fn lend_small(
     let mut points = [5u32; FEW];
     let few = at_most(given[4], FEW);
     ask_room(
+        rt,
         op,
         given,
         bytes,
@@ -343,6 +353,7 @@ fn lend_small(
 }
 
 fn ask_room(
+    rt: &impl Print,
     op: u8,
     given: &[u64; 7],
     bytes: &[u8],
@@ -359,10 +370,10 @@ fn ask_room(
     let r = call(
         op, given, bytes, table, names, shape, index, path, numbers, out, points, &mut count,
     );
-    tell1(r, &count);
-    show(numbers);
-    show_bytes(out);
-    show_points(points);
+    tell1(rt, r, &count);
+    show(rt, numbers);
+    show_bytes(rt, out);
+    show_points(rt, points);
 }
 
 fn call(
@@ -427,61 +438,66 @@ fn narrow(numbers: &[u64], points: &mut [u32]) {
 
 // ---- the line
 
-fn say(text: &[u8]) {
-    io::write_all(STDOUT_FILENO, text);
+// Writes text. A write that fails is passed over: the line's end then fails too, and ends the run.
+fn say(rt: &impl Print, text: &[u8]) {
+    let _ = rt.write_all(text);
+}
+
+fn say_number(rt: &impl Print, n: u64) {
+    let _ = rt.print(n);
 }
 
 // Prints what was returned, and the values if that is 0 or if they were changed.
-fn tell(r: u8, values: &[u64]) {
-    io::print_decimal(STDOUT_FILENO, r as u64);
+fn tell(rt: &impl Print, r: u8, values: &[u64]) {
+    say_number(rt, r as u64);
     if r == 0 || changed(values) > 0 {
-        say_numbers(values);
+        say_numbers(rt, values);
     }
 }
 
-fn tell1(r: u8, values: &[u64; 1]) {
-    tell(r, values);
+fn tell1(rt: &impl Print, r: u8, values: &[u64; 1]) {
+    tell(rt, r, values);
 }
 
-fn tell4(r: u8, values: &[u64; 4]) {
-    tell(r, values);
+fn tell4(rt: &impl Print, r: u8, values: &[u64; 4]) {
+    tell(rt, r, values);
 }
 
-fn tell5(r: u8, values: &[u64; 5]) {
-    tell(r, values);
+fn tell5(rt: &impl Print, r: u8, values: &[u64; 5]) {
+    tell(rt, r, values);
 }
 
-fn tell6(r: u8, values: &[u64; 6]) {
-    tell(r, values);
+fn tell6(rt: &impl Print, r: u8, values: &[u64; 6]) {
+    tell(rt, r, values);
 }
 
-fn say_numbers(numbers: &[u64]) {
+fn say_numbers(rt: &impl Print, numbers: &[u64]) {
     let mut i: usize = 0;
     while i < numbers.len() {
-        say(b" ");
-        io::print_decimal(STDOUT_FILENO, numbers[i]);
+        say(rt, b" ");
+        say_number(rt, numbers[i]);
         i += 1;
     }
 }
 
 // Prints a room without the 5s at its end.
-fn show(room: &[u64]) {
-    say(b";");
-    say_numbers(front(room, changed(room)));
+fn show(rt: &impl Print, room: &[u64]) {
+    say(rt, b";");
+    say_numbers(rt, front(room, changed(room)));
 }
 
-fn show_bytes(room: &[u8]) {
-    say(b";");
+fn show_bytes(rt: &impl Print, room: &[u8]) {
+    say(rt, b";");
     let end = changed_bytes(room);
-    show_run(&room[..end]);
+    show_run(rt, &room[..end]);
 }
 
 // Prints bytes in hexadecimal, eight at a time.
-fn show_run(run: &[u8]) {
+fn show_run(rt: &impl Print, run: &[u8]) {
     let mut at: usize = 0;
     while at < run.len() {
         let to = next_eight(at, run.len());
-        say_hex(&run[at..to]);
+        say_hex(rt, &run[at..to]);
         at = to;
     }
 }
@@ -493,9 +509,10 @@ fn next_eight(at: usize, end: usize) -> usize
     if end - at < 8 { end } else { at + 8 }
 }
 
-fn say_hex(run: &[u8]) {
+fn say_hex(rt: &impl Print, run: &[u8]) {
     let n = number(run, Endianness::Big);
-    io::print_hex(STDOUT_FILENO, n, 2 * at_most(run.len() as u64, 8));
+    let width = 2 * at_most(run.len() as u64, 8);
+    let _ = print!(rt; "{n:0width$x}");
 }
 
 fn changed(room: &[u64]) -> usize {
@@ -522,19 +539,19 @@ fn changed_bytes(room: &[u8]) -> usize
     n
 }
 
-fn show_points(room: &[u32]) {
-    say(b";");
+fn show_points(rt: &impl Print, room: &[u32]) {
+    say(rt, b";");
     let end = changed_points(room);
     let mut i: usize = 0;
     while i < end {
-        say_point(room[i]);
+        say_point(rt, room[i]);
         i += 1;
     }
 }
 
-fn say_point(p: u32) {
-    say(b" ");
-    io::print_decimal(STDOUT_FILENO, p as u64);
+fn say_point(rt: &impl Print, p: u32) {
+    say(rt, b" ");
+    say_number(rt, p as u64);
 }
 
 fn changed_points(room: &[u32]) -> usize
