@@ -4,7 +4,7 @@ use lib.ListN.{length}
 use Rattle.run_header.proofs.run_cases.Given as goal
 
 abbrev pub invariant-loop-turns : goal.invariant-loop-turns
-invariant-loop-turns l = length l.room ≡ length l.initial.room
+invariant-loop-turns g l = length l.room ≡ length l.initial.room
 
 abbrev pub decreases-loop-turns : goal.decreases-loop-turns
-decreases-loop-turns l = l.turns
+decreases-loop-turns g l = l.turns

@@ -4,7 +4,7 @@ use lib.ListN.{length}
 use Rattle.run_header.proofs.show_lines.Given as goal
 
 abbrev pub invariant-loop-i : goal.invariant-loop-i
-invariant-loop-i l = (l.from ≤ l.i) × (l.i ≤ length l.text)
+invariant-loop-i g l = (l.from ≤ l.i) × (l.i ≤ length l.text)
 
 abbrev pub decreases-loop-i : goal.decreases-loop-i
-decreases-loop-i l = length l.text - l.i
+decreases-loop-i g l = length l.text - l.i

@@ -4,7 +4,7 @@ use lib.ListN.{length}
 use Rattle.run_npy.proofs.say_numbers.Given as goal
 
 abbrev pub invariant-loop-i : goal.invariant-loop-i
-invariant-loop-i l = i ≤ length numbers
+invariant-loop-i g l = l.i ≤ length l.numbers
 
 abbrev pub decreases-loop-i : goal.decreases-loop-i
-decreases-loop-i l = length numbers - i
+decreases-loop-i g l = length l.numbers - l.i
