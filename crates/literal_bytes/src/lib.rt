@@ -29,6 +29,10 @@ pub const ZERO: u16 = b'0' as u16;
 
 const NINE: u16 = b'9' as u16;
 
+const SINGLE_QUOTE: u16 = b'\'' as u16;
+
+const DOUBLE_QUOTE: u16 = b'"' as u16;
+
 // A value that ends before the position; or refusal 6 or 7 at the position.
 #[derive(Clone, Copy)]
 pub enum Parsed {
@@ -79,6 +83,12 @@ pub fn is_digit(b: u16) -> bool
     (ZERO <= b) & (b <= NINE)
 }
 
+fn is_quote(b: u16) -> bool
+    ensures { result ≡ is_quote b }
+{
+    (b == SINGLE_QUOTE) | (b == DOUBLE_QUOTE)
+}
+
 pub fn is_open(b: u16) -> bool
     ensures { result ≡ is_open b }
 {
@@ -96,11 +106,7 @@ pub fn is_break(b: u8) -> bool
 pub fn quote_at(text: &[u8], at: usize) -> bool
     ensures { result ≡ is_quote (byte_at text.now at) }
 {
-    if text.len() <= at {
-        return false;
-    }
-    let b = text[at];
-    (b == b'\'') | (b == b'"')
+    is_quote(peek(text, at))
 }
 
 // What a value that begins with the word letter is.
@@ -127,8 +133,18 @@ fn bracket_kind(b: u8) -> ValueKind
     }
 }
 
-// What a value that begins with the byte is, by the class of the byte.
-fn kind_of(b: u8) -> ValueKind
+// What a value that begins with the byte is.
+fn kind_of(b: u16) -> ValueKind
+    ensures { result ≡ kind_of b }
+{
+    if PAST <= b {
+        return ValueKind::Other;
+    }
+    kind_by_class(b as u8)
+}
+
+// The same of a byte of a text, by the class of the byte.
+fn kind_by_class(b: u8) -> ValueKind
     ensures { result ≡ kind_of b }
 {
     let class = class_of(b);
@@ -146,11 +162,7 @@ fn kind_of(b: u8) -> ValueKind
 pub fn kind_at(text: &[u8], at: usize) -> ValueKind
     ensures { result ≡ kind_of (byte_at text.now at) }
 {
-    let b = peek(text, at);
-    if PAST <= b {
-        return ValueKind::Other;
-    }
-    kind_of(b as u8)
+    kind_of(peek(text, at))
 }
 
 // Whether each byte of a block is a blank, in one pass without an early end, so that the compiler can take the whole block at a time.

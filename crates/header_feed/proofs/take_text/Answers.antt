@@ -36,7 +36,7 @@ returns-then-stored-n c = λ was taken h e.
 pub slice_bounds-read_whole-end-2 : goal.slice_bounds-read_whole-end-2
 slice_bounds-read_whole-end-2 c =
     let same = hand_length c.requires.0.0 c.args.text.now c.requires.0.1 c.args.head c.args.got (rooms c.args.table.now c.args.names.now c.args.shape.now) c.requires.0.2 (prefix_is c.args.p) c.requires.0.3 c.args.part.now c.args.used c.if-text-length.false _ c.text_start-start.ensures _ _ c.less.ensures c.least-n.ensures _ c.copy.ensures in
-    sym (length-take-le c.args.p.length c.copy.new.0 (omega (arith, same, c.if-text-length.false)))
+    sym (length-take-le c.args.p.length c.copy.new.out (omega (arith, same, c.if-text-length.false)))
 
 pub overflow_add-got-2 : goal.overflow_add-got-2
 overflow_add-got-2 c =

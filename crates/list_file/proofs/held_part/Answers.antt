@@ -5,7 +5,7 @@ use lib.Seq.{take_all, length-take-le}
 use Rattle.list_file.proofs.held_part.Goals as goal
 
 pub slice_bounds-result-end : goal.slice_bounds-result-end
-slice_bounds-result-end c = sym (length-take-le _ c.args.file.now (omega (arith, c.if1.true)))
+slice_bounds-result-end c = sym (length-take-le _ c.args.file.now (omega (arith, c.if-file-gt-HELD.true)))
 
 pub returns : goal.returns
 returns c = sym (take_all 65536 c.args.file.now (omega (arith, c.if-file-gt-HELD.false)))

@@ -5,7 +5,7 @@ use lib.Seq.{take_all, length-take-le}
 use Rattle.read_back.proofs.names_of.Goals as goal
 
 pub slice_bounds-result-end : goal.slice_bounds-result-end
-slice_bounds-result-end c = sym (length-take-le c.args.bytes c.args.names.now (omega (arith, c.if1.true)))
+slice_bounds-result-end c = sym (length-take-le c.args.bytes c.args.names.now (omega (arith, c.if-bytes-names.true)))
 
 pub returns : goal.returns
 returns c = sym (take_all c.args.bytes c.args.names.now (omega (arith, c.if-bytes-names.false)))

@@ -15,7 +15,7 @@ use Rattle.type_str.specs.Text.{is_type}
 use Rattle.string_value.proofs.Trims.{trim_take, trim_length}
 use Rattle.string_value.proofs.Ways.{read_bytes_none, read_bytes_by, in_bytes, in_raw, in_none}
 use Rattle.string_element.proofs.read_bytes.Goals as goal
-use Rattle.string_element.proofs.read_bytes.Goals.{After-is_type, Else-not-is_type}
+use Rattle.string_element.proofs.read_bytes.Goals.{Else-not-is_type}
 
 pub returns-then-not-is_type : goal.returns-then-not-is_type
 returns-then-not-is_type c = owes_same _ _ _ _ _ (read_bytes_none _ c.args.run.now _ (sym c.is_type.ensures ∙ not-true _ c.if-not-is_type.true-raw)) (owes_refused 27 _)
@@ -25,14 +25,14 @@ typed : (c : goal.Else-not-is_type) → is_type c.args.t ≡ true
 typed c = sym c.is_type.ensures ∙ not-false _ c.if-not-is_type.false-raw
 
 pub slice_bounds-copy-end : goal.slice_bounds-copy-end
-slice_bounds-copy-end c = sym (length-take-le _ _ (omega (arith, c.kept.ensures, trim_length c.args.run.now)))
+slice_bounds-copy-end c = sym (length-take-le _ _ (omega (arith, c.kept-n.ensures, trim_length c.args.run.now)))
 
 pub returns-in-ByteStr : goal.returns-in-ByteStr
 returns-in-ByteStr c =
     let a = c.args in
-    let left = ap (λ (n : ℕ). take n a.run.now) c.kept.ensures ∙ trim_take a.run.now in
+    let left = ap (λ (n : ℕ). take n a.run.now) c.kept-n.ensures ∙ trim_take a.run.now in
     owes_same _ _ _ _ _
-    (read_bytes_by a.t a.run.now _ (typed (goal.at.returns-in-ByteStr c).After-is_type) _ (in_bytes _ _ c.enum_told.given.1))
+    (read_bytes_by a.t a.run.now _ (typed (goal.at.returns-in-ByteStr c).Else-not-is_type) _ (in_bytes _ _ c.in-ByteStr.is))
     (rw left at c.copy.ensures)
 
 pub returns-in-RawData : goal.returns-in-RawData
