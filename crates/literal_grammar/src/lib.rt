@@ -2,6 +2,5 @@
 // Every crate that reads or writes header text is proved against it.
 #![tactic(auto)]
 
-
 // The most brackets that may be open at once: one more is refused with 7.
 pub const MOST_OPEN: usize = 32;
