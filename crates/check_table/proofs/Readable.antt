@@ -2,7 +2,7 @@
 use Prim.Native.Nat.{ℕ}
 use native.Mathlib.Omega.{arith}
 use mathlib.Core.Path.{◌≡◌, refl, ap}
-use mathlib.Core.Bool.{Bool, true, false, ◌||◌, not}
+use mathlib.Core.Bool.{Bool, false, ◌||◌, not}
 use mathlib.Core.List.{List}
 use borrow.Author.Tests.{not-false}
 use Rattle.counts.specs.Outcome.{Outcome, gives, refused}

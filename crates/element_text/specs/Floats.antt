@@ -1,6 +1,6 @@
 -- The exact text of a float, from its bits (IEEE 754's interchange formats): `-` where the sign bit is set; then `inf`, `nan(0x400000)` with the fraction of the NaN, or the
 -- number in hexadecimal, in the form that C's strtod reads: `0x1.800000p+3` is 1.5 times 2^3. One definition for all formats. Each text comes before whatever follows.
-use Rattle.std.specs.Prelude.{ℕ, ◌+◌, ◌*◌, ◌-◌, ◌/◌, ◌%◌, ◌^◌, cond, List, ◌∷◌, eqb, leb}
+use Rattle.std.specs.Prelude.{ℕ, ◌*◌, ◌-◌, ◌/◌, ◌%◌, ◌^◌, cond, List, ◌∷◌, eqb, leb}
 use Rattle.decimal.specs.Decimal.{printed}
 use Rattle.element_text.specs.Hexadecimal.{hex_digits}
 use Rattle.element_text.specs.declared.Parts.{Parts}

@@ -16,7 +16,6 @@ use Rattle.refusal.proofs.Answers.{answer_for, answer_one}
 use Rattle.record.specs.Prefix as before
 use Rattle.number_bytes.specs.Numbers.{little}
 use Rattle.header_prefix.specs.declared.Version.{Version}
-use Rattle.header_prefix.specs.declared.Prefix.{Prefix}
 use Rattle.header_prefix.specs.declared.PrefixRead.{PrefixRead}
 use Rattle.header_prefix.specs.Answer.{version_is, answer}
 

@@ -1,5 +1,5 @@
 -- The table is the comparisons at every byte: one test over the whole table, which is computed, and a law that turns it into the fact at each byte.
-use mathlib.Core.Path.{◌≡◌, sym, ap, ◌∙◌}
+use mathlib.Core.Path.{◌≡◌, sym}
 use mathlib.Core.Bool.{Bool}
 use Prim.Native.Nat.{ℕ, suc, ◌<◌, ◌≤◌}
 use native.Mathlib.Omega.{arith}

@@ -13,7 +13,6 @@ use Rattle.literal_bytes.specs.declared.Parsed.{Parsed}
 use Rattle.literal_bytes.specs.declared.Parsed.TheVariants.{Value}
 use Rattle.literal_bytes.specs.declared.Gap.{Gap}
 use Rattle.literal_bytes.specs.declared.Gap.TheVariants.{Shut, Item, Stray}
-use Rattle.literal_bytes.specs.contracts.Parsed.{the_type}
 use Rattle.literal_bytes.specs.contracts.Gap as gap
 use Rattle.literal_bytes.proofs.GapEnds.{GapAhead}
 use Rattle.literal.proofs.Rows.{row_step, row_shut, row_stray}

@@ -1,7 +1,7 @@
 -- The name of units, letter by letter: nothing, one letter, or two, the second of which is `s`; and their text, nothing or the name in brackets.
 use Prim.Native.Nat.{ℕ}
 use mathlib.Core.Path.{◌≡◌, refl}
-use mathlib.Core.Bool.{Bool, true, false, cond}
+use mathlib.Core.Bool.{true, false, cond}
 use mathlib.Core.List.{List, ◌∷◌, ◌++◌}
 use lib.ListN.{get_or}
 use Rattle.emit.specs.Emits.{Emits}

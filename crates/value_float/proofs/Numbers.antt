@@ -1,6 +1,6 @@
 -- A half float that is a number, by its digits and a power of two: their product is the nearest single float, and no NaN.
 use mathlib.Core.Path.{◌≡◌, sym, ap, ◌∙◌, subst}
-use Prim.Native.Nat.{ℕ, ◌*◌, ◌^◌, ◌<◌, ◌≤◌}
+use Prim.Native.Nat.{ℕ, ◌*◌, ◌^◌, ◌<◌}
 use native.Mathlib.Nat.{zero-lt-suc, le_of_lt, lt_of_lt_of_le}
 use mathlib.Core.Bool.{Bool, false, not}
 use lib.Dec.{T, lit≤}

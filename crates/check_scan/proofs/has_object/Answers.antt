@@ -4,7 +4,6 @@ use Rattle.table_entry.proofs.Walks.{none_passes, one_passes}
 use Rattle.dtype.specs.Seen.{object_at}
 use borrow.Author.Count.{below_more}
 use native.Mathlib.Omega.{arith}
-use mathlib.Core.Bool.{false}
 use Rattle.check_scan.proofs.has_object.Goals as goal
 
 pub loop-e-init : goal.loop-e-init

@@ -1,4 +1,3 @@
-use Prim.Native.Nat.{ℕ}
 use Rattle.emit.proofs.+put_count.Given as goal
 
 -- The measure is n.

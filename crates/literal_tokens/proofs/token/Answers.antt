@@ -1,5 +1,4 @@
 -- The kind of the first byte decides, as in the definition; a byte that can begin something is in the text.
-use borrow.Enum.Refused.{opened}
 use Prim.Native.Nat.{ℕ, ◌+◌}
 use mathlib.Core.Path.{◌≡◌, refl, sym, ap, ◌∙◌}
 use native.Mathlib.Omega.{arith}

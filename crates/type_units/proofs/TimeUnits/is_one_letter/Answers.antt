@@ -1,5 +1,4 @@
 -- `TimeUnits::is_one_letter` meets its contract: one of the seven of one letter, none, or one of the six of two.
-use borrow.Enum.Refused.{opened}
 use mathlib.Core.Path.{refl}
 use mathlib.Core.List.{[], ◌∷◌}
 use Rattle.type_units.specs.Units.{unit_name, is_one}
