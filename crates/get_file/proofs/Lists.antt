@@ -9,7 +9,7 @@ use lib.Dec.{eqb}
 use lib.ListN.{length, get_or, take, drop, set, drop_of_length-le}
 use lib.Seq.{sets, drop-cons, length-take-le, take_all}
 use borrow.Author.Tests.{eq-eqb, ne_eqb}
-use Rattle.counts.specs.Outcome.{Outcome, gives, refused, each}
+use Rattle.counts.specs.Outcome.{Outcome, gives, refused}
 use Rattle.counts.specs.Number.{capped}
 use Rattle.counts.specs.Lists.{same, at_front}
 use Rattle.counts.specs.Owes.{Owes}

@@ -1,9 +1,9 @@
 -- What a call owes, of what its steps have in hand.
-use Prim.Native.Nat.{ℕ, zero, suc, ◌+◌, ◌-◌, ◌<◌, ◌≤◌, min}
+use Prim.Native.Nat.{ℕ, ◌+◌, ◌-◌, ◌<◌, ◌≤◌, min}
 use native.Mathlib.Omega.{arith}
 use mathlib.Core.Path.{◌≡◌, refl, ap, sym, ◌∙◌, subst}
-use mathlib.Core.Logic.{◌⊎◌, inl, inr, ⊎_elim}
-use mathlib.Core.List.{List, [], ◌∷◌, ◌++◌, append_assoc, append-nil}
+use mathlib.Core.Logic.{⊎_elim}
+use mathlib.Core.List.{List, [], ◌++◌, append_assoc, append-nil}
 use mathlib.Core.Bool.{Bool, true, false}
 use lib.Dec.{eqb}
 use lib.ListN.{length, take, drop, length-append, length-drop, drop_of_length-le}
@@ -11,10 +11,9 @@ use lib.Seq.{paste, take-add, length-take-le, length-paste}
 use borrow.Author.Tests.{lt-ltb, le-ltb}
 use Rattle.counts.specs.Lists.{at_front}
 use Rattle.counts.specs.Outcome.{Outcome, gives, refused, then, each, afterwards}
-use Rattle.counts.proofs.Sides.{lt_or_ge}
 use Rattle.refusal.specs.declared.Refusal.{Refusal}
 use Rattle.refusal.specs.Numbers.{number_of}
-use Rattle.record.specs.Prefix.{Version, text_start, Prefix, data_start_of, prefix, text_held}
+use Rattle.record.specs.Prefix.{text_start, Prefix, data_start_of, prefix, text_held}
 use Rattle.record.specs.Rooms.{Lent, rooms_of}
 use Rattle.record.specs.Header as header
 use Rattle.judge.specs.Judged.{reading}

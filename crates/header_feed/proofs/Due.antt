@@ -1,14 +1,14 @@
 -- THE BYTE WITH WHICH THE OUTCOME COMES: the first bytes of a file bring it exactly where they reach the byte that is due, so that many bytes of the file are taken, or all.
-use Prim.Native.Nat.{ℕ, ◌+◌, ◌-◌, ◌<◌, ◌≤◌, min}
+use Prim.Native.Nat.{ℕ, ◌<◌, ◌≤◌, min}
 use native.Mathlib.Omega.{arith}
 use mathlib.Core.Path.{◌≡◌, refl, ap, sym, ◌∙◌}
-use mathlib.Core.Logic.{◌⊎◌, inl, inr, ⊎_elim}
+use mathlib.Core.Logic.{◌⊎◌, ⊎_elim}
 use mathlib.Core.List.{List, [], ◌++◌}
 use mathlib.Core.Bool.{Bool, true, false, cond}
-use lib.Dec.{leb, ltb}
-use lib.ListN.{length, take, drop, length-drop, take-append-drop}
+use lib.Dec.{ltb}
+use lib.ListN.{length, take, drop, take-append-drop}
 use lib.Seq.{take_all, take-take, length-take-le}
-use borrow.Author.Tests.{lt-ltb, le-ltb, lt-leb, le-leb, leb-true}
+use borrow.Author.Tests.{lt-ltb, le-ltb, lt-leb, le-leb}
 use Rattle.counts.specs.Outcome.{Outcome, gives, refused}
 use Rattle.counts.proofs.Sides.{lt_or_ge}
 use Rattle.record.specs.Prefix.{Prefix, text_start, data_start_of, prefix}

@@ -1,18 +1,18 @@
 -- The bytes before the text, taken in two stretches: up to byte 8, and where the prefix is then 3, up to where the text starts. Nothing is decided on the way.
-use Prim.Native.Nat.{ℕ, zero, suc, ◌+◌, ◌-◌, ◌<◌, ◌≤◌, min}
+use Prim.Native.Nat.{ℕ, ◌+◌, ◌-◌, ◌<◌, ◌≤◌, min}
 use native.Mathlib.Omega.{arith}
-use mathlib.Core.Path.{◌≡◌, refl, ap, sym, ◌∙◌}
-use mathlib.Core.Logic.{◌⊎◌, inl, inr, ⊎_elim}
-use mathlib.Core.List.{List, [], ◌∷◌, ◌++◌, append_assoc}
+use mathlib.Core.Path.{◌≡◌, ap, sym, ◌∙◌}
+use mathlib.Core.Logic.{inl, inr, ⊎_elim}
+use mathlib.Core.List.{List, ◌++◌, append_assoc}
 use mathlib.Core.Bool.{false}
 use lib.ListN.{length, take, drop, length-append, length-drop}
 use lib.Seq.{paste, take-add, length-take-le}
-use Rattle.counts.specs.Outcome.{Outcome, gives, refused}
+use Rattle.counts.specs.Outcome.{Outcome, refused}
 use Rattle.counts.proofs.Sides.{lt_or_ge}
 use Rattle.record.specs.Prefix.{Prefix, prefix}
 use Rattle.header_feed.specs.declared.Grows.{Grows}
 use Rattle.header_feed.specs.Due.{decided, start_in}
-use Rattle.header_feed.specs.Steps.{Grown, BytesHeld, HeadTaken, TakesHead}
+use Rattle.header_feed.specs.Steps.{Grown, BytesHeld, HeadTaken}
 use Rattle.header_feed.proofs.Prefixes.{start_bounds, start_append, three_short, three_stays, start_not_three}
 use Rattle.header_feed.proofs.Decides.{short_undecided, three_undecided}
 use Rattle.header_feed.proofs.Holds.{held_start, held_prefix, held_none, held_more}

@@ -1,9 +1,9 @@
 -- What is held of the bytes taken so far: in the head and at the front of the text buffer.
-use Prim.Native.Nat.{ℕ, zero, suc, ◌+◌, ◌-◌, ◌<◌, ◌≤◌, min}
+use Prim.Native.Nat.{ℕ, ◌+◌, ◌-◌, ◌<◌, ◌≤◌, min}
 use native.Mathlib.Omega.{arith}
 use mathlib.Core.Path.{◌≡◌, refl, ap, sym, ◌∙◌}
 use mathlib.Core.Logic.{⊎_elim}
-use mathlib.Core.List.{List, [], ◌∷◌, ◌++◌, append_assoc, append-nil}
+use mathlib.Core.List.{List, ◌++◌, append-nil}
 use lib.ListN.{length, take, drop, length-append, length-take, length-drop, take-append-drop, drop_of_length-le}
 use lib.Seq.{paste, paste-zero, take_all, take-take, take_at, drop_at, take-append-le, take-append-add, drop-append-le, drop-append-add, drop-drop, length-take-le, length-paste}
 use Rattle.counts.specs.Lists.{at_front}

@@ -1,6 +1,6 @@
 -- Which reading of texts as literals is meant does not matter, if it keeps the promise of crate literal_grammar: a call by the literal's own is one by any other.
 use Prim.Native.Nat.{ℕ}
-use mathlib.Core.Path.{◌≡◌, ap, ◌∙◌, subst}
+use mathlib.Core.Path.{◌≡◌, ap, ◌∙◌}
 use mathlib.Core.List.{List, ◌++◌}
 use mathlib.Core.Bool.{cond, false}
 use lib.Dec.{ltb}

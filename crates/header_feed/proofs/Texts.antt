@@ -25,8 +25,7 @@ use Rattle.header.specs.declared.RecordInfo.{RecordInfo}
 use Rattle.header.specs.declared.TextRead.{TextRead}
 use Rattle.header.specs.Reads.{HeaderInfo, header_info, info_of, text_answer, ReadsText}
 use Rattle.header_feed.specs.declared.Fed.{Fed}
-use Rattle.header_feed.specs.declared.Grows.{Grows}
-use Rattle.header_feed.specs.Feeds.{Progress, outcome, progress}
+use Rattle.header_feed.specs.Feeds.{outcome, progress}
 use Rattle.header_feed.specs.Steps.{Grown, ReadsWhole}
 
 pub start_small : (v : version.Version) → text_start v ≤ 12

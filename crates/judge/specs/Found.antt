@@ -3,7 +3,6 @@ use Rattle.std.specs.Prelude.{ℕ, ◌≡◌, List}
 use Rattle.counts.specs.Outcome.{Outcome, gives, refused, then, each}
 use Rattle.refusal.specs.Numbers.{number_of}
 use Rattle.literal_grammar.specs.Value.{Value}
-use Rattle.dtype.specs.Dtype.{Dtype}
 use Rattle.record.specs.Dimensions.{shape_of}
 use Rattle.record.specs.Descr.{descr_of}
 use Rattle.literal_tokens.specs.Node.{Node}

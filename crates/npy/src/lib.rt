@@ -1,4 +1,4 @@
-// The C interface (include/npy.h): each function calls one function of the crates below and returns its answer as numbers. Called from C, and by run_npy, run_header, run_feed and claims.
+// The C interface (include/npy.h): each function calls one function of the crates below and returns its answer as numbers. Called by npy_c, which exports them to C, and by run_npy, run_header, run_feed and claims.
 // It returns 0 and writes its values, or returns the refusal's number and leaves all that it was lent as it was; `npy_feed` also returns 255. For a feeder's numbers `npy_feed` writes the feeder, the text buffer
 // and `used` also where it does not return 0, and `npy_feed_end` the feeder. Orders, versions, types and feeders are given by their numbers, and any number is an input. (A refusal::Refusal is returned as its number; a type has a type_letters::Endianness, a type_letters::TypeChar and a type_units::TimeUnits, a value a value_float::Single or a
 // value_float::Double.)
@@ -31,8 +31,7 @@ use refusal::Refusal;
 use type_str::TypeRead;
 
 // The header of a file. Its record goes to the three lent rooms; `said` is its version, order, rank, entries, name bytes and where the data starts.
-#[unsafe(no_mangle)]
-pub extern "C" fn npy_read(
+pub fn npy_read(
     file: &[u8],
     table: &mut [u64],
     names: &mut [u8],
@@ -45,8 +44,7 @@ pub extern "C" fn npy_read(
 }
 
 // The same for a file of which only the first bytes are held: `longer` if it has more.
-#[unsafe(no_mangle)]
-pub extern "C" fn npy_read_held(
+pub fn npy_read_held(
     file: &[u8],
     longer: bool,
     table: &mut [u64],
@@ -61,8 +59,7 @@ pub extern "C" fn npy_read_held(
 
 // A part of a header, to a feeder, whose numbers become those of the feeder after it. The text goes to the front of `text`, a record to the three lent rooms; `said` is as of npy_read, and `used` is how
 // many bytes of the part were used.
-#[unsafe(no_mangle)]
-pub extern "C" fn npy_feed(
+pub fn npy_feed(
     feeder: &mut [u64; FEEDER],
     part: &[u8],
     text: &mut [u8],
@@ -111,8 +108,7 @@ fn feed_more(
 }
 
 // The end of the input, to a feeder: 1 or 3 if it needs more, which its numbers then say; else the outcome that it has said.
-#[unsafe(no_mangle)]
-pub extern "C" fn npy_feed_end(feeder: &mut [u64; FEEDER], said: &mut [u64; 6]) -> u8
+pub fn npy_feed_end(feeder: &mut [u64; FEEDER], said: &mut [u64; 6]) -> u8
     ensures { EndsInC feeder.old said.old result feeder.new said.new }
 {
     match npy_codes::feeder_says(*feeder) {
@@ -134,8 +130,7 @@ fn end_more(feeder: &mut [u64; FEEDER], said: &mut [u64; 6]) -> u8
 }
 
 // The record of a header's text, of any length; `said` is its order, rank, entries and name bytes.
-#[unsafe(no_mangle)]
-pub extern "C" fn npy_read_text(
+pub fn npy_read_text(
     text: &[u8],
     table: &mut [u64],
     names: &mut [u8],
@@ -148,14 +143,7 @@ pub extern "C" fn npy_read_text(
 }
 
 // Whether a record is one that some reading gives, 7 and 4 aside; `said` is its rank, entries, 1 and its item size or 0 and 0, and its item count.
-#[unsafe(no_mangle)]
-pub extern "C" fn npy_check(
-    table: &[u64],
-    names: &[u8],
-    shape: &[u64],
-    order: u64,
-    said: &mut [u64; 5],
-) -> u8
+pub fn npy_check(table: &[u64], names: &[u8], shape: &[u64], order: u64, said: &mut [u64; 5]) -> u8
     ensures { Returns summary_values (then (order_for order) (λ o. each summary (checked_record table.now names.now shape.now o))) said.old result said.new }
 {
     match npy_codes::order_for(order) {
@@ -168,8 +156,7 @@ pub extern "C" fn npy_check(
 }
 
 // The header of a record, at the front of `out`; `count` is its length.
-#[unsafe(no_mangle)]
-pub extern "C" fn npy_write_header(
+pub fn npy_write_header(
     table: &[u64],
     names: &[u8],
     shape: &[u64],
@@ -189,8 +176,7 @@ pub extern "C" fn npy_write_header(
 }
 
 // The listing of a record, as document 01 prints it, at the front of `out`; `count` is its length.
-#[unsafe(no_mangle)]
-pub extern "C" fn npy_list(
+pub fn npy_list(
     version: u64,
     start: u64,
     table: &[u64],
@@ -231,8 +217,7 @@ fn list_as(
 }
 
 // The item count of a shape.
-#[unsafe(no_mangle)]
-pub extern "C" fn npy_count(shape: &[u64], order: u64, count: &mut [u64; 1]) -> u8
+pub fn npy_count(shape: &[u64], order: u64, count: &mut [u64; 1]) -> u8
     ensures { Returns one_number (then (order_for order) (λ o. item_count o shape.now)) count.old result count.new }
 {
     match npy_codes::order_for(order) {
@@ -242,13 +227,7 @@ pub extern "C" fn npy_count(shape: &[u64], order: u64, count: &mut [u64; 1]) -> 
 }
 
 // The strides of a shape, in items, at the front of `out`; `count` is the item count.
-#[unsafe(no_mangle)]
-pub extern "C" fn npy_strides(
-    shape: &[u64],
-    order: u64,
-    out: &mut [u64],
-    count: &mut [u64; 1],
-) -> u8
+pub fn npy_strides(shape: &[u64], order: u64, out: &mut [u64], count: &mut [u64; 1]) -> u8
     ensures { StridesInC shape.now order out.old count.old result out.new count.new }
 {
     match npy_codes::order_for(order) {
@@ -258,13 +237,7 @@ pub extern "C" fn npy_strides(
 }
 
 // The number of the item that an index names.
-#[unsafe(no_mangle)]
-pub extern "C" fn npy_item_number(
-    shape: &[u64],
-    order: u64,
-    index: &[u64],
-    item: &mut [u64; 1],
-) -> u8
+pub fn npy_item_number(shape: &[u64], order: u64, index: &[u64], item: &mut [u64; 1]) -> u8
     ensures { Returns one_number (then (order_for order) (λ o. item_of o shape.now index.now)) item.old result item.new }
 {
     match npy_codes::order_for(order) {
@@ -277,8 +250,7 @@ pub extern "C" fn npy_item_number(
 }
 
 // The place of an index and a path in a file of `file` bytes; `run` is its first byte, how many, and the type's four numbers.
-#[unsafe(no_mangle)]
-pub extern "C" fn npy_place(
+pub fn npy_place(
     file: u64,
     start: u64,
     table: &[u64],
@@ -310,8 +282,7 @@ pub extern "C" fn npy_place(
 }
 
 // The element S or V at its place in a file, at the front of `out`; `count` is how many bytes were written.
-#[unsafe(no_mangle)]
-pub extern "C" fn npy_element_bytes(
+pub fn npy_element_bytes(
     file: &[u8],
     start: u64,
     table: &[u64],
@@ -335,8 +306,7 @@ pub extern "C" fn npy_element_bytes(
 }
 
 // The element U at its place in a file, at the front of `out`; `count` is how many code points were written.
-#[unsafe(no_mangle)]
-pub extern "C" fn npy_element_points(
+pub fn npy_element_points(
     file: &[u8],
     start: u64,
     table: &[u64],
@@ -360,8 +330,7 @@ pub extern "C" fn npy_element_points(
 }
 
 // The value of the element at its place in a file; `said` is its kind, its bits as two numbers, and its units.
-#[unsafe(no_mangle)]
-pub extern "C" fn npy_element_value(
+pub fn npy_element_value(
     file: &[u8],
     start: u64,
     table: &[u64],
@@ -384,8 +353,7 @@ pub extern "C" fn npy_element_value(
 }
 
 // The element S or V in a run of bytes, at the front of `out`; `count` is how many bytes were written.
-#[unsafe(no_mangle)]
-pub extern "C" fn npy_read_bytes(
+pub fn npy_read_bytes(
     run: &[u8],
     order: u64,
     letter: u64,
@@ -406,8 +374,7 @@ pub extern "C" fn npy_read_bytes(
 }
 
 // The element U in a run of bytes, at the front of `out`; `count` is how many code points were written.
-#[unsafe(no_mangle)]
-pub extern "C" fn npy_read_points(
+pub fn npy_read_points(
     run: &[u8],
     order: u64,
     letter: u64,
@@ -428,8 +395,7 @@ pub extern "C" fn npy_read_points(
 }
 
 // The value in a run of bytes; `said` is its kind, its bits as two numbers, and its units.
-#[unsafe(no_mangle)]
-pub extern "C" fn npy_read_value(
+pub fn npy_read_value(
     run: &[u8],
     order: u64,
     letter: u64,
@@ -446,8 +412,7 @@ pub extern "C" fn npy_read_value(
 }
 
 // The run of an element S or V, at the front of `out`; `count` is its length in bytes.
-#[unsafe(no_mangle)]
-pub extern "C" fn npy_write_bytes(
+pub fn npy_write_bytes(
     order: u64,
     letter: u64,
     size: u64,
@@ -468,8 +433,7 @@ pub extern "C" fn npy_write_bytes(
 }
 
 // The run of an element U, at the front of `out`; `count` is its length in bytes.
-#[unsafe(no_mangle)]
-pub extern "C" fn npy_write_points(
+pub fn npy_write_points(
     order: u64,
     letter: u64,
     size: u64,
@@ -490,16 +454,14 @@ pub extern "C" fn npy_write_points(
 }
 
 // The type that a type string gives, as its four numbers.
-#[unsafe(no_mangle)]
-pub extern "C" fn npy_type_read(text: &[u8], said: &mut [u64; 4]) -> u8
+pub fn npy_type_read(text: &[u8], said: &mut [u64; 4]) -> u8
     ensures { Returns type_values (type_string text.now) said.old result said.new }
 {
     npy_codes::return_type(type_read::parse(text), said)
 }
 
 // The type string of a type, at the front of `out`; `count` is its length.
-#[unsafe(no_mangle)]
-pub extern "C" fn npy_type_print(
+pub fn npy_type_print(
     order: u64,
     letter: u64,
     size: u64,

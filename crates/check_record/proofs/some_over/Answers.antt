@@ -3,7 +3,6 @@ use Rattle.table_entry.proofs.Walks.{none_passes, one_passes}
 use Rattle.dtype.specs.Seen.{over_at}
 use borrow.Author.Count.{below_more}
 use native.Mathlib.Omega.{arith}
-use mathlib.Core.Bool.{false}
 use mathlib.Core.Path.{sym, ◌∙◌}
 use Rattle.check_record.proofs.some_over.Goals as goal
 

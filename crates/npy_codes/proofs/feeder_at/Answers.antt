@@ -7,4 +7,4 @@ use Rattle.header_feed.specs.declared.Fed.{Fed}
 use Rattle.npy_codes.proofs.feeder_at.Goals as goal
 
 pub returns : goal.returns
-returns c = ap (λ (h : List ℕ). record { head = h; taken = get_or c.args.t1 12 0; said = Fed.More }) c.head_at.ensures
+returns c = ap (λ (h : List ℕ). record { head = h; taken = get_or c.args.numbers 12 0; said = Fed.More }) c.head_at.ensures

@@ -13,4 +13,4 @@ pub loop-i-preserved : goal.loop-i-preserved
 loop-i-preserved c = head_next _ _ _ _ c.loop-i.invariant c.loop-i-test.true
 
 pub returns : goal.returns
-returns c = head_end _ c.args.t1 _ _ _ refl c.well_formed.0.1.0.1 c.loop-i.invariant c.loop-i-test.false
+returns c = head_end _ c.args.head _ _ _ refl c.well_formed.0.1.0.1 c.loop-i.invariant c.loop-i-test.false

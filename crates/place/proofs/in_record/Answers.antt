@@ -1,17 +1,15 @@
 -- `place::in_record` meets its contract: the item's refusals first, then what the path names in the item.
 use Rattle.check_table.proofs.Readable.{readable_typed}
 use Rattle.place_area.specs.Answer.{answer}
-use Rattle.place_area.specs.Indexed.{indexed}
 use Rattle.place_area.proofs.Answers.{item_shows}
 use Rattle.place.specs.Walk.{Finds, Accepted}
 use Rattle.place.proofs.Placing.{answer_refused, follow_asks, answer_path, answer_over, answer_at}
 use Rattle.dtype.specs.Dtype.{Dtype}
-use Rattle.counts.specs.Outcome.{gives}
 use Rattle.counts.proofs.OneOutcome.{matched}
 use native.Mathlib.Omega.{arith}
 use mathlib.Core.List.{List}
-use mathlib.Core.Path.{◌≡◌, sym, ◌∙◌}
-use Prim.Native.Nat.{ℕ, ◌^◌, ◌<◌}
+use mathlib.Core.Path.{sym, ◌∙◌}
+use Prim.Native.Nat.{ℕ}
 use Rattle.place.proofs.in_record.Goals as goal
 use Rattle.place.proofs.in_record.Goals.{After-follow-found}
 

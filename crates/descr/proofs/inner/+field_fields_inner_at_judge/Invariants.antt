@@ -1,7 +1,6 @@
-use Prim.Native.Nat.{ℕ, ◌+◌, ◌*◌}
+use Prim.Native.Nat.{◌+◌, ◌*◌}
 use lib.ListN.{length}
 use Rattle.literal.proofs.Steps.{gap_left}
-use Rattle.descr_totals.specs.Verdict.{verdict}
 use Rattle.descr.proofs.Along.{Turn}
 use Rattle.descr.proofs.inner.+field_fields_inner_at_judge.Given as goal
 
