@@ -113,7 +113,7 @@ def page(found, names, judged, kept):
     when = datetime.datetime.now(datetime.timezone.utc).strftime('%Y-%m-%d')
     yield f'''# Benchmarks
 
-Written by `bench/run` on {when}, all in one run on one machine: {machine()}. The proved library and the C reader are compiled by clang {tool['clang']} with `bench/flags` (`{flags()}`) for any processor of that kind (`rt staticlib` has flags of its own, and its archive was not measured); npyz 0.9.1 by
+Written by `bench/run` on {when}, all in one run on one machine: {machine()}. The proved library and the C reader are compiled by clang {tool['clang']} with `bench/flags` (`{flags()}`) for any processor of that kind (`rt lib` has flags of its own, and its archive was not measured); npyz 0.9.1 by
 rustc {tool['rustc']} in its release profile; NumPy is {tool['numpy']} on Python {tool['python']}.
 
 A number is the median of 41 samples of some 2 ms (NumPy: 21), in time of the thread itself on the processor. Ours and the C reader are called in turns in one process, and their ratio is the median of the pairs' ratios; so it is for a text and the one of twice its length, and for a header in parts and the whole.
