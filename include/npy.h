@@ -11,7 +11,7 @@
  * reads or writes outside the rooms. The pointers of one call must not overlap where one of them is written to, and must not be null or misaligned,
  * also where the count is 0; a bool is 0 or 1: that is the caller's part, which no proof can see.
  *
- * Link with target/staticlib/libnpy.a, which `rt staticlib npy` proves and writes, for x86-64. No name of this header is in
+ * Link with target/staticlib/libnpy.a, which `bench/archive` proves and writes, for x86-64. No name of this header is in
  * NumPy's own C headers (compared with NumPy 1.24.2).
  *
  * A record is what a header says: a dtype table, the names of its fields end to end, a shape and an order.

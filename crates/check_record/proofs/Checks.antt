@@ -61,7 +61,7 @@ module _ (t ns s : List ℕ) (o : Order) where
   pub check_counted : (n : ℕ) → n ≡ length t / entry_width → (z : ItemSize) → gives z ≡ each item_size (limited_dtype t ns s)
       → each (summary_of n z s) (item_count o s) ≡ each summary (checked_record t ns s o)
   unfolding summary item_count
-  check_counted n n-is z h = go (limited_dtype t ns s) refl h
+  check_counted n n_is z h = go (limited_dtype t ns s) refl h
     where
       counted_by : (d : Dtype) (b : Bool) → n ≡ entries_of d → z ≡ item_size d
           → each (summary_of n z s) (unless b 22 (gives (product s))) ≡ each summary (unless b 22 (gives (made d s o)))
@@ -72,5 +72,5 @@ module _ (t ns s : List ℕ) (o : Order) where
           → each (summary_of n z s) (item_count o s) ≡ each summary (checked_record t ns s o)
       go (gives d) e k =
           let q : z ≡ item_size d = cc in
-          counted_by d (over_shape o s) (entries_are t ns s d (limited_read t ns s d e) n n-is) q ∙ sym (checked_by_lem (gives d) e)
+          counted_by d (over_shape o s) (entries_are t ns s d (limited_read t ns s d e) n n_is) q ∙ sym (checked_by_lem (gives d) e)
       go (refused m) e k = let y : ◌≡◌ {A = ℕ} 0 1 = cc in absurd (omega arith)

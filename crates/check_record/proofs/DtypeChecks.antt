@@ -32,7 +32,7 @@ by_limits : (d : Dtype) (s : List ℕ) (a b c : Bool) → (over_dimensions s || 
     → unless_over d s (gives d) ≡ unless a 13 (unless b 20 (unless c 21 (gives d)))
 by_limits d s a b c p q r = rw (p, q, r)
 
-module _ (t ns s : List ℕ) (d : Dtype) (h : read_dtype t ns ≡ gives d) (n : ℕ) (n-is : n ≡ length t / entry_width) where
+module _ (t ns s : List ℕ) (d : Dtype) (h : read_dtype t ns ≡ gives d) (n : ℕ) (n_is : n ≡ length t / entry_width) where
   view : (t ≡ table d) × (ns ≡ names d)
   view = read_view t ns d h
 

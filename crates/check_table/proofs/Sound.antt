@@ -22,12 +22,12 @@ module _ (t : List ℕ) (n e : ℕ) (x : Entry) (s : x ≡ entry_at t e) where
   pub sound_plain : (r : Bool) → x.kind ≡ 0 → Decides r (TypedAgrees x) → Decides r (SoundEntry t n e)
   sound_plain r h d =
       let z = kind_is 0 h in
-      let typed-is : untyped_at t e ≡ refuses (type_of (entry_at t e)) =
+      let typed_is : untyped_at t e ≡ refuses (type_of (entry_at t e)) =
       ap (λ (b : Bool). b && refuses (type_of (entry_at t e))) (eq-eqb (entry_at t e).kind 0 z) in
       record {
-        only = λ q. let a : TypedAgrees (entry_at t e) = rw s at (d.only q) in record { agrees = rw z a.agrees; typed = typed-is ∙ a.typed };
+        only = λ q. let a : TypedAgrees (entry_at t e) = rw s at (d.only q) in record { agrees = rw z a.agrees; typed = typed_is ∙ a.typed };
         all = λ p.
-            let a : TypedAgrees (entry_at t e) = record { agrees = rw z at p.agrees; typed = sym typed-is ∙ p.typed } in
+            let a : TypedAgrees (entry_at t e) = record { agrees = rw z at p.agrees; typed = sym typed_is ∙ p.typed } in
             d.all (rw s a);
       }
 

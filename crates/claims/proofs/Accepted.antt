@@ -70,15 +70,15 @@ unfolding writing
 writing_own r l p = rw (writing, l, printable_shallow r p, le-ltb _ _ (printable_short r p)) (roomed_whole 28 (file_of r) (file_of r) (omega arith))
 
 declared : version.Version → Version
-declared version.one-zero = Version.OneZero
-declared version.two-zero = Version.TwoZero
-declared version.three-zero = Version.ThreeZero
+declared version.one_zero = Version.OneZero
+declared version.two_zero = Version.TwoZero
+declared version.three_zero = Version.ThreeZero
 
 declared_is : (v : version.Version) → version_is (declared v) ≡ v
 unfolding declared
-declared_is version.one-zero = refl
-declared_is version.two-zero = refl
-declared_is version.three-zero = refl
+declared_is version.one_zero = refl
+declared_is version.two_zero = refl
+declared_is version.three_zero = refl
 
 abbrev answered : Record → Header
 answered r = record { version = declared (header_for r).version; info = info_of r; start = record { 0 = header_length r } }
@@ -120,12 +120,12 @@ file_moved : {t t' ns ns' s s' : List ℕ} {o o' : Order} → t ≡ t' → ns �
 file_moved et en es eo f = rw (et, en, es, eo) f
 
 only_read : (t ns s : List ℕ) (o : Order) → Small t → Small s → (r : Record) → checked_record t ns s o ≡ gives r → AcceptedAs t ns s o r
-only_read t ns s o small-t small-s r e =
+only_read t ns s o small_t small_s r e =
     let v = checked_valid t ns s o r e in
     record {
       valid = v;
       from_file = λ p.
-          file_moved v.table_is v.names_are v.shape_is v.order_is (own_file r (valid_sound t ns s o r v small-t small-s) v.limits p);
+          file_moved v.table_is v.names_are v.shape_is v.order_is (own_file r (valid_sound t ns s o r v small_t small_s) v.limits p);
     }
 
 -- ---- for either door
@@ -135,7 +135,7 @@ given_success door o y is b e always = ap door.success (is ∙ ap door.returned 
 
 accepts_by : {R : Type 0} (door : Door Summary R) (t ns s : List ℕ) (o : Order) (y : R) → Small t → Small s → y ≡ door.returned (each summary (checked_record t ns s o))
     → Fails door (each summary (checked_record t ns s o)) → ((b : Summary) → door.success (door.returned (gives b)) ≡ true) → Accepts door t ns s o y
-accepts_by door t ns s o y small-t small-s is fails always =
+accepts_by door t ns s o y small_t small_s is fails always =
     record {
       all_read = λ f.
           let (r, e) = all_read t ns s o f in
@@ -143,7 +143,7 @@ accepts_by door t ns s o y small-t small-s is fails always =
       only_read = λ h.
           let (z, e) = succeeded door (each summary (checked_record t ns s o)) y is fails h in
           let (r, accepted, _) = each_back summary (checked_record t ns s o) z e in
-          (r, only_read t ns s o small-t small-s r accepted);
+          (r, only_read t ns s o small_t small_s r accepted);
     }
 
 -- ---- a text by itself

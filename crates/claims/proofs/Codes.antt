@@ -19,7 +19,7 @@ use Rattle.dtype.specs.Shape.{strides}
 use Rattle.shape.specs.Count as shape
 use Rattle.record.specs.Prefix.{version_of}
 use Rattle.record.specs.Rooms.{Lent, holding}
-use Rattle.record.specs.Header as record-of-file
+use Rattle.record.specs.Header as record_of_file
 use Rattle.judge.specs.Judged.{reading}
 use Rattle.judge.proofs.Top.{reading_keeps}
 use Rattle.check_record.specs.Answer.{summary}
@@ -81,10 +81,10 @@ zero_answers =
     record {
       npy_read_held = λ longer file l said reading keeps r new matched c.
           beside header_values _ l new said matched r (each_numbered header.header_info _ (held_header_numbered reading longer file l)) (c.answered reading keeps)
-          (λ n e. c.after reading keeps ∙ afterwards_refused record-of-file.holding_header header.header_info l (record-of-file.held_by reading longer file l) n e);
+          (λ n e. c.after reading keeps ∙ afterwards_refused record_of_file.holding_header header.header_info l (record_of_file.held_by reading longer file l) n e);
       npy_read_text = λ text l said reading keeps r new matched c.
           beside text_values _ l new said matched r (each_numbered header.info_of _ (text_numbered reading text l)) (c.answered reading keeps)
-          (λ n e. c.after reading keeps ∙ afterwards_refused holding header.info_of l (record-of-file.text_by reading text l) n e);
+          (λ n e. c.after reading keeps ∙ afterwards_refused holding header.info_of l (record_of_file.text_by reading text l) n e);
       npy_check = λ t ns s order said r x c.
           returned_coded summary_values _ said r x
           (then_numbered (order_for order) (λ o. each summary (checked_record t ns s o)) (for_numbered order) (λ o. each_numbered summary _ (record_checked_numbered t ns s o))) c.answered;
@@ -171,8 +171,8 @@ rest_for r said l l' e n k q =
 same_left : (said : RecordInfo) (l l' : Lent) → l' ≡ l → SameRest said l l'
 same_left said l l' q = record { table_rest = rw q refl; names_rest = rw q refl; shape_rest = rw q refl }
 
-header_rest_returned : (t : header.HeaderInfo) (said : List ℕ) (l l' : Lent) (o : Outcome record-of-file.Header)
-    → header_values t ≡ afterwards (λ a old. header_values a) (each header.header_info o) said → l' ≡ afterwards record-of-file.holding_header o l → SameRest t.info l l'
+header_rest_returned : (t : header.HeaderInfo) (said : List ℕ) (l l' : Lent) (o : Outcome record_of_file.Header)
+    → header_values t ≡ afterwards (λ a old. header_values a) (each header.header_info o) said → l' ≡ afterwards record_of_file.holding_header o l → SameRest t.info l l'
 header_rest_returned t said l l' (gives h) e q =
     rest_for h.says t.info l l' (ap (λ x. get_or x 3 0) e) (ap (λ x. get_or x 4 0) e) (ap (λ x. get_or x 2 0) e) q
 header_rest_returned t said l l' (refused n) e q = same_left t.info l l' q
@@ -208,7 +208,7 @@ rest_in_c =
       npy_read_held = λ longer file l l' said r t c.
           header_rest_returned t said l l' (header.held_into longer file l) (c.answered reading reading_keeps).after (c.after reading reading_keeps);
       npy_read_text = λ text l l' said r t c.
-          text_rest_returned t said l l' (record-of-file.text_by reading text l) (c.answered reading reading_keeps).after (c.after reading reading_keeps);
+          text_rest_returned t said l l' (record_of_file.text_by reading text l) (c.answered reading reading_keeps).after (c.after reading reading_keeps);
       npy_write_header = λ t ns s order room count r room' n c. spared _ room count r room' n c.writes;
       npy_list = λ version start t ns s order room count r room' n c. spared _ room count r room' n c;
       npy_type_print = λ order letter size units room count r room' n c. spared _ room count r room' n c;

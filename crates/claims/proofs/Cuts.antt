@@ -211,8 +211,8 @@ module _ (rd : header.Reading) (file text : List ℕ) (l : Lent) (f : Feeder) (t
   whole_start p q u r =
       let enough : LongEnough (length text) file = λ p' q'. let z : p' ≡ p = cc in rw z r in
       let same : outcome (gives h) ≡ outcome (each header_info (header.held_by rd false file l)) = sym e ∙ (a.same u enough).0 in
-      let is-due : due (length text) file ≡ data_start_of p = due_is (length text) file (gives p) q ∙ rw (le-ltb (length text) p.text_length r) in
-      go (header.held_by rd false file l) refl same (a.used_in_all ∙ omega (arith, is-due))
+      let is_due : due (length text) file ≡ data_start_of p = due_is (length text) file (gives p) q ∙ rw (le-ltb (length text) p.text_length r) in
+      go (header.held_by rd false file l) refl same (a.used_in_all ∙ omega (arith, is_due))
     where
       go : (o : Outcome header.Header) → header.held_by rd false file l ≡ o → outcome (gives h) ≡ outcome (each header_info o) → n ≡ data_start_of p → n ≡ h.data_start
       go (gives k) w s t =
@@ -406,8 +406,8 @@ module _ (ns part text : List ℕ) (l : Lent) (said used_before : List ℕ) (r :
       let front = take (start_in taken) taken in
       let few : length front ≤ 12 = omega (arith, length-take (start_in taken) taken, start_bounds taken) in
       let long : length x.feeder.head ≡ 12 = ap length t.after.head_is ∙ front_length front f.head (omega (arith, few, h.twelve)) ∙ h.twelve in
-      let so-far : AllBytes (so_far f.head f.taken text) = bytes_take f.taken _ (bytes_append (take (start_in f.head) f.head) text (bytes_take (start_in f.head) f.head h.bytes) text_bytes) in
-      let all : AllBytes taken = bytes_append (so_far f.head f.taken text) (take x.used part) so-far (bytes_take x.used part part_bytes) in
+      let so_far_here : AllBytes (so_far f.head f.taken text) = bytes_take f.taken _ (bytes_append (take (start_in f.head) f.head) text (bytes_take (start_in f.head) f.head h.bytes) text_bytes) in
+      let all : AllBytes taken = bytes_append (so_far f.head f.taken text) (take x.used part) so_far_here (bytes_take x.used part part_bytes) in
       let small : AllBytes x.feeder.head = subst AllBytes (sym t.after.head_is) (bytes_append front (drop (length front) f.head) (bytes_take (start_in taken) taken all) (bytes_drop (length front) f.head h.bytes)) in
       record {
         says = ap saying e ∙ saying_back x.feeder long;
@@ -439,7 +439,7 @@ module _ (ns part text : List ℕ) (l : Lent) (said used_before : List ℕ) (r :
             returned = subst (λ (p : Progress). ReturnsProgress p said r said') (sym e) k.returned;
           }
 
-record Same-run (text : List ℕ) (l : Lent) (parts : List (List ℕ)) (said : List ℕ) (r : ℕ) (ns' text' : List ℕ) (l' : Lent) (said' : List ℕ) (n : ℕ) (f : Feeder) : Type 0 where
+record SameRun (text : List ℕ) (l : Lent) (parts : List (List ℕ)) (said : List ℕ) (r : ℕ) (ns' text' : List ℕ) (l' : Lent) (said' : List ℕ) (n : ℕ) (f : Feeder) : Type 0 where
   pub last : Feeder
   pub run : RunBy reading f text l parts last text' l' n
   pub numbered : NumberedFeeder ns' last
@@ -450,7 +450,7 @@ run_total e run = rw e at run
 
 -- calls of the numbers are calls of the feeder
 run_same : {ns text : List ℕ} {l : Lent} {parts : List (List ℕ)} {said : List ℕ} {r : ℕ} {ns' text' : List ℕ} {l' : Lent} {said' : List ℕ} {n : ℕ} (f : Feeder) → NumberedFeeder ns f
-    → RunInC ns text l parts said r ns' text' l' said' n → Same-run text l parts said r ns' text' l' said' n f
+    → RunInC ns text l parts said r ns' text' l' said' n → SameRun text l parts said r ns' text' l' said' n f
 run_same f h (last_call n c) =
     let s = one_same _ _ _ _ _ _ _ _ _ _ _ n f h c.part_bytes c.text_bytes (c.feeds reading reading_keeps) in
     let total : s.feeding.used + 0 ≡ n = omega (arith, s.used_is) in

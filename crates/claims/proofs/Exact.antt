@@ -52,7 +52,7 @@ use Rattle.element.proofs.Typed.{bytes_after, points_after}
 use Rattle.npy_codes.specs.Codes.{one_number, order_number, order_for, type_for, type_values, header_values, run_values}
 use Rattle.npy.specs.Calls.{Puts}
 use Rattle.claims.specs.Doors.{Door, in_rattle, in_c}
-use Rattle.claims.specs.Exact.{InText, InFile, Fits, ReadsExactly, Writable, WritesExactly, PlaceIs, Element, TakesExactly, By-itself, ByNumber, ByOrder, ByType, Exact, ExactInC}
+use Rattle.claims.specs.Exact.{InText, InFile, Fits, ReadsExactly, Writable, WritesExactly, PlaceIs, Element, TakesExactly, ByItself, ByNumber, ByOrder, ByType, Exact, ExactInC}
 use Rattle.claims.proofs.Found.{order_named, order_back, type_for_values, values_for_type}
 use Rattle.claims.proofs.Printable.{printable_shallow, printable_short, shallow_printable}
 use Rattle.claims.proofs.Doors.{Fails, rattle_fails, c_fails, c_returned, exactly_by}
@@ -114,9 +114,9 @@ module _ (longer : Bool) (file : List ℕ) (l : Lent) where
   pub read_in_file : (h : header.Header) → held_into longer file l ≡ gives h → InFile file h × Fits l h.says
   unfolding header.stored
   read_in_file h e =
-      let (p, begins, of-text) = then_back (prefix file) _ h e in
-      let (text, whole, of-record) = then_back (text_held longer p file) _ h of-text in
-      let (r, is, stored) = then_back (header.record_in reading text) _ h of-record in
+      let (p, begins, of_text) = then_back (prefix file) _ h e in
+      let (text, whole, of_record) = then_back (text_held longer p file) _ h of_text in
+      let (r, is, stored) = then_back (header.record_in reading text) _ h of_record in
       let (fits, made_by) = unless_back (too_small (rooms_of l) (needs r)) 23 _ h stored in
       let same : made p.version r (data_start_of p) ≡ h = gives_apart made_by in
       let says : r ≡ h.says = ap (λ (x : header.Header). x.says) same in (
@@ -137,7 +137,7 @@ module _ (longer : Bool) (file : List ℕ) (l : Lent) where
   reads_exactly door y l' is after fails =
       exactly_by door (λ h. InFile file h × Fits l h.says) header_info (λ h. holding h.says) l y l' (each header_info (held_into longer file l)) is fails
       (λ h d. let e = in_file_read h d.0 d.1 in (ap (each header_info) e, after ∙ ap (λ (o : Outcome header.Header). afterwards header.holding_header o l) e))
-      (λ i e. let (h, is-header, _) = each_back header_info (held_into longer file l) i e in (h, read_in_file h is-header))
+      (λ i e. let (h, is_header, _) = each_back header_info (held_into longer file l) i e in (h, read_in_file h is_header))
 
 -- ---- writing
 module _ (t ns s : List ℕ) (o : Order) (room : List ℕ) where
@@ -150,11 +150,11 @@ module _ (t ns s : List ℕ) (o : Order) (room : List ℕ) where
   writes_writable : (bytes : List ℕ) → header_written t ns s o room ≡ gives bytes → (r : Record) × Writable t ns s o room r
   unfolding header_written writing roomed
   writes_writable bytes e =
-      let (r, accepted, of-record) = then_back (checked_record t ns s o) _ bytes e in
-      let (_, _, of-text) = then_back (limited r) _ bytes of-record in
-      let (shallow, short) = unless_back (too_deep r) 7 _ bytes of-text in
-      let (few, room-asked) = unless_back (ltb most_text (text_length_of r)) 4 _ bytes short in
-      let (fits, _) = unless_back (ltb (length room) (length (file_of r))) 28 _ bytes room-asked in (
+      let (r, accepted, of_record) = then_back (checked_record t ns s o) _ bytes e in
+      let (_, _, of_text) = then_back (limited r) _ bytes of_record in
+      let (shallow, short) = unless_back (too_deep r) 7 _ bytes of_text in
+      let (few, room_asked) = unless_back (ltb most_text (text_length_of r)) 4 _ bytes short in
+      let (fits, _) = unless_back (ltb (length room) (length (file_of r))) 28 _ bytes room_asked in (
         r,
         record {
           valid = checked_valid t ns s o r accepted;
@@ -184,11 +184,11 @@ module _ (file start : ℕ) (t ns s : List ℕ) (o : Order) (x p : List ℕ) whe
       → (a : Record × TypeStr) × PlaceIs file start t ns s o x p a.0 a.1 × (place.run_from (place start a.0 x p) a.1 ≡ u)
   unfolding place.place_of place.placed
   place_named u e =
-      let (r, accepted, of-record) = then_back (checked_record t ns s o) _ u e in
-      let (no_object, of-file) = unless_back (has_object r.dtype) 24 _ u of-record in
-      let (long, in-file) = unless_back (ltb file (start + data_bytes r)) 25 _ u of-file in
-      let (ranged, by-path) = unless_back (not (in_range r.shape x)) 26 _ u in-file in
-      let (k, leads, is) = each_back (λ k. place.run_from (place start r x p) k) (plain_at r.dtype p) u by-path in (
+      let (r, accepted, of_record) = then_back (checked_record t ns s o) _ u e in
+      let (no_object, of_file) = unless_back (has_object r.dtype) 24 _ u of_record in
+      let (long, in_file) = unless_back (ltb file (start + data_bytes r)) 25 _ u of_file in
+      let (ranged, by_path) = unless_back (not (in_range r.shape x)) 26 _ u in_file in
+      let (k, leads, is) = each_back (λ k. place.run_from (place start r x p) k) (plain_at r.dtype p) u by_path in (
         (r, k),
         record { valid = checked_valid t ns s o r accepted; no_object = no_object; long = ltb-false _ _ long; index_in_range = not-false (in_range r.shape x) ranged; leads = leads },
         is,
@@ -213,16 +213,16 @@ module _ (within : TypeStr → List ℕ → Outcome (List ℕ)) (file : List ℕ
   put_element : (content : List ℕ) → put ≡ gives content → Element within file start t ns s o x p room content
   unfolding roomed
   put_element content e =
-      let (u, placed_at_lem, of-run) = then_back at _ content e in
-      let (a, n, is-run) = place_named (length file) start t ns s o x p u placed_at_lem in
-      let (c, is-content, kept) = then_back (within u.kind (run_bytes file u)) _ content of-run in
+      let (u, placed_at_lem, of_run) = then_back at _ content e in
+      let (a, n, is_run) = place_named (length file) start t ns s o x p u placed_at_lem in
+      let (c, is_content, kept) = then_back (within u.kind (run_bytes file u)) _ content of_run in
       let (fits, is) = unless_back (ltb (length room) (length c)) 23 (gives c) content kept in
       let same : c ≡ content = gives_apart is in
       record {
         says = a.0;
         kind = a.1;
         named = n;
-        is = ap (λ (v : Run). within v.kind (run_bytes file v)) is-run ∙ is-content ∙ ap gives same;
+        is = ap (λ (v : Run). within v.kind (run_bytes file v)) is_run ∙ is_content ∙ ap gives same;
         fits = subst (λ (y : List ℕ). length y ≤ length room) same (ltb-false _ _ fits);
       }
 
@@ -236,20 +236,20 @@ takes_exactly door Due room y room' whole is held fails due back =
 
 -- ---- an element by itself
 module _ (k : TypeStr) (given : Outcome (List ℕ)) (n : ℕ) (room : List ℕ) where
-  by_itself_put : (content : List ℕ) → By-itself k given room content → unless (not (is_type k)) 27 (then given (roomed n room)) ≡ gives content
+  by_itself_put : (content : List ℕ) → ByItself k given room content → unless (not (is_type k)) 27 (then given (roomed n room)) ≡ gives content
   unfolding roomed
   by_itself_put content a = rw (a.typed, a.is, roomed, le-ltb _ _ a.fits)
 
-  put_by_itself : (content : List ℕ) → unless (not (is_type k)) 27 (then given (roomed n room)) ≡ gives content → By-itself k given room content
+  put_by_itself : (content : List ℕ) → unless (not (is_type k)) 27 (then given (roomed n room)) ≡ gives content → ByItself k given room content
   unfolding roomed
   put_by_itself content e =
-      let (typed, of-type) = unless_back (not (is_type k)) 27 _ content e in
-      let (c, is-content, kept) = then_back given _ content of-type in
+      let (typed, of_type) = unless_back (not (is_type k)) 27 _ content e in
+      let (c, is_content, kept) = then_back given _ content of_type in
       let (fits, is) = unless_back (ltb (length room) (length c)) n (gives c) content kept in
       let same : c ≡ content = gives_apart is in
       record {
         typed = not-false (is_type k) typed;
-        is = is-content ∙ ap gives same;
+        is = is_content ∙ ap gives same;
         fits = subst (λ (y : List ℕ). length y ≤ length room) same (ltb-false _ _ fits);
       }
 
@@ -290,38 +290,38 @@ module _ {N A B : Type 0} (named : Outcome N) (numbers : List ℕ) (values : N �
 
   pub number_by_lem : ((n : N) (b : B) → next n ≡ gives b → (a : A) × Due n a) → (b : B) → then named next ≡ gives b → (a : A) × ByNumber numbers values Due a
   number_by_lem back b e =
-      let (n, named-is, given_is) = then_back named next b e in
+      let (n, named_is, given_is) = then_back named next b e in
       let (a, d) = back n b given_is in
-      (a, (n, names.back n named-is, d))
+      (a, (n, names.back n named_is, d))
 
 -- ---- the functions of elements put what is due, and only that
-pub record Puts-due (put : Outcome (List ℕ)) (Due : List ℕ → Type 0) : Type 0 where
+pub record PutsDue (put : Outcome (List ℕ)) (Due : List ℕ → Type 0) : Type 0 where
   pub due : (c : List ℕ) → Due c → put ≡ gives c
   pub back : (c : List ℕ) → put ≡ gives c → Due c
 
 module _ (file : List ℕ) (start : ℕ) (t ns s : List ℕ) (x p out : List ℕ) (o : Order) where
-  element_bytes_due : Puts-due (element_bytes file start t ns s o x p out) (Element bytes_in file start t ns s o x p out)
+  element_bytes_due : PutsDue (element_bytes file start t ns s o x p out) (Element bytes_in file start t ns s o x p out)
   element_bytes_due =
       let is = bytes_after file start t ns s o x p out in
       record { due = λ c d. is ∙ element_put bytes_in file start t ns s o x p out c d; back = λ c e. put_element bytes_in file start t ns s o x p out c (sym is ∙ e) }
 
-  element_points_due : Puts-due (element_points file start t ns s o x p out) (Element points_in file start t ns s o x p out)
+  element_points_due : PutsDue (element_points file start t ns s o x p out) (Element points_in file start t ns s o x p out)
   element_points_due =
       let is = points_after file start t ns s o x p out in
       record { due = λ c d. is ∙ element_put points_in file start t ns s o x p out c d; back = λ c e. put_element points_in file start t ns s o x p out c (sym is ∙ e) }
 
 pub by_itself_due : (k : TypeStr) (given : Outcome (List ℕ)) (n : ℕ) (room : List ℕ) (put : Outcome (List ℕ)) → put ≡ unless (not (is_type k)) 27 (then given (roomed n room))
-    → Puts-due put (By-itself k given room)
+    → PutsDue put (ByItself k given room)
 by_itself_due k given n room put is = record { due = λ c d. is ∙ by_itself_put k given n room c d; back = λ c e. put_by_itself k given n room c (sym is ∙ e) }
 
 module _ (out : List ℕ) (k : TypeStr) where
-  write_bytes_due : (value : List ℕ) → Puts-due (write_bytes k value out) (By-itself k (bytes_out k value) out)
+  write_bytes_due : (value : List ℕ) → PutsDue (write_bytes k value out) (ByItself k (bytes_out k value) out)
   write_bytes_due value = by_itself_due k (bytes_out k value) 28 out (write_bytes k value out) (write_bytes_put k value out)
 
-  write_points_due : (value : List ℕ) → Puts-due (write_points k value out) (By-itself k (points_out k value) out)
+  write_points_due : (value : List ℕ) → PutsDue (write_points k value out) (ByItself k (points_out k value) out)
   write_points_due value = by_itself_due k (points_out k value) 28 out (write_points k value out) (write_points_put k value out)
 
-pub takes_in_rattle : {put : Outcome (List ℕ)} {Due : List ℕ → Type 0} → Puts-due put Due → {room room' : List ℕ} {y : Outcome ℕ} → Owes put room y room'
+pub takes_in_rattle : {put : Outcome (List ℕ)} {Due : List ℕ → Type 0} → PutsDue put Due → {room room' : List ℕ} {y : Outcome ℕ} → Owes put room y room'
     → TakesExactly in_rattle Due room y room'
 takes_in_rattle {put = put} {Due = Due} p {room = room} {room' = room'} {y = y} h =
     takes_exactly in_rattle Due room y room' put h.answered h.room_after (rattle_fails _) p.due p.back
@@ -345,7 +345,7 @@ exact =
 
 -- ---- the same in C
 pub takes_in_c : {N : Type 0} (named : Outcome N) (numbers : List ℕ) (values : N → List ℕ) (Due : N → List ℕ → Type 0) → Names named numbers values Due
-    → (next : N → Outcome (List ℕ)) (out : List ℕ) → Numbered named → ((n : N) → Numbered (next n)) → ((n : N) → Puts-due (next n) (Due n)) → (count : List ℕ) (r : ℕ) (out' count' : List ℕ)
+    → (next : N → Outcome (List ℕ)) (out : List ℕ) → Numbered named → ((n : N) → Numbered (next n)) → ((n : N) → PutsDue (next n) (Due n)) → (count : List ℕ) (r : ℕ) (out' count' : List ℕ)
     → Puts (then named next) out count r out' count' → TakesExactly (in_c one_number count) (ByNumber numbers values Due) out (r, count') out'
 takes_in_c named numbers values Due names next out first numbered puts count r out' count' h =
     takes_exactly (in_c one_number count) (ByNumber numbers values Due) out (r, count') out' (then named next) (c_returned h.answered) h.room_after
@@ -353,16 +353,16 @@ takes_in_c named numbers values Due names next out first numbered puts count r o
     (by_number named numbers values Due names next (λ c. c) (λ n. (puts n).due))
     (λ c e. let (n, is, given_is) = then_back named next c e in (n, names.back n is, (puts n).back c given_is))
 
-takes_by_order : (order : ℕ) (Due : Order → List ℕ → Type 0) (next : Order → Outcome (List ℕ)) (out : List ℕ) → ((o : Order) → Numbered (next o)) → ((o : Order) → Puts-due (next o) (Due o))
+takes_by_order : (order : ℕ) (Due : Order → List ℕ → Type 0) (next : Order → Outcome (List ℕ)) (out : List ℕ) → ((o : Order) → Numbered (next o)) → ((o : Order) → PutsDue (next o) (Due o))
     → (count : List ℕ) (r : ℕ) (out' count' : List ℕ) → Puts (then (order_for order) next) out count r out' count' → TakesExactly (in_c one_number count) (ByOrder order Due) out (r, count') out'
 takes_by_order order Due next out numbered puts = takes_in_c (order_for order) _ _ Due (order_names order Due) next out (for_numbered order) numbered puts
 
 pub takes_by_type : (order letter size units : ℕ) (given : TypeStr → Outcome (List ℕ)) (next : TypeStr → Outcome (List ℕ)) (out : List ℕ) → ((k : TypeStr) → Numbered (next k))
-    → ((k : TypeStr) → Puts-due (next k) (By-itself k (given k) out)) → (count : List ℕ) (r : ℕ) (out' count' : List ℕ)
+    → ((k : TypeStr) → PutsDue (next k) (ByItself k (given k) out)) → (count : List ℕ) (r : ℕ) (out' count' : List ℕ)
     → Puts (then (type_for order letter size units) next) out count r out' count'
-    → TakesExactly (in_c one_number count) (ByType order letter size units (λ k. By-itself k (given k) out)) out (r, count') out'
+    → TakesExactly (in_c one_number count) (ByType order letter size units (λ k. ByItself k (given k) out)) out (r, count') out'
 takes_by_type order letter size units given next out numbered puts =
-    takes_in_c (type_for order letter size units) _ _ (λ k. By-itself k (given k) out) (type_names order letter size units _ (λ k c d. d.typed)) next out
+    takes_in_c (type_for order letter size units) _ _ (λ k. ByItself k (given k) out) (type_names order letter size units _ (λ k c d. d.typed)) next out
     (type_for_numbered order letter size units) numbered puts
 
 pub exact_in_c : ExactInC

@@ -23,7 +23,7 @@ use Rattle.dtype.specs.Shape.{product, strides}
 use Rattle.shape.specs.Count.{strides_count}
 use Rattle.record.specs.Header as header
 use Rattle.record.specs.Rooms.{needs, too_small, Lent, rooms_of, holding}
-use Rattle.record.specs.Prefix.{Version, one-zero, two-zero, three-zero, major, version_of}
+use Rattle.record.specs.Prefix.{Version, one_zero, two_zero, three_zero, major, version_of}
 use Rattle.record.proofs.Numbers.{Numbered, each_numbered, then_numbered}
 use Rattle.check_record.specs.Checked.{checked_record}
 use Rattle.check_record.proofs.Accepts.{checked_valid, valid_checked}
@@ -37,14 +37,14 @@ use Rattle.string_value.specs.Rooms.{read_bytes, read_points}
 use Rattle.npy_codes.specs.Codes.{one_number, order_number, order_for, text_values}
 use Rattle.npy.specs.Calls.{Puts}
 use Rattle.claims.specs.Doors.{Door, in_rattle, in_c}
-use Rattle.claims.specs.Exact.{InText, Fits, By-itself}
+use Rattle.claims.specs.Exact.{InText, Fits, ByItself}
 use Rattle.claims.specs.Functions.{report_by}
 use Rattle.claims.specs.Further.{ReadsTextExactly, StridesDue, StridesExactly, ListingIs, Encoded, FurtherExact, FurtherExactInC}
 use Rattle.claims.proofs.Doors.{Fails, rattle_fails, c_fails, c_returned, exactly_by}
 use Rattle.claims.proofs.Numbers.{text_numbered, for_numbered, version_for_numbered, listed_numbered, strides_numbered, type_printed_numbered, read_bytes_numbered, read_points_numbered}
 use Rattle.claims.proofs.Roomy.{roomy_fits, fits_roomy}
 use Rattle.claims.proofs.Found.{order_named, order_back}
-use Rattle.claims.proofs.Exact.{in_text_read, read_in_text, Puts-due, Names, by_itself_due, takes_in_rattle, takes_in_c, takes_by_type}
+use Rattle.claims.proofs.Exact.{in_text_read, read_in_text, PutsDue, Names, by_itself_due, takes_in_rattle, takes_in_c, takes_by_type}
 
 -- ---- a text by itself
 module _ (text : List ℕ) (l : Lent) where
@@ -75,13 +75,13 @@ unfolding read_points
 read_points_put k run room = refl
 
 module _ (out : List ℕ) (k : TypeStr) where
-  read_bytes_due : (run : List ℕ) → Puts-due (read_bytes k run out) (By-itself k (bytes_in k run) out)
+  read_bytes_due : (run : List ℕ) → PutsDue (read_bytes k run out) (ByItself k (bytes_in k run) out)
   read_bytes_due run = by_itself_due k (bytes_in k run) 23 out (read_bytes k run out) (read_bytes_put k run out)
 
-  read_points_due : (run : List ℕ) → Puts-due (read_points k run out) (By-itself k (points_in k run) out)
+  read_points_due : (run : List ℕ) → PutsDue (read_points k run out) (ByItself k (points_in k run) out)
   read_points_due run = by_itself_due k (points_in k run) 23 out (read_points k run out) (read_points_put k run out)
 
-  type_print_due : Puts-due (type_printed k out) (By-itself k (gives (type_text k [])) out)
+  type_print_due : PutsDue (type_printed k out) (ByItself k (gives (type_text k [])) out)
   unfolding type_printed
   type_print_due = by_itself_due k (gives (type_text k [])) 28 out (type_printed k out) refl
 
@@ -97,7 +97,7 @@ fits_roomed n room content c e =
     let same : content ≡ c = gives_apart is in
     (sym same, subst (λ (y : List ℕ). length y ≤ length room) same (ltb-false _ _ fits))
 
-known_due : (n : ℕ) (room content : List ℕ) → Puts-due (roomed n room content) (λ c. (c ≡ content) × (length c ≤ length room))
+known_due : (n : ℕ) (room content : List ℕ) → PutsDue (roomed n room content) (λ c. (c ≡ content) × (length c ≤ length room))
 known_due n room content =
     record {
       due = λ c d. roomed_fits n room content (subst (λ (y : List ℕ). length y ≤ length room) d.0 d.1) ∙ ap gives (sym d.0);
@@ -106,20 +106,20 @@ known_due n room content =
 
 -- ---- a listing
 module _ (start : ℕ) (t ns s out : List ℕ) (v : Version) (o : Order) where
-  listed_due : Puts-due (listed v start t ns s o out) (ListingIs v start t ns s o out)
+  listed_due : PutsDue (listed v start t ns s o out) (ListingIs v start t ns s o out)
   listed_due =
       record {
         due = λ c d.
             ap (λ (g : Outcome Record). then g (λ r. roomed 28 out (listing v start r []))) (valid_checked t ns s o d.says d.valid)
             ∙ (known_due 28 out (listing v start d.says [])).due c (d.is, d.fits);
         back = λ c e.
-            let (r, accepted, of-record) = then_back (checked_record t ns s o) _ c e in
-            let (is, fits) = fits_roomed 28 out (listing v start r []) c of-record in
+            let (r, accepted, of_record) = then_back (checked_record t ns s o) _ c e in
+            let (is, fits) = fits_roomed 28 out (listing v start r []) c of_record in
             record { says = r; valid = checked_valid t ns s o r accepted; is = is; fits = fits };
       }
 
 -- ---- a character
-encode_due : (value : ℕ) (out : List ℕ) → Puts-due (encoding value out) (Encoded value out)
+encode_due : (value : ℕ) (out : List ℕ) → PutsDue (encoding value out) (Encoded value out)
 unfolding encoding
 encode_due value out =
     record {
@@ -148,16 +148,16 @@ version_named : (a : ℕ) (v : Version) → version_of a 0 ≡ gives v → a ≡
 version_named a v e = go (eqb a 1) (eqb a 2) (eqb a 3) refl refl refl e
   where
     go : (x y z : Bool) → eqb a 1 ≡ x → eqb a 2 ≡ y → eqb a 3 ≡ z
-        → cond (x && true) (gives one-zero) (cond (y && true) (gives two-zero) (cond (z && true) (gives three-zero) (refused 2))) ≡ gives v → a ≡ major v
-    go true y z p q k h = let same : one-zero ≡ v = gives_apart h in eqb-true a 1 p ∙ ap major same
-    go false true z p q k h = let same : two-zero ≡ v = gives_apart h in eqb-true a 2 q ∙ ap major same
-    go false false true p q k h = let same : three-zero ≡ v = gives_apart h in eqb-true a 3 k ∙ ap major same
+        → cond (x && true) (gives one_zero) (cond (y && true) (gives two_zero) (cond (z && true) (gives three_zero) (refused 2))) ≡ gives v → a ≡ major v
+    go true y z p q k h = let same : one_zero ≡ v = gives_apart h in eqb-true a 1 p ∙ ap major same
+    go false true z p q k h = let same : two_zero ≡ v = gives_apart h in eqb-true a 2 q ∙ ap major same
+    go false false true p q k h = let same : three_zero ≡ v = gives_apart h in eqb-true a 3 k ∙ ap major same
     go false false false p q k h = refused_gives h
 
 version_back_lem : (v : Version) → version_of (major v) 0 ≡ gives v
-version_back_lem one-zero = refl
-version_back_lem two-zero = refl
-version_back_lem three-zero = refl
+version_back_lem one_zero = refl
+version_back_lem two_zero = refl
+version_back_lem three_zero = refl
 
 abbrev both : (version order : ℕ) → Outcome (Version × Order)
 both version order = then (version_of version 0) (λ v. each (λ o. (v, o)) (order_for order))

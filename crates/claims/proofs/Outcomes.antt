@@ -19,7 +19,7 @@ use Rattle.list_record.proofs.Outcomes.{list_one}
 use Rattle.list_file.proofs.Outcomes.{report_one, report_whole_one, put_read_one}
 use Rattle.place_item.proofs.Outcomes.{item_number_one}
 use Rattle.place.proofs.Outcomes.{place_one}
-use Rattle.string_element.proofs.Outcomes as string-element
+use Rattle.string_element.proofs.Outcomes as string_element
 use Rattle.element_text.proofs.Outcomes.{put_one}
 use Rattle.get_file.proofs.Outcomes.{find_one, numbers_one}
 use Rattle.value.proofs.Outcomes as value
@@ -41,8 +41,8 @@ npy_held_one longer file l said x y p q =
     npy.npy_read_held_one longer file l said x y (record { answered = p.answered reading reading_keeps; rooms = p.after reading reading_keeps })
     (record { answered = q.answered reading reading_keeps; rooms = q.after reading reading_keeps })
 
-pub one_outcome : OneOutcomeEach
-one_outcome =
+pub one_outcome_each : OneOutcomeEach
+one_outcome_each =
     record {
       read = held_one false;
       read_held = held_one;
@@ -76,10 +76,10 @@ one_outcome =
       element_points = λ file start t ns s o x p out. element.read_points_one file start t ns s o x p out;
       element_value = λ file start t ns s o x p y z h k. element.read_value_one file start t ns s o x p y z h.answered k.answered;
       read_value = λ run k y z h j. value.read_one run k y z h.answered j.answered;
-      read_bytes = λ run k out. string-element.read_bytes_one k run out;
-      read_points = λ run k out. string-element.read_points_one k run out;
-      write_bytes = λ k value out. string-element.write_bytes_one k value out;
-      write_points = λ k value out. string-element.write_points_one k value out;
+      read_bytes = λ run k out. string_element.read_bytes_one k run out;
+      read_points = λ run k out. string_element.read_points_one k run out;
+      write_bytes = λ k value out. string_element.write_bytes_one k value out;
+      write_points = λ k value out. string_element.write_points_one k value out;
       type_read = λ text. parse_one text;
       type_print = λ k out. print_one k out;
       encode = λ value out. encode_one value out;

@@ -5,15 +5,15 @@ use mathlib.Core.List.{List}
 use lib.ListN.{length, take}
 use Rattle.counts.specs.Lists.{at_front}
 use Rattle.record.specs.Header.{Reading, Keeps}
-use Rattle.list_file.specs.Report.{held_bytes}
+use Rattle.list_file.specs.Report.{held_most}
 use Rattle.list_file.proofs.Enough.{front_reports, report_fits}
 use Rattle.read_back.proofs.Rooms.{front}
 use Rattle.claims.specs.Functions.{report_by}
 use Rattle.claims.specs.Program.{ProgramPrints}
 use Rattle.claims.proofs.Readings.{report_same}
 
-front_by : (reading : Reading) → Keeps reading → (file : List ℕ) → report_by reading (take (suc held_bytes) file) ≡ report_by reading file
-front_by reading keeps file = sym (report_same reading keeps (take (suc held_bytes) file)) ∙ front_reports file ∙ report_same reading keeps file
+front_by : (reading : Reading) → Keeps reading → (file : List ℕ) → report_by reading (take (suc held_most) file) ≡ report_by reading file
+front_by reading keeps file = sym (report_same reading keeps (take (suc held_most) file)) ∙ front_reports file ∙ report_same reading keeps file
 
 pub program_prints : ProgramPrints
 program_prints file out out' n h reading keeps =

@@ -19,7 +19,7 @@ use Rattle.judge.proofs.Top.{reading_keeps}
 use Rattle.header.specs.declared.TextRead.{TextRead}
 use Rattle.header.specs.declared.HeaderRead.{HeaderRead}
 use Rattle.header.specs.Reads as reads
-use Rattle.list_file.specs.Report.{held_bytes, fresh, text_for, report_of, Reports, WritesText}
+use Rattle.list_file.specs.Report.{held_most, fresh, text_for, report_of, Reports, WritesText}
 use Rattle.list_file.specs.Enough.{WritesReport}
 use Rattle.header_feed.specs.declared.Feeder.{Feeder}
 use Rattle.header_feed.specs.declared.Feeding.{Feeding}
@@ -65,7 +65,7 @@ read_text_tied text l x l' h =
 pub report_same : (other : header.Reading) → header.Keeps other → (file : List ℕ)
     → report_of file ≡ report_by other file
 unfolding report_of
-report_same other keeps file = ap text_for (held_same other keeps (ltb held_bytes (length file)) (take held_bytes file) fresh)
+report_same other keeps file = ap text_for (held_same other keeps (ltb held_most (length file)) (take held_most file) fresh)
 
 pub text_moved : {text new out : List ℕ} (x : BytesAnswer) {out' : List ℕ} → text ≡ new → WritesText text out x out' → WritesText new out x out'
 text_moved x e h = rw (sym e) h

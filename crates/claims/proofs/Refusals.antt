@@ -10,7 +10,7 @@ use Rattle.counts.proofs.Apart.{refused_gives}
 use Rattle.dtype.specs.Shape as shape
 use Rattle.shape.specs.Count as strides
 use Rattle.record.specs.Rooms.{holding}
-use Rattle.record.specs.Header as record-of-file
+use Rattle.record.specs.Header as record_of_file
 use Rattle.judge.specs.Judged.{reading}
 use Rattle.judge.proofs.Top.{reading_keeps}
 use Rattle.header.specs.Reads as header
@@ -26,10 +26,10 @@ unchanged =
     record {
       read_held = λ longer file l x l' k h e.
           h.after reading reading_keeps
-          ∙ afterwards_refused record-of-file.holding_header header.header_info l (header.held_into longer file l) k (sym (h.answered reading reading_keeps) ∙ e);
+          ∙ afterwards_refused record_of_file.holding_header header.header_info l (header.held_into longer file l) k (sym (h.answered reading reading_keeps) ∙ e);
       read_text = λ text l x l' k h e.
           h.after reading reading_keeps
-          ∙ afterwards_refused holding header.info_of l (record-of-file.text_by reading text l) k (sym (h.answered reading reading_keeps) ∙ e);
+          ∙ afterwards_refused holding header.info_of l (record_of_file.text_by reading text l) k (sym (h.answered reading reading_keeps) ∙ e);
       write_header = λ t ns s o out w out' k h e. owes_unchanged _ out _ out' k h.writes e;
       list = λ v start t ns s o out x out' k h e. owes_unchanged _ out _ out' k h e;
       report = λ file out x out' k h e. owes_unchanged _ out _ out' k (h reading reading_keeps) e;

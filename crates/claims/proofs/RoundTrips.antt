@@ -117,15 +117,15 @@ pub record Wrote (t ns s : List ℕ) (o : Order) (room : List ℕ) (n : ℕ) (ro
 wrote : (t ns s : List ℕ) (o : Order) (room bytes : List ℕ) (n : ℕ) (room' : List ℕ) → Small t → Small s → header_written t ns s o room ≡ gives bytes → length bytes ≡ n
     → room' ≡ at_front bytes room → Wrote t ns s o room n room'
 unfolding header_written
-wrote t ns s o room bytes n room' small-t small-s e len after =
-    let (r, accepted, of-record) = then_back (checked_record t ns s o) (λ r. writing r room) bytes e in
+wrote t ns s o room bytes n room' small_t small_s e len after =
+    let (r, accepted, of_record) = then_back (checked_record t ns s o) (λ r. writing r room) bytes e in
     let valid = checked_valid t ns s o r accepted in
-    let same : bytes ≡ file_of r = holds_of (λ b. b ≡ file_of r) of-record (writing_whole r room) in
+    let same : bytes ≡ file_of r = holds_of (λ b. b ≡ file_of r) of_record (writing_whole r room) in
     record {
       says = r;
       valid = valid;
-      sound = valid_sound t ns s o r valid small-t small-s;
-      writes = of-record ∙ ap gives same;
+      sound = valid_sound t ns s o r valid small_t small_s;
+      writes = of_record ∙ ap gives same;
       long = ap length (sym same) ∙ len;
       bytes = ap (take n) after ∙ front n bytes room (sym len) ∙ same;
     }
@@ -175,16 +175,16 @@ unfolding roomed
 goes_again door r out w out' Again only is after again =
     let returned : (o : Outcome (List ℕ)) → writing r out ≡ o → w ≡ door.returned (each length o) = λ o e. is ∙ ap (λ (y : Outcome (List ℕ)). door.returned (each length y)) e in
     let held : (o : Outcome (List ℕ)) → writing r out ≡ o → out' ≡ afterwards at_front o out = λ o e. after ∙ ap (λ (y : Outcome (List ℕ)). afterwards at_front y out) e in
-    let long-is = text_length r in
+    let long_is = text_length r in
     record {
       long = λ h.
-          let e : writing r out ≡ refused 4 = only ∙ rw (lt-ltb _ _ (subst (λ (n : ℕ). most_text < n) long-is h)) refl in
+          let e : writing r out ≡ refused 4 = only ∙ rw (lt-ltb _ _ (subst (λ (n : ℕ). most_text < n) long_is h)) refl in
           (returned (refused 4) e, held (refused 4) e);
       no_room = λ h k.
-          let e : writing r out ≡ refused 28 = only ∙ rw (le-ltb _ _ (subst (λ (n : ℕ). n ≤ most_text) long-is h), roomed_short 28 out (file_of r) k) refl in
+          let e : writing r out ≡ refused 28 = only ∙ rw (le-ltb _ _ (subst (λ (n : ℕ). n ≤ most_text) long_is h), roomed_short 28 out (file_of r) k) refl in
           (returned (refused 28) e, held (refused 28) e);
       written = λ h k.
-          let e : writing r out ≡ gives (file_of r) = only ∙ rw (le-ltb _ _ (subst (λ (n : ℕ). n ≤ most_text) long-is h), roomed_whole 28 out (file_of r) k) refl in
+          let e : writing r out ≡ gives (file_of r) = only ∙ rw (le-ltb _ _ (subst (λ (n : ℕ). n ≤ most_text) long_is h), roomed_whole 28 out (file_of r) k) refl in
           (returned (gives (file_of r)) e, held (gives (file_of r)) e, again e);
     }
 

@@ -103,8 +103,8 @@ module _ (file : List ℕ) (start : ℕ) (t ns s : List ℕ) (o : Order) (x p : 
 
   value_found : (v : Value) → whole ≡ gives v → ValueIs file start t ns s o x p v
   value_found v e =
-      let (u, placed_at_lem, of-run) = then_back at _ v (sym (value_after file start t ns s o x p) ∙ e) in
-      record { kind = u.kind; bytes = run_bytes file u; element = at_element u placed_at_lem; is = of-run }
+      let (u, placed_at_lem, of_run) = then_back at _ v (sym (value_after file start t ns s o x p) ∙ e) in
+      record { kind = u.kind; bytes = run_bytes file u; element = at_element u placed_at_lem; is = of_run }
 
 -- ---- by itself
 module _ (run : List ℕ) (k : TypeStr) where
@@ -114,9 +114,9 @@ module _ (run : List ℕ) (k : TypeStr) where
   itself_found : (v : Value) → read_value k run ≡ gives v → ValueByItself run k v
   unfolding read_value
   itself_found v e =
-      let (typed, of-type) = unless_back (not (is_type k)) 27 _ v e in
-      let (_, of-form) = unless_back (has_no_value (form_of k.letter k.size)) 31 _ v of-type in
-      let (long, is) = unless_back (not (eqb (length run) k.size)) 27 _ v of-form in
+      let (typed, of_type) = unless_back (not (is_type k)) 27 _ v e in
+      let (_, of_form) = unless_back (has_no_value (form_of k.letter k.size)) 31 _ v of_type in
+      let (long, is) = unless_back (not (eqb (length run) k.size)) 27 _ v of_form in
       record { typed = not-false (is_type k) typed; long = eqb-true (length run) k.size (not-false (eqb (length run) k.size) long); is = is }
 
 -- ---- in C, of an order that a number names
@@ -186,8 +186,8 @@ bits_stored_in_c =
           let named = type_for order letter size units in
           let next : TypeStr → Outcome Value = λ k. read_value k run in
           let (v, given_is, values) = found_value (then named next) (then_numbered named next (type_for_numbered order letter size units) (λ k. read_value_numbered k run)) h.answered in
-          let (k, named-is, is) = then_back named next v given_is in
-          (k, values_for_type order letter size units k named-is, (v, itself_found run k v is, values, said_back k run v h.bytes is));
+          let (k, named_is, is) = then_back named next v given_is in
+          (k, values_for_type order letter size units k named_is, (v, itself_found run k v is, values, said_back k run v h.bytes is));
     }
 
 -- ---- half floats

@@ -11,7 +11,7 @@ use Rattle.check_record.specs.declared.Checked.{Checked}
 use Rattle.check_record.specs.declared.Summary.{Summary}
 use Rattle.check_record.specs.Checked.{checked_record}
 use Rattle.check_record.specs.Valid.{Valid}
-use Rattle.check_record.specs.Answer as check-record
+use Rattle.check_record.specs.Answer as check_record
 use Rattle.header.specs.declared.HeaderRead.{HeaderRead}
 use Rattle.header.specs.declared.RecordInfo.{RecordInfo}
 use Rattle.header.specs.declared.TextRead.{TextRead}
@@ -50,7 +50,7 @@ pub record AcceptsExactly : Type 0 where
   -- what the functions' predicates say of a caller's record (`checked_record`: its numbers to the record, or the first refusal) is the same
   pub valid_only : (t ns s : List ℕ) (o : Order) (r : Record) → checked_record t ns s o ≡ gives r → Valid t ns s o r
   pub all_valid : (t ns s : List ℕ) (o : Order) (r : Record) → Valid t ns s o r → checked_record t ns s o ≡ gives r
-  pub check : (t ns s : List ℕ) (o : Order) (x : Checked) → Check t ns s o x → Accepts in_rattle t ns s o (check-record.answer x)
+  pub check : (t ns s : List ℕ) (o : Order) (x : Checked) → Check t ns s o x → Accepts in_rattle t ns s o (check_record.answer x)
   pub npy_check : (t ns s : List ℕ) (o : Order) (said : List ℕ) (r : ℕ) (said' : List ℕ) → NpyCheck t ns s (order_number o) said r said'
       → Accepts (in_c summary_values said) t ns s o (r, said')
   -- what `header::read_text` and `npy_read_text` leave in the rooms is a text's record, and accepted

@@ -7,7 +7,7 @@ use Rattle.literal_grammar.specs.Promise.{GivesIn}
 use Rattle.record.specs.Descr.{descr_of}
 use Rattle.dtype.specs.declared.Order.TheVariants.{C}
 use Rattle.dtype.specs.Record.{table}
-use Rattle.record.specs.Prefix.{one-zero}
+use Rattle.record.specs.Prefix.{one_zero}
 use Rattle.record.specs.Edges.{three_i4, three_i4_header, eighty, hundred_twenty_eight, PaddingEdges}
 use Rattle.claims.specs.Exact.{InFile, Writable}
 use Rattle.type_read.specs.Edges as types
@@ -44,11 +44,11 @@ pub record Edges : Type 0 where
   pub a_and_b_given : GivesIn most_open a_and_b_text a_and_b_value
   pub a_and_b_read : descr_of a_and_b_value ≡ gives dtypes.a_and_b
   -- document 01's 80 bytes are a header of `<i4`, C, (3), with the data at 80; so some file is read
-  pub eighty_read : InFile eighty (record { version = one-zero; says = three_i4; data_start = 80 })
+  pub eighty_read : InFile eighty (record { version = one_zero; says = three_i4; data_start = 80 })
   -- headers of it too: the same text with a tab, CR, a space and LF for its padding, the text without padding, and the 128 bytes that are written
-  pub other_blanks_read : InFile (three_i4_header 62 (9 ∷ 13 ∷ 32 ∷ 10 ∷ [])) (record { version = one-zero; says = three_i4; data_start = 72 })
-  pub unpadded_read : InFile (three_i4_header 58 []) (record { version = one-zero; says = three_i4; data_start = 68 })
-  pub hundred_twenty_eight_read : InFile hundred_twenty_eight (record { version = one-zero; says = three_i4; data_start = 128 })
+  pub other_blanks_read : InFile (three_i4_header 62 (9 ∷ 13 ∷ 32 ∷ 10 ∷ [])) (record { version = one_zero; says = three_i4; data_start = 72 })
+  pub unpadded_read : InFile (three_i4_header 58 []) (record { version = one_zero; says = three_i4; data_start = 68 })
+  pub hundred_twenty_eight_read : InFile hundred_twenty_eight (record { version = one_zero; says = three_i4; data_start = 128 })
   -- the edges of version and padding
   pub padding_edges : PaddingEdges
   -- the 128 bytes are written to any room of as many or more; so some record is written

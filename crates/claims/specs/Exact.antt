@@ -29,7 +29,7 @@ use Rattle.header.specs.declared.HeaderRead.{HeaderRead}
 use Rattle.header.specs.Reads.{HeaderInfo, header_info, answer}
 use Rattle.place_area.specs.declared.Run.{Run}
 use Rattle.place.specs.declared.Placed.{Placed}
-use Rattle.place.specs.Answer as place-answer
+use Rattle.place.specs.Answer as place_answer
 use Rattle.place.specs.Place.{run_from}
 use Rattle.string_value.specs.Elements.{bytes_in, points_in}
 use Rattle.string_value.specs.Runs.{bytes_out, points_out}
@@ -111,7 +111,7 @@ pub record Element (within : TypeStr → List ℕ → Outcome (List ℕ)) (file 
   pub fits : length content ≤ length room
 
 -- what is read or written of a type by itself: the type k is one that readings give, the definition gives the content, and that fits the room
-pub record By-itself (k : TypeStr) (given : Outcome (List ℕ)) (room content : List ℕ) : Type 0 where
+pub record ByItself (k : TypeStr) (given : Outcome (List ℕ)) (room content : List ℕ) : Type 0 where
   pub typed : is_type k ≡ true
   pub is : given ≡ gives content
   pub fits : length content ≤ length room
@@ -139,7 +139,7 @@ pub record Exact : Type 0 where
   pub write_header : (t ns s : List ℕ) (o : Order) (out : List ℕ) (w : BytesAnswer) (out' : List ℕ) → WriteHeader t ns s o out w out'
       → WritesExactly in_rattle (Writable t ns s o out) out (bytes_answer w) out'
   pub place : (file start : ℕ) (t ns s : List ℕ) (o : Order) (x p : List ℕ) (y : Placed) → Place file start t ns s o x p y
-      → PlacesExactly in_rattle (λ a. PlaceIs file start t ns s o x p a.0 a.1) start x p (place-answer.answer y)
+      → PlacesExactly in_rattle (λ a. PlaceIs file start t ns s o x p a.0 a.1) start x p (place_answer.answer y)
   pub element_bytes : (file : List ℕ) (start : ℕ) (t ns s : List ℕ) (o : Order) (x p out : List ℕ) (y : BytesAnswer) (out' : List ℕ)
       → ElementBytes file start t ns s o x p out y out'
       → TakesExactly in_rattle (Element bytes_in file start t ns s o x p out) out (bytes_answer y) out'
@@ -148,9 +148,9 @@ pub record Exact : Type 0 where
       → TakesExactly in_rattle (Element points_in file start t ns s o x p out) out (points_answer y) out'
   -- `string_element::write_bytes`, `write_points`
   pub write_bytes : (k : TypeStr) (value out : List ℕ) (y : BytesAnswer) (out' : List ℕ) → WriteBytes k value out y out'
-      → TakesExactly in_rattle (By-itself k (bytes_out k value) out) out (bytes_answer y) out'
+      → TakesExactly in_rattle (ByItself k (bytes_out k value) out) out (bytes_answer y) out'
   pub write_points : (k : TypeStr) (value out : List ℕ) (y : BytesAnswer) (out' : List ℕ) → WritePoints k value out y out'
-      → TakesExactly in_rattle (By-itself k (points_out k value) out) out (bytes_answer y) out'
+      → TakesExactly in_rattle (ByItself k (points_out k value) out) out (bytes_answer y) out'
 
 -- the same of the functions of the C interface
 pub record ExactInC : Type 0 where
@@ -169,7 +169,7 @@ pub record ExactInC : Type 0 where
       → TakesExactly (in_c one_number count) (ByOrder order (λ o. Element points_in file start t ns s o x p out)) out (r, count') out'
   pub npy_write_bytes : (order letter size units : ℕ) (value out count : List ℕ) (r : ℕ) (out' count' : List ℕ)
       → NpyWriteBytes order letter size units value out count r out' count'
-      → TakesExactly (in_c one_number count) (ByType order letter size units (λ k. By-itself k (bytes_out k value) out)) out (r, count') out'
+      → TakesExactly (in_c one_number count) (ByType order letter size units (λ k. ByItself k (bytes_out k value) out)) out (r, count') out'
   pub npy_write_points : (order letter size units : ℕ) (value out count : List ℕ) (r : ℕ) (out' count' : List ℕ)
       → NpyWritePoints order letter size units value out count r out' count'
-      → TakesExactly (in_c one_number count) (ByType order letter size units (λ k. By-itself k (points_out k value) out)) out (r, count') out'
+      → TakesExactly (in_c one_number count) (ByType order letter size units (λ k. ByItself k (points_out k value) out)) out (r, count') out'

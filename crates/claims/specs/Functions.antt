@@ -16,7 +16,7 @@ use Rattle.utf8_scalar.specs.Answer.{Encodes}
 use Rattle.type_str.specs.declared.TypeStr.{TypeStr}
 use Rattle.type_str.specs.declared.TypeRead.{TypeRead}
 use Rattle.type_str.specs.TypeString.{type_string}
-use Rattle.type_str.specs.Answer as type-str
+use Rattle.type_str.specs.Answer as type_str
 use Rattle.type_print.specs.Printed.{Prints}
 use Rattle.dtype.specs.declared.Order.{Order}
 use Rattle.shape.specs.Count.{item_count, WritesStrides}
@@ -25,7 +25,7 @@ use Rattle.record.specs.Rooms.{Lent, holding}
 use Rattle.record.specs.Header.{Reading, Keeps, text_by, held_by, holding_header}
 use Rattle.record.specs.Sound.{Small}
 use Rattle.check_record.specs.declared.Checked.{Checked}
-use Rattle.check_record.specs.Answer as check-record
+use Rattle.check_record.specs.Answer as check_record
 use Rattle.check_record.specs.Checked.{checked_record}
 use Rattle.header.specs.declared.TextRead.{TextRead}
 use Rattle.header.specs.declared.HeaderRead.{HeaderRead}
@@ -35,7 +35,7 @@ use Rattle.header_feed.specs.declared.Feeding.{Feeding}
 use Rattle.header_feed.specs.Feeds.{FeedsBy, fresh_feeder, Ends}
 use Rattle.write.specs.Writes.{WritesHeader}
 use Rattle.list_record.specs.Answer.{Lists}
-use Rattle.list_file.specs.Report.{WritesText, held_bytes, fresh, text_for}
+use Rattle.list_file.specs.Report.{WritesText, held_most, fresh, text_for}
 use Rattle.list_file.specs.Said.{WritesSaid}
 use Rattle.place_item.specs.Item.{item_of}
 use Rattle.place.specs.declared.Placed.{Placed}
@@ -86,7 +86,7 @@ FeedEnd = Ends
 -- ---- the listing program
 -- what is printed of a file, by any reading of texts
 abbrev pub report_by : Reading → (file : List ℕ) → List ℕ
-report_by reading file = text_for (held_by reading (ltb held_bytes (length file)) (take held_bytes file) fresh)
+report_by reading file = text_for (held_by reading (ltb held_most (length file)) (take held_most file) fresh)
 
 -- `list_file::report`
 abbrev pub Report : (file out : List ℕ) (x : BytesAnswer) (out' : List ℕ) → Type 0
@@ -119,7 +119,7 @@ PutElement run k = PutsElement k run
 pub record Check (t ns s : List ℕ) (o : Order) (x : Checked) : Type 0 where
   pub small_table : Small t
   pub small_shape : Small s
-  pub answered : check-record.answer x ≡ each check-record.summary (checked_record t ns s o)
+  pub answered : check_record.answer x ≡ each check_record.summary (checked_record t ns s o)
 
 -- `write::write_header`
 pub record WriteHeader (t ns s : List ℕ) (o : Order) (out : List ℕ) (x : BytesAnswer) (out' : List ℕ) : Type 0 where
@@ -181,7 +181,7 @@ pub record ReadValue (run : List ℕ) (k : TypeStr) (y : ValueAnswer) : Type 0 w
 -- ---- types and characters
 -- `type_read::parse`
 abbrev pub TypeIsRead : (text : List ℕ) (x : TypeRead) → Type 0
-TypeIsRead text x = type-str.answer x ≡ type_string text
+TypeIsRead text x = type_str.answer x ≡ type_string text
 
 -- `type_print::print`
 abbrev pub TypeIsPrinted : (k : TypeStr) (out : List ℕ) (x : BytesAnswer) (out' : List ℕ) → Type 0

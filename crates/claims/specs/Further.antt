@@ -25,7 +25,7 @@ use Rattle.string_value.specs.Elements.{bytes_in, points_in}
 use Rattle.list_text.specs.Listing.{listing}
 use Rattle.npy_codes.specs.Codes.{one_number, order_number, text_values}
 use Rattle.claims.specs.Doors.{Door, in_rattle, in_c}
-use Rattle.claims.specs.Exact.{Exactly, InText, Fits, By-itself, TakesExactly, ByNumber, ByType}
+use Rattle.claims.specs.Exact.{Exactly, InText, Fits, ByItself, TakesExactly, ByNumber, ByType}
 use Rattle.claims.specs.Functions.{ByGrammar, ReadText, report_by, Report, ListRecord, Strides, ReadBytes, ReadPoints, TypeIsPrinted, Encode}
 use Rattle.claims.specs.InC.{NpyReadText, NpyList, NpyStrides, NpyReadBytes, NpyReadPoints, NpyTypePrint}
 
@@ -70,12 +70,12 @@ pub record FurtherExact : Type 0 where
       → ByGrammar (λ reading. TakesExactly in_rattle (λ c. (c ≡ report_by reading file) × (length c ≤ length out)) out (bytes_answer y) out')
   -- `string_element::read_bytes`, `read_points`
   pub read_bytes : (run : List ℕ) (k : TypeStr) (out : List ℕ) (y : BytesAnswer) (out' : List ℕ) → ReadBytes run k out y out'
-      → TakesExactly in_rattle (By-itself k (bytes_in k run) out) out (bytes_answer y) out'
+      → TakesExactly in_rattle (ByItself k (bytes_in k run) out) out (bytes_answer y) out'
   pub read_points : (run : List ℕ) (k : TypeStr) (out : List ℕ) (y : PointsAnswer) (out' : List ℕ) → ReadPoints run k out y out'
-      → TakesExactly in_rattle (By-itself k (points_in k run) out) out (points_answer y) out'
+      → TakesExactly in_rattle (ByItself k (points_in k run) out) out (points_answer y) out'
   -- `type_print::print`, `utf8_scalar::encode`
   pub type_print : (k : TypeStr) (out : List ℕ) (y : BytesAnswer) (out' : List ℕ) → TypeIsPrinted k out y out'
-      → TakesExactly in_rattle (By-itself k (gives (type_text k [])) out) out (bytes_answer y) out'
+      → TakesExactly in_rattle (ByItself k (gives (type_text k [])) out) out (bytes_answer y) out'
   pub encode : (value : ℕ) (out : List ℕ) (y : BytesAnswer) (out' : List ℕ) → Encode value out y out'
       → TakesExactly in_rattle (Encoded value out) out (bytes_answer y) out'
 
@@ -90,10 +90,10 @@ pub record FurtherExactInC : Type 0 where
       → TakesExactly (in_c one_number count) (ByNumber {N = Version × Order} (version ∷ order ∷ []) (λ a. major a.0 ∷ order_number a.1 ∷ []) (λ a. ListingIs a.0 start t ns s a.1 out)) out (r, count') out'
   pub npy_read_bytes : (run : List ℕ) (order letter size units : ℕ) (out count : List ℕ) (r : ℕ) (out' count' : List ℕ)
       → NpyReadBytes run order letter size units out count r out' count'
-      → TakesExactly (in_c one_number count) (ByType order letter size units (λ k. By-itself k (bytes_in k run) out)) out (r, count') out'
+      → TakesExactly (in_c one_number count) (ByType order letter size units (λ k. ByItself k (bytes_in k run) out)) out (r, count') out'
   pub npy_read_points : (run : List ℕ) (order letter size units : ℕ) (out count : List ℕ) (r : ℕ) (out' count' : List ℕ)
       → NpyReadPoints run order letter size units out count r out' count'
-      → TakesExactly (in_c one_number count) (ByType order letter size units (λ k. By-itself k (points_in k run) out)) out (r, count') out'
+      → TakesExactly (in_c one_number count) (ByType order letter size units (λ k. ByItself k (points_in k run) out)) out (r, count') out'
   pub npy_type_print : (order letter size units : ℕ) (out count : List ℕ) (r : ℕ) (out' count' : List ℕ)
       → NpyTypePrint order letter size units out count r out' count'
-      → TakesExactly (in_c one_number count) (ByType order letter size units (λ k. By-itself k (gives (type_text k [])) out)) out (r, count') out'
+      → TakesExactly (in_c one_number count) (ByType order letter size units (λ k. ByItself k (gives (type_text k [])) out)) out (r, count') out'

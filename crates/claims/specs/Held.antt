@@ -10,12 +10,12 @@ use Rattle.header.specs.declared.HeaderRead.{HeaderRead}
 use Rattle.claims.specs.Functions.{Read, ReadHeld}
 use Rattle.claims.specs.InC.{NpyRead, NpyReadHeld}
 
--- a call with the first k bytes, against the whole file: `Whole` where the call with the whole file has the same result, `Refused-23` where it is 23 and nothing has changed
-pub record AsWhole (k : ℕ) (file : List ℕ) (Whole Refused-23 : Type 0) : Type 0 where
+-- a call with the first k bytes, against the whole file: `Whole` where the call with the whole file has the same result, `Refused23` where it is 23 and nothing has changed
+pub record AsWhole (k : ℕ) (file : List ℕ) (Whole Refused23 : Type 0) : Type 0 where
   -- the header ends within the k bytes, or the prefix is refused (1, 2 or 4, which the first 12 bytes decide)
   pub within : ((p : Prefix) → prefix file ≡ gives p → data_start_of p ≤ k) → Whole
   -- the header ends past them: 23
-  pub past : (p : Prefix) → prefix file ≡ gives p → k < data_start_of p → Refused-23
+  pub past : (p : Prefix) → prefix file ≡ gives p → k < data_start_of p → Refused23
 
 -- the claim, for every longer file
 pub record HeldEnough : Type 0 where

@@ -7,7 +7,7 @@ use Rattle.literal_grammar.specs.Bytes.{is_blank}
 use Rattle.literal_grammar.specs.Grammar.{All}
 use Rattle.dtype.specs.declared.Order.{Order}
 use Rattle.dtype.specs.Record.{Record}
-use Rattle.record.specs.Prefix.{Version, one-zero, two-zero, three-zero, length_width, text_start, most_text}
+use Rattle.record.specs.Prefix.{Version, one_zero, two_zero, three_zero, length_width, text_start, most_text}
 use Rattle.record.specs.Rooms.{Lent}
 use Rattle.record.specs.Padding.{is_ascii}
 use Rattle.record.specs.File.{bare_text, file_by}
@@ -30,9 +30,9 @@ pub record PaddedHeader (r : Record) (bytes : List ℕ) : Type 0 where
   pub multiple : length bytes % 64 ≡ 0
   pub fewest : (k : ℕ) → (text_start version + length (bare_text r) + k + 1) % 64 ≡ 0 → spaces ≤ k
   -- "Unpadded dict text of 65,525 bytes is written as (1,0); 65,526 as (2,0)", and so for every length; "Any non-ASCII byte: (3,0)."
-  pub short : is_ascii (bare_text r) ≡ true → length (bare_text r) ≤ 65525 → version ≡ one-zero
-  pub long : is_ascii (bare_text r) ≡ true → 65526 ≤ length (bare_text r) → version ≡ two-zero
-  pub not_ascii : is_ascii (bare_text r) ≡ false → version ≡ three-zero
+  pub short : is_ascii (bare_text r) ≡ true → length (bare_text r) ≤ 65525 → version ≡ one_zero
+  pub long : is_ascii (bare_text r) ≡ true → 65526 ≤ length (bare_text r) → version ≡ two_zero
+  pub not_ascii : is_ascii (bare_text r) ≡ false → version ≡ three_zero
 
 -- "Correct the definition.": what was written is such a header, of the caller's record
 pub record PaddedTo64 : Type 0 where

@@ -10,7 +10,7 @@ use Rattle.counts.specs.Outcome.{Outcome, gives, refused, then, each, unless, af
 use Rattle.refusal.specs.declared.Refusal.{Refusal}
 use Rattle.refusal.specs.Numbers.{number_of}
 use Rattle.dtype.specs.Record.{Record}
-use Rattle.record.specs.Prefix.{Version, text_start, one-zero, two-zero, three-zero, Prefix, data_start_of, prefix, missing, text_held}
+use Rattle.record.specs.Prefix.{Version, text_start, one_zero, two_zero, three_zero, Prefix, data_start_of, prefix, missing, text_held}
 use Rattle.record.specs.Rooms.{Rooms, needs, too_small, Lent, rooms_of, holding}
 use Rattle.record.specs.Header as header
 use Rattle.header_prefix.specs.declared.Prefix as before
@@ -23,9 +23,9 @@ use Rattle.header.specs.Reads.{info_of, text_answer, ReadsText, HeaderInfo, head
 
 -- ---- after the prefix
 pub start_small : (v : Version) → text_start v ≤ 12
-start_small one-zero = omega arith
-start_small two-zero = omega arith
-start_small three-zero = omega arith
+start_small one_zero = omega arith
+start_small two_zero = omega arith
+start_small three_zero = omega arith
 
 -- a record after its prefix
 abbrev headed : Prefix → Record → header.Header

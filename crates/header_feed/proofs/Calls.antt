@@ -248,9 +248,9 @@ module _ (was text x head : List ℕ) (n : ℕ) (l : Lent) (h : BytesHeld was te
           (ends_whole was text x head n l h p e (drop from part) from room (n - start) held_is m m_is k text' et' f l' rd)
 
 -- ---- a whole call, of what the code has in hand
-module _ (head : List ℕ) (taken : ℕ) (part text : List ℕ) (l : Lent) (long : length head ≡ 12) (had : ℕ) (had-is : had ≡ min taken (start_in head + length text)) (r : Grows) (g : TakesHead head had part r) where
+module _ (head : List ℕ) (taken : ℕ) (part text : List ℕ) (l : Lent) (long : length head ≡ 12) (had : ℕ) (had_is : had ≡ min taken (start_in head + length text)) (r : Grows) (g : TakesHead head had part r) where
   heads : HeadTaken head text (so_far head taken text) part r
-  heads = g head text (so_far head taken text) (subst (λ (k : ℕ). BytesHeld head text (so_far head taken text) head k) (sym had-is) (held_first head taken text long))
+  heads = g head text (so_far head taken text) (subst (λ (k : ℕ). BytesHeld head text (so_far head taken text) head k) (sym had_is) (held_first head taken text long))
 
   pub part_within : r.used ≤ length part
   part_within = heads.within

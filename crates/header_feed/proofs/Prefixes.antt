@@ -13,15 +13,15 @@ use Rattle.counts.specs.Outcome.{Outcome, gives, refused, then, unless}
 use Rattle.counts.specs.Lists.{same}
 use Rattle.counts.proofs.Sides.{lt_or_ge}
 use Rattle.number_bytes.specs.Numbers.{little}
-use Rattle.record.specs.Prefix.{Version, one-zero, two-zero, three-zero, version_of, length_width, text_start, magic, most_text, Prefix, length_read, prefix}
+use Rattle.record.specs.Prefix.{Version, one_zero, two_zero, three_zero, version_of, length_width, text_start, magic, most_text, Prefix, length_read, prefix}
 use Rattle.header_prefix.proofs.Bytes.{short_is_1, short_is_3}
 use Rattle.header_feed.specs.Due.{start_by, start_in}
 
 -- ---- where the text starts
 by_version : (o : Outcome Version) → (10 ≤ start_by o) × (start_by o ≤ 12)
-by_version (gives one-zero) = (omega arith, omega arith)
-by_version (gives two-zero) = (omega arith, omega arith)
-by_version (gives three-zero) = (omega arith, omega arith)
+by_version (gives one_zero) = (omega arith, omega arith)
+by_version (gives two_zero) = (omega arith, omega arith)
+by_version (gives three_zero) = (omega arith, omega arith)
 by_version (refused n) = (omega arith, omega arith)
 
 pub start_bounds : (x : List ℕ) → (10 ≤ start_in x) × (start_in x ≤ 12)
@@ -85,7 +85,7 @@ prefix_start x h =
 version_two : (a b n : ℕ) → version_of a b ≡ refused n → n ≡ 2
 version_two a b n = go (eqb a 1 && eqb b 0) (eqb a 2 && eqb b 0) (eqb a 3 && eqb b 0)
   where
-    go : (x y z : Bool) → cond x (gives one-zero) (cond y (gives two-zero) (cond z (gives three-zero) (refused 2))) ≡ refused n → n ≡ 2
+    go : (x y z : Bool) → cond x (gives one_zero) (cond y (gives two_zero) (cond z (gives three_zero) (refused 2))) ≡ refused n → n ≡ 2
     go true y z e = let q : ◌≡◌ {A = ℕ} 0 1 = cc in absurd (omega arith)
     go false true z e = let q : ◌≡◌ {A = ℕ} 0 1 = cc in absurd (omega arith)
     go false false true e = let q : ◌≡◌ {A = ℕ} 0 1 = cc in absurd (omega arith)
@@ -212,7 +212,7 @@ given_stays x y p e =
 pub start_by_lem : (a b : ℕ) → start_by (version_of a b) ≡ cond (eqb a 1 && eqb b 0) 10 12
 start_by_lem a b = go (eqb a 1 && eqb b 0) (eqb a 2 && eqb b 0) (eqb a 3 && eqb b 0)
   where
-    go : (x y z : Bool) → start_by (cond x (gives one-zero) (cond y (gives two-zero) (cond z (gives three-zero) (refused 2)))) ≡ cond x 10 12
+    go : (x y z : Bool) → start_by (cond x (gives one_zero) (cond y (gives two_zero) (cond z (gives three_zero) (refused 2)))) ≡ cond x 10 12
     go true y z = refl
     go false true z = refl
     go false false true = refl

@@ -29,9 +29,9 @@ use Rattle.header_feed.specs.Feeds.{outcome, progress}
 use Rattle.header_feed.specs.Steps.{Grown, ReadsWhole}
 
 pub start_small : (v : version.Version) → text_start v ≤ 12
-start_small version.one-zero = omega arith
-start_small version.two-zero = omega arith
-start_small version.three-zero = omega arith
+start_small version.one_zero = omega arith
+start_small version.two_zero = omega arith
+start_small version.three_zero = omega arith
 
 -- a record after its prefix
 abbrev headed : Prefix → Record → header.Header

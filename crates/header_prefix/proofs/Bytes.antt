@@ -15,7 +15,7 @@ use Rattle.counts.specs.declared.Number.TheVariants.{Is, Over}
 use Rattle.counts.proofs.Fits.{number_is_back, number_over_back}
 use Rattle.type_letters.specs.declared.Endianness.TheVariants.{Little}
 use Rattle.number_bytes.specs.Numbers.{little, in_order}
-use Rattle.record.specs.Prefix.{Version, version_of, length_width, text_start, one-zero, two-zero, three-zero, magic, most_text, length_read, prefix}
+use Rattle.record.specs.Prefix.{Version, version_of, length_width, text_start, one_zero, two_zero, three_zero, magic, most_text, length_read, prefix}
 
 -- ---- 1
 pub magic_by :
@@ -62,13 +62,13 @@ module _ (v : Version) (f : List ℕ) where
 pub version_minor : (a b : ℕ) → (b ≡ 0 → ⊥) → version_of a b ≡ refused 2
 version_minor a b h = rw (ne_eqb b 0 h, and-false (eqb a 1), and-false (eqb a 2), and-false (eqb a 3)) refl
 
-pub version_one : (a b : ℕ) → a ≡ 1 → b ≡ 0 → version_of a b ≡ gives one-zero
+pub version_one : (a b : ℕ) → a ≡ 1 → b ≡ 0 → version_of a b ≡ gives one_zero
 version_one a b ha hb = rw (ha, hb) refl
 
-pub version_two : (a b : ℕ) → a ≡ 2 → b ≡ 0 → version_of a b ≡ gives two-zero
+pub version_two : (a b : ℕ) → a ≡ 2 → b ≡ 0 → version_of a b ≡ gives two_zero
 version_two a b ha hb = rw (ha, hb) refl
 
-pub version_three : (a b : ℕ) → a ≡ 3 → b ≡ 0 → version_of a b ≡ gives three-zero
+pub version_three : (a b : ℕ) → a ≡ 3 → b ≡ 0 → version_of a b ≡ gives three_zero
 version_three a b ha hb = rw (ha, hb) refl
 
 pub version_major : (a b : ℕ) → (a ≡ 1 → ⊥) → (a ≡ 2 → ⊥) → (a ≡ 3 → ⊥) → version_of a b ≡ refused 2
@@ -76,14 +76,14 @@ version_major a b h1 h2 h3 = rw (ne_eqb a 1 h1, ne_eqb a 2 h2, ne_eqb a 3 h3) re
 
 -- ---- the length field
 pub width_few : (v : Version) → length_width v ≤ 4
-width_few one-zero = omega arith
-width_few two-zero = omega arith
-width_few three-zero = omega arith
+width_few one_zero = omega arith
+width_few two_zero = omega arith
+width_few three_zero = omega arith
 
 width_of : (v : Version) → text_start v - 8 ≡ length_width v
-width_of one-zero = refl
-width_of two-zero = refl
-width_of three-zero = refl
+width_of one_zero = refl
+width_of two_zero = refl
+width_of three_zero = refl
 
 pub field_number : (v : Version) (f : List ℕ) (start : ℕ) (r : Number) → start ≡ text_start v → r ≡ number (in_order Little (take (start - 8) (drop 8 f))) → r ≡ number (field_length v f)
 unfolding in_order

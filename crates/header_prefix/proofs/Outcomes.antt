@@ -21,9 +21,9 @@ use Rattle.header_prefix.specs.Answer.{version_is, answer}
 
 -- a version can be found again from what it means
 pub version_back : before.Version → Version
-version_back before.one-zero = Version.OneZero
-version_back before.two-zero = Version.TwoZero
-version_back before.three-zero = Version.ThreeZero
+version_back before.one_zero = Version.OneZero
+version_back before.two_zero = Version.TwoZero
+version_back before.three_zero = Version.ThreeZero
 
 pub version_back_lem : (v : Version) → version_back (version_is v) ≡ v
 unfolding version_back

@@ -9,9 +9,9 @@ use Rattle.header_prefix.specs.declared.PrefixRead.{PrefixRead}
 use Rattle.header_prefix.specs.declared.VersionRead.{VersionRead}
 
 abbrev pub version_is : Version → before.Version
-version_is Version.OneZero = before.one-zero
-version_is Version.TwoZero = before.two-zero
-version_is Version.ThreeZero = before.three-zero
+version_is Version.OneZero = before.one_zero
+version_is Version.TwoZero = before.two_zero
+version_is Version.ThreeZero = before.three_zero
 
 abbrev pub version_answer : VersionRead → Outcome before.Version
 version_answer (VersionRead.Is v) = gives (version_is v)

@@ -69,9 +69,9 @@ dict_by : (k : ℕ) (s : List ℕ) (at : ℕ) → byte_at s at ≡ 123 → value
 unfolding value bracket_by is_open
 dict_by k s at h =
     let opens : is_open (byte_at s at) ≡ true = ap is_open h in
-    let no-square : eqb (byte_at s at) 91 ≡ false = ap (λ (b : ℕ). eqb b 91) h in
-    let no-round : eqb (byte_at s at) 40 ≡ false = ap (λ (b : ℕ). eqb b 40) h in
-    rw (value, opens, bracket_by, no-square, no-round)
+    let no_square : eqb (byte_at s at) 91 ≡ false = ap (λ (b : ℕ). eqb b 91) h in
+    let no_round : eqb (byte_at s at) 40 ≡ false = ap (λ (b : ℕ). eqb b 40) h in
+    rw (value, opens, bracket_by, no_square, no_round)
 
 -- a value that begins with a brace is the dict of its pairs
 pub dict_at : (k : ℕ) (s : List ℕ) (at : ℕ) (c : ValueKind) → c ≡ kind_of (byte_at s at) → c ≡ Curly

@@ -113,9 +113,9 @@ module _ (text : List ℕ) (at : ℕ) where
   abbrev after_shape : Order → List ℕ → Outcome Record
   after_shape o s = then (then (needed_at key_descr (value most_open text at)) descr_of) (λ d. limited (record { dtype = d; shape = s; order = o }))
 
-  module _ (all-strings : keyed_at (value most_open text at) ≡ true) where
+  module _ (all_strings : keyed_at (value most_open text at) ≡ true) where
     record_order : (x : Outcome Order) → key_at text at key_order declared_order ≡ x → record_at ≡ then x after_order
-    record_order x h = keyed_at_lem (value most_open text at) all-strings ∙ ap (λ (y : Outcome Order). then y after_order) (key_is key_order declared_order ∙ h)
+    record_order x h = keyed_at_lem (value most_open text at) all_strings ∙ ap (λ (y : Outcome Order). then y after_order) (key_is key_order declared_order ∙ h)
 
     pub no_order : (x : Declared) (why : Refusal) → OrderIs x (node_for key_order (value most_open text at)) → x ≡ Declared.Refused why → record_at ≡ refused (number_of why)
     no_order x why hx e = record_order (refused (number_of why)) (sym hx ∙ ap ordered e)

@@ -35,14 +35,14 @@ use Rattle.judge.specs.Judged.{reading}
 use Rattle.judge.proofs.Top.{reading_keeps}
 use Rattle.header.specs.declared.HeaderRead.{HeaderRead}
 use Rattle.header.specs.Reads.{after_prefix, held_into}
-use Rattle.list_file.specs.Report.{held_bytes, fresh, text_for, report_of, Reports}
+use Rattle.list_file.specs.Report.{held_most, fresh, text_for, report_of, Reports}
 use Rattle.list_file.specs.Said.{said_text, WritesSaid}
 use Rattle.list_file.specs.Enough.{WritesReport}
 use Rattle.read_back.proofs.Held.{held_whole}
 
 -- the report of a file's first 65,537 bytes is the report of the file
 abbrev pub FrontReports : Type 0
-FrontReports = (file : List ℕ) → report_of (take (suc held_bytes) file) ≡ report_of file
+FrontReports = (file : List ℕ) → report_of (take (suc held_most) file) ≡ report_of file
 
 -- the program's room for the text
 abbrev pub text_room : ℕ
@@ -53,16 +53,16 @@ abbrev pub ReportFits : Type 0
 ReportFits = (file : List ℕ) → length (report_of file) ≤ text_room
 
 -- ---- one byte more than is held shows whether the file is longer
-longer_same : (file : List ℕ) → ltb held_bytes (length (take (suc held_bytes) file)) ≡ ltb held_bytes (length file)
+longer_same : (file : List ℕ) → ltb held_most (length (take (suc held_most) file)) ≡ ltb held_most (length file)
 longer_same file =
-    let n = length-take (suc held_bytes) file in
-    ⊎_elim (λ l. lt-ltb held_bytes (length (take (suc held_bytes) file)) (omega (arith, n, l)) ∙ sym (lt-ltb held_bytes (length file) l))
-    (λ g. le-ltb held_bytes (length (take (suc held_bytes) file)) (omega (arith, n, g)) ∙ sym (le-ltb held_bytes (length file) g))
-    (lt_or_ge held_bytes (length file))
+    let n = length-take (suc held_most) file in
+    ⊎_elim (λ l. lt-ltb held_most (length (take (suc held_most) file)) (omega (arith, n, l)) ∙ sym (lt-ltb held_most (length file) l))
+    (λ g. le-ltb held_most (length (take (suc held_most) file)) (omega (arith, n, g)) ∙ sym (le-ltb held_most (length file) g))
+    (lt_or_ge held_most (length file))
 
 pub front_reports : FrontReports
 unfolding report_of
-front_reports file = rw (report_of, longer_same file, take-take held_bytes (suc held_bytes) file (omega arith))
+front_reports file = rw (report_of, longer_same file, take-take held_most (suc held_most) file (omega arith))
 
 -- ---- the listing of a header that was read
 module _ (longer : Bool) (file : List ℕ) (l : Lent) where
@@ -138,8 +138,8 @@ module _ (longer : Bool) (file : List ℕ) (l : Lent) (short : length file < 2 ^
 pub report_fits : ReportFits
 unfolding report_of
 report_fits file =
-    let longer = ltb held_bytes (length file) in
-    omega (arith, held_fits longer (take held_bytes file) fresh (omega (arith, length-take held_bytes file)), fresh_entries, fresh_names)
+    let longer = ltb held_most (length file) in
+    omega (arith, held_fits longer (take held_most file) fresh (omega (arith, length-take held_most file)), fresh_entries, fresh_names)
 
 -- ---- with that room the text is written
 module _ (file room : List ℕ) (r : BytesAnswer) (room' : List ℕ) (enough : text_room ≤ length room) (w : Reports file room r room') where

@@ -23,7 +23,7 @@ use Rattle.header.specs.Reads.{held_into, ReadsHeld}
 use Rattle.list_record.specs.Answer.{Lists}
 use Rattle.check_record.proofs.Accepts.{valid_checked}
 use Rattle.read_back.specs.Rooms.{table_stored, names_stored, shape_stored}
-use Rattle.list_file.specs.Report.{held_bytes, fresh, refused_line, text_for, report_of, WritesText, Reports}
+use Rattle.list_file.specs.Report.{held_most, fresh, refused_line, text_for, report_of, WritesText, Reports}
 use Rattle.list_file.specs.Said.{said_text, ListsHeader, WritesSaid}
 use Rattle.read_back.proofs.Held.{Alike, held_found, held_refused}
 
@@ -82,11 +82,11 @@ module _ (l : Lent) (a : length l.table ≡ entry_width * 512) (b : length l.nam
         shapes = c ∙ sym (length-replicate {A = ℕ} 32 0);
       }
 
-module _ (file part : List ℕ) (l l' : Lent) (r : HeaderRead) (room : List ℕ) (x : BytesAnswer) (room' : List ℕ) (held : part ≡ take held_bytes file)
-    (a : length l.table ≡ entry_width * 512) (b : length l.names ≡ 16384) (c : length l.shape ≡ 32) (w : ReadsHeld (ltb held_bytes (length file)) part l r l') where
-  reads : ReadsHeld (ltb held_bytes (length file)) (take held_bytes file) l r l'
-  reads = subst (λ (y : List ℕ). ReadsHeld (ltb held_bytes (length file)) y l r l') held w
+module _ (file part : List ℕ) (l l' : Lent) (r : HeaderRead) (room : List ℕ) (x : BytesAnswer) (room' : List ℕ) (held : part ≡ take held_most file)
+    (a : length l.table ≡ entry_width * 512) (b : length l.names ≡ 16384) (c : length l.shape ≡ 32) (w : ReadsHeld (ltb held_most (length file)) part l r l') where
+  reads : ReadsHeld (ltb held_most (length file)) (take held_most file) l r l'
+  reads = subst (λ (y : List ℕ). ReadsHeld (ltb held_most (length file)) y l r l') held w
 
   pub reports_said : WritesSaid r l' room x room' → Reports file room x room'
   unfolding report_of
-  reports_said v = owes_same _ _ room _ _ (said_text_lem (ltb held_bytes (length file)) (take held_bytes file) l fresh (fresh_alike l a b c) l' room r reads) v
+  reports_said v = owes_same _ _ room _ _ (said_text_lem (ltb held_most (length file)) (take held_most file) l fresh (fresh_alike l a b c) l' room r reads) v

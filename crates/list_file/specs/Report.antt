@@ -14,8 +14,8 @@ use Rattle.list_text.specs.Listing.{listing}
 use Rattle.header.specs.Reads.{held_into}
 
 -- "It holds the file's first 65,536 bytes"
-abbrev pub held_bytes : ℕ
-held_bytes = 65536
+abbrev pub held_most : ℕ
+held_most = 65536
 
 -- "a fresh table of 512 empty entries", "16,384 name bytes", and room for the 32 dimensions of a shape
 unfoldable pub fresh : Lent
@@ -32,7 +32,7 @@ text_for (refused n) = refused_line n []
 
 -- what is printed of a file
 unfoldable pub report_of : (file : List ℕ) → List ℕ
-report_of file = text_for (held_into (ltb held_bytes (length file)) (take held_bytes file) fresh)
+report_of file = text_for (held_into (ltb held_most (length file)) (take held_most file) fresh)
 
 -- the contract of writing a text, and of the report of a file: the text, or 28
 abbrev pub WritesText : (text room : List ℕ) → BytesAnswer → (room' : List ℕ) → Type 0

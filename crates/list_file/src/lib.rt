@@ -6,7 +6,7 @@ ghost use Rattle.std.specs.Prelude.{◌≡◌, [], take};
 ghost use Rattle.refusal.specs.Numbers.{number_of};
 ghost use Rattle.emit.specs.Emits.{Emits};
 ghost use Rattle.header.specs.Reads.{lent};
-ghost use Rattle.list_file.specs.Report.{held_bytes, refused_line, WritesText, Reports};
+ghost use Rattle.list_file.specs.Report.{held_most, refused_line, WritesText, Reports};
 ghost use Rattle.list_file.specs.Said.{ListsHeader, WritesSaid};
 ghost use Rattle.list_file.specs.Enough.{WritesReport};
 
@@ -66,7 +66,7 @@ pub fn put_read(
 
 // The first bytes of a file, or the whole file.
 fn held_part(file: &[u8]) -> &[u8]
-    ensures { result.now ≡ take held_bytes file.now }
+    ensures { result.now ≡ take held_most file.now }
 {
     if HELD < file.len() {
         return &file[..HELD];

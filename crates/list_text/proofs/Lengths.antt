@@ -29,7 +29,7 @@ use Rattle.dtype.proofs.Strides.{strides_length}
 use Rattle.dtype.proofs.Flat.{some_entry_lem}
 use Rattle.dtype.proofs.InTable.{in_table_entry, in_table_below, in_table_after}
 use Rattle.dtype.proofs.Seen.{or_left, or_right, size_fits}
-use Rattle.record.specs.Prefix.{Version, one-zero, two-zero, three-zero, major}
+use Rattle.record.specs.Prefix.{Version, one_zero, two_zero, three_zero, major}
 use Rattle.record.specs.Sound.{Small}
 use Rattle.record.proofs.Sound.{Good, AllGood, Sound}
 use Rattle.check_record.specs.Answer.{item_size}
@@ -82,11 +82,11 @@ module _ (t ns : List ℕ) where
       let w : entry.name ≡ m = ap (λ (a : Entry). a.name) i in
       let name = name_at t ns e in
       let at_name = name_text (is_field t e) name (10 ∷ y) in
-      let at-kind = kind_text entry.kind entry at_name in
+      let at_kind = kind_text entry.kind entry at_name in
       omega (
         arith,
-        printed_u64 e (32 ∷ parent_text e entry.parent (32 ∷ at-kind)) he,
-        parent_length e entry.parent (32 ∷ at-kind) (omega (arith, p, hup)),
+        printed_u64 e (32 ∷ parent_text e entry.parent (32 ∷ at_kind)) he,
+        parent_length e entry.parent (32 ∷ at_kind) (omega (arith, p, hup)),
         kind_length entry.kind entry at_name (omega (arith, n, hn)),
         name_length (is_field t e) name (10 ∷ y),
         length-take entry.name (drop (name_start t e) ns),
@@ -138,9 +138,9 @@ version_length : (v : Version) (x : List ℕ) → length (version_line v x) ≤ 
 version_length v x = omega (arith, printed_u64 (major v) (46 ∷ 48 ∷ 10 ∷ x) (major_small v))
   where
     major_small : (v : Version) → major v < 2 ^ 64
-    major_small one-zero = omega arith
-    major_small two-zero = omega arith
-    major_small three-zero = omega arith
+    major_small one_zero = omega arith
+    major_small two_zero = omega arith
+    major_small three_zero = omega arith
 
 order_length : (o : Order) (x : List ℕ) → length (order_line o x) ≡ 8 + length x
 order_length C x = omega arith
@@ -191,21 +191,21 @@ listing_length v start r x hs sound l =
     let s = r.shape in
     let w = within r l in
     let at_table = entry_lines (entries_of d) 0 (table d) (names d) x in
-    let at-data = data_line start at_table in
-    let at_item = item_line (item_size d) at-data in
+    let at_data = data_line start at_table in
+    let at_item = item_line (item_size d) at_data in
     let at_count = count_line (product s) at_item in
-    let at-strides = strides_line (strides r.order s) at_count in
-    let at-shape = shape_line s at-strides in
+    let at_strides = strides_line (strides r.order s) at_count in
+    let at_shape = shape_line s at_strides in
     omega (
       arith,
-      version_length v (order_line r.order at-shape),
-      order_length r.order at-shape,
-      numbers_length s (10 ∷ at-strides) sound.small,
+      version_length v (order_line r.order at_shape),
+      order_length r.order at_shape,
+      numbers_length s (10 ∷ at_strides) sound.small,
       w.few,
       numbers_length (strides r.order s) (10 ∷ at_count) w.steps,
       strides_length r.order s,
       printed_u64 (product s) (10 ∷ at_item) w.count,
-      item_length d at-data w.size,
+      item_length d at_data w.size,
       printed_u64 start (10 ∷ at_table) hs,
       lines_length (table d) (names d) d 0 0 0 [] x sound.good (omega (arith, w.entries)) (omega arith) refl,
     )

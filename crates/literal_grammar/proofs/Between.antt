@@ -109,7 +109,7 @@ pub shorter : (a u b w : List ℕ) → length w < length (a ++ (u ++ (b ++ (44 �
 shorter a u b w = omega (arith, length-append a (u ++ (b ++ (44 ∷ w))), length-append u (b ++ (44 ∷ w)), length-append b (44 ∷ w))
 
 -- ---- the claim for it, if the reader of one thing meets the claim
-module _ {A : Type 0} (R R⁺ : List ℕ → A → Type 0) (sub : (u : List ℕ) (v : A) → R u v → R⁺ u v) (rd : List ℕ → Read A) (rd-returned : (s : List ℕ) → Faithful R R⁺ (By rd) s) (c : ℕ) (shuts : Closes c) where
+module _ {A : Type 0} (R R⁺ : List ℕ → A → Type 0) (sub : (u : List ℕ) (v : A) → R u v → R⁺ u v) (rd : List ℕ → Read A) (rd_returned : (s : List ℕ) → Faithful R R⁺ (By rd) s) (c : ℕ) (shuts : Closes c) where
   abbrev Good : Bool → List ℕ → Type 0
   Good lone = Faithful (To R c lone) (To R⁺ c lone) (Rd rd c shuts lone)
 
@@ -126,8 +126,8 @@ module _ {A : Type 0} (R R⁺ : List ℕ → A → Type 0) (sub : (u : List ℕ)
   module _ (lone : Bool) (a t u q b z : List ℕ) (v : A) (ba : Blanks a) (ft : Begins t) (eu : t ≡ u ++ q) (ru : R u v) (same : Same (By rd) u (got v) q) (bb : Blanks b) (ez : q ≡ b ++ z) (nz : is_blank (head_of z) ≡ false) where
     goes_on : (r : List ℕ) → Alike z r → Begins (u ++ (b ++ r)) × (rd (u ++ (b ++ r)) ≡ got v (b ++ r))
     goes_on r al =
-        let al-q = alike_on q b z r ez al in
-        (begins_alike t (u ++ (b ++ r)) (alike_on t u q (b ++ r) eu al-q) ft, same (b ++ r) al-q)
+        let al_q = alike_on q b z r ez al in
+        (begins_alike t (u ++ (b ++ r)) (alike_on t u q (b ++ r) eu al_q) ft, same (b ++ r) al_q)
 
     -- its comma follows
     faithful_comma : z ≡ 44 ∷ tail_of z → Good true (tail_of z) → Good lone (a ++ t)
@@ -196,7 +196,7 @@ module _ {A : Type 0} (R R⁺ : List ℕ → A → Type 0) (sub : (u : List ℕ)
   faithful_shut lone m a t lt ba nt (inl h) ih =
       let ht = head_is t c shuts.small h in
       (got [] (tail_of t), (a ++ (c ∷ []), ap (λ y. a ++ y) ht ∙ simp append_assoc, to_shut R c lone a ba, λ r al. rd_shut rd c shuts lone ((a ++ (c ∷ [])) ++ r) a r ba (simp append_assoc)))
-  faithful_shut lone m a t lt ba nt (inr h) ih = faithful_thing lone m a t lt ba (nt, h) (rd-returned t) ih
+  faithful_shut lone m a t lt ba nt (inr h) ih = faithful_thing lone m a t lt ba (nt, h) (rd_returned t) ih
 
   faithful_within : (m : ℕ) (lone : Bool) (s : List ℕ) → length s < m → Good lone s
   faithful_within zero lone s lt = absurd (not-suc-le-zero lt)

@@ -39,8 +39,8 @@ module _ (rd : List ℕ → Read Value) where
 colon_bytes : AllBytes (58 ∷ (48 ∷ []))
 colon_bytes = (omega arith, (omega arith, tt))
 
-module _ (R R⁺ : List ℕ → Value → Type 0) (sub : (u : List ℕ) (v : Value) → R u v → R⁺ u v) (rd : List ℕ → Read Value) (rd-returned : (s : List ℕ) → Faithful R R⁺ (By rd) s)
-    (zero-value : Value) (zero-text : R (48 ∷ []) zero-value) where
+module _ (R R⁺ : List ℕ → Value → Type 0) (sub : (u : List ℕ) (v : Value) → R u v → R⁺ u v) (rd : List ℕ → Read Value) (rd_returned : (s : List ℕ) → Faithful R R⁺ (By rd) s)
+    (zero_value : Value) (zero_text : R (48 ∷ []) zero_value) where
   abbrev Good : List ℕ → Type 0
   Good = Faithful (Pair R) (Pair R⁺) (By (paired rd))
 
@@ -58,13 +58,13 @@ module _ (R R⁺ : List ℕ → Value → Type 0) (sub : (u : List ℕ) (v : Val
       let ep : u ++ (b ++ (58 ∷ (d ++ w))) ≡ p ++ w = simp append_assoc in
       let hq = same (b ++ (58 ∷ (d ++ w))) (alike_on q b z (58 ∷ (d ++ w)) ez (alike_cons 58 z (d ++ w) hz)) in
       subst (λ y. paired rd y ≡ with (item k) g) ep (pair_colon rd (u ++ (b ++ (58 ∷ (d ++ w)))) b d w k g bb bd (subst (λ x. is_blank x ≡ false) (sym (alike_head t w al)) nt) hq hw))
-      (rd-returned t))
+      (rd_returned t))
   faithful_colon s u q b z k eu ru same bb nz ez (inr h) = (
     fault z,
     (
       u ++ b,
       eu ∙ ap (λ y. u ++ y) ez ∙ simp append_assoc,
-      (58 ∷ (48 ∷ []), item k zero-value, colon_bytes, subst (λ y. Pair R y (item k zero-value)) (simp append_assoc) (pair u b [] (48 ∷ []) ru bb tt zero-text)),
+      (58 ∷ (48 ∷ []), item k zero_value, colon_bytes, subst (λ y. Pair R y (item k zero_value)) (simp append_assoc) (pair u b [] (48 ∷ []) ru bb tt zero_text)),
       λ r al.
           let ep : u ++ (b ++ r) ≡ (u ++ b) ++ r = simp append_assoc in
           let hr = sym (alike_head z r al) in
@@ -75,11 +75,11 @@ module _ (R R⁺ : List ℕ → Value → Type 0) (sub : (u : List ℕ) (v : Val
   faithful_key : (s : List ℕ) → Faithful R R⁺ (By rd) s → Good s
   faithful_key s (got k q, (u, eu, ru, same)) = let (b, z, bb, ez, nz) = gap q in faithful_colon s u q b z k eu ru same bb nz ez (case_of (eqb (head_of z) 58))
   faithful_key s (fault q, x) =
-      faithful_fault R R⁺ (Pair R) (Pair R⁺) (By rd) (By (paired rd)) [] (λ k. item k zero-value) (58 ∷ (48 ∷ [])) s q colon_bytes
-      (λ u k ru. pair u [] [] (48 ∷ []) ru tt tt zero-text) (λ y r al hy. pair_fault rd y r hy) x
+      faithful_fault R R⁺ (Pair R) (Pair R⁺) (By rd) (By (paired rd)) [] (λ k. item k zero_value) (58 ∷ (48 ∷ [])) s q colon_bytes
+      (λ u k ru. pair u [] [] (48 ∷ []) ru tt tt zero_text) (λ y r al hy. pair_fault rd y r hy) x
   faithful_key s (deep q, x) =
-      faithful_deep R R⁺ (Pair R) (Pair R⁺) (By rd) (By (paired rd)) [] (λ k. item k zero-value) (58 ∷ (48 ∷ [])) s q colon_bytes
-      (λ u k ru. pair u [] [] (48 ∷ []) ru tt tt zero-text) (λ u k ru. pair u [] [] (48 ∷ []) ru tt tt (sub (48 ∷ []) zero-value zero-text)) (λ y r al hy. pair_deep rd y r hy) x
+      faithful_deep R R⁺ (Pair R) (Pair R⁺) (By rd) (By (paired rd)) [] (λ k. item k zero_value) (58 ∷ (48 ∷ [])) s q colon_bytes
+      (λ u k ru. pair u [] [] (48 ∷ []) ru tt tt zero_text) (λ u k ru. pair u [] [] (48 ∷ []) ru tt tt (sub (48 ∷ []) zero_value zero_text)) (λ y r al hy. pair_deep rd y r hy) x
 
   pub faithful_pair : (s : List ℕ) → Faithful (Pair R) (Pair R⁺) (By (paired rd)) s
-  faithful_pair s = faithful_key s (rd-returned s)
+  faithful_pair s = faithful_key s (rd_returned s)

@@ -115,7 +115,7 @@ faithful_word v [] lt s = (got v s, ([], refl, (refl, refl), λ r al. refl))
 faithful_word v (c ∷ w) lt s = word_letter v c w s lt (case_of (eqb (head_of s) c)) (faithful_word v w lt.1 (tail_of s))
 
 -- ---- strings in the quote q, which is no backslash
-module _ (q : ℕ) (q-byte : q < 256) (q-slash : eqb 92 q ≡ false) where
+module _ (q : ℕ) (q_byte : q < 256) (q_slash : eqb 92 q ≡ false) where
   -- what may follow, where `slash` says that a backslash comes before it
   abbrev pub Rest : Bool → List ℕ → List ℕ → Type 0
   Rest false u w = Quoted q u w
@@ -131,7 +131,7 @@ module _ (q : ℕ) (q-byte : q < 256) (q-slash : eqb 92 q ≡ false) where
 
   quoted_slash : (y : List ℕ) (g : Read (List ℕ)) → quoted q true y ≡ g → quoted q false (92 ∷ y) ≡ with (λ x. x) g
   unfolding quoted
-  quoted_slash y g h = rw (quoted, q-slash) (h ∙ sym (with_same g))
+  quoted_slash y g h = rw (quoted, q_slash) (h ∙ sym (with_same g))
 
   quoted_escape : (b : ℕ) (y : List ℕ) (g : Read (List ℕ)) → is_escape b ≡ true → quoted q false y ≡ g → quoted q true (b ∷ y) ≡ with (◌∷◌ (unescape b)) g
   unfolding quoted
@@ -165,8 +165,8 @@ module _ (q : ℕ) (q-byte : q < 256) (q-slash : eqb 92 q ≡ false) where
 
   open_string : (slash : Bool) → Completable (Rest slash) []
   unfolding is_escape
-  open_string false = (q ∷ [], [], (q-byte, tt), closed)
-  open_string true = (92 ∷ (q ∷ []), unescape 92 ∷ [], (omega arith, (q-byte, tt)), escaped refl closed)
+  open_string false = (q ∷ [], [], (q_byte, tt), closed)
+  open_string true = (92 ∷ (q ∷ []), unescape 92 ∷ [], (omega arith, (q_byte, tt)), escaped refl closed)
 
   abbrev Good : Bool → List ℕ → Type 0
   Good slash s = Faithful (Rest slash) (Rest slash) (By (quoted q slash)) s

@@ -96,28 +96,28 @@ module _ (P P⁺ : List ℕ → Value → Type 0) (in_p : (u : List ℕ) (v : Va
   val_alike κ s y h al = val_at κ y (ap kind_of (alike_head s y al) ∙ h)
 
   faithful_kind : ((h : Shape) (s : List ℕ) → kind_of (head_of s) ≡ Opens h → eqb (head_of s) (opening h) ≡ true → Faithful P P⁺ (By val) s) → (κ : Kind) (s : List ℕ) → kind_of (head_of s) ≡ κ → KindIs (head_of s) κ → Faithful P P⁺ (By val) s
-  faithful_kind told-open Digit s h is =
+  faithful_kind told_open Digit s h is =
       faithful_map Natural Natural P P⁺ (By natural) (By val) [] (integer false) s (λ u n x. in_p u (integer false n) (unsigned x)) (λ u n x. inP⁺ u (integer false n) (unsigned x))
       (λ y g al hy. val_alike Digit s y h al ∙ ap (with (integer false)) hy) (faithful_natural s)
-  faithful_kind told-open Quote s h is =
+  faithful_kind told_open Quote s h is =
       let q : ℕ = head_of s in
       let S = Rest q (quote_byte q is) (quote_slash q is) false in
       let e = quote_cons s is in
       moved P P⁺ (By val) e
       (faithful_map S S P P⁺ (By (quoted q false)) (By val) (q ∷ []) string (tail_of s) (λ u w x. in_p (q ∷ u) (string w) (in_quotes is x)) (λ u w x. inP⁺ (q ∷ u) (string w) (in_quotes is x))
       (λ y g al hy. val_at Quote (q ∷ y) h ∙ ap (with string) hy) (faithful_quoted q (quote_byte q is) (quote_slash q is) (tail_of s) false))
-  faithful_kind told-open Minus s h is =
+  faithful_kind told_open Minus s h is =
       let e = head_is s 45 (omega arith) is in
       moved P P⁺ (By val) e
       (faithful_map Natural Natural P P⁺ (By natural) (By val) (45 ∷ []) (integer true) (tail_of s) (λ u n x. in_p (45 ∷ u) (integer true n) (minus_sign x)) (λ u n x. inP⁺ (45 ∷ u) (integer true n) (minus_sign x))
       (λ y g al hy. val_alike Minus s (45 ∷ y) h (alike_cons 45 s y e) ∙ ap (with (integer true)) hy) (faithful_natural (tail_of s)))
-  faithful_kind told-open Other s h is = (fault s, ([], refl, (48 ∷ [], integer false 0, zero_byte, in_p (48 ∷ []) (integer false 0) (unsigned nought)), λ r al. val_alike Other s r h al))
-  faithful_kind told-open (Word x w) s h (px, small) =
+  faithful_kind told_open Other s h is = (fault s, ([], refl, (48 ∷ [], integer false 0, zero_byte, in_p (48 ∷ []) (integer false 0) (unsigned nought)), λ r al. val_alike Other s r h al))
+  faithful_kind told_open (Word x w) s h (px, small) =
       faithful_map (Is x w) (Is x w) P P⁺ (By (word x w)) (By val) [] (λ z. z) s
       (λ u z e. in_p u z (subst (λ a. Plain a z) (sym e.0) (subst (Plain w) (sym e.1) px)))
       (λ u z e. inP⁺ u z (subst (λ a. Plain a z) (sym e.0) (subst (Plain w) (sym e.1) px)))
       (λ y g al hy. val_alike (Word x w) s y h al ∙ hy ∙ sym (with_same g)) (faithful_word x w small s)
-  faithful_kind told-open (Opens sh) s h is = told-open sh s h is
+  faithful_kind told_open (Opens sh) s h is = told_open sh s h is
 
 -- ---- no bracket may be open
 pub value_zero : (s : List ℕ) → value 0 s ≡ chosen (kind_of (head_of s)) s (λ h. deep s)

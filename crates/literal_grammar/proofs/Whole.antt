@@ -45,8 +45,8 @@ module _ (k : ℕ) (a t : List ℕ) (ba : Blanks a) (nt : is_blank (head_of t) �
   faithful_after v u q b z eu ru same bb ez nz =
       let e : a ++ t ≡ (a ++ (u ++ b)) ++ z = ap (λ y. a ++ y) (eu ∙ ap (λ y. u ++ y) ez) ∙ simp append_assoc in
       by_rest z e nz (λ r al.
-      let al-q = alike_on q b z r ez al in
-      ap (literal k) (simp append_assoc) ∙ front (u ++ (b ++ r)) (got v (b ++ r)) (alike_on t u q (b ++ r) eu al-q) (same (b ++ r) al-q))
+      let al_q = alike_on q b z r ez al in
+      ap (literal k) (simp append_assoc) ∙ front (u ++ (b ++ r)) (got v (b ++ r)) (alike_on t u q (b ++ r) eu al_q) (same (b ++ r) al_q))
     where
       by_rest : (z : List ℕ) → a ++ t ≡ (a ++ (u ++ b)) ++ z → is_blank (head_of z) ≡ false → ((r : List ℕ) → Alike z r → literal k ((a ++ (u ++ b)) ++ r) ≡ alone (got v (b ++ r))) → Good
       by_rest [] e nz on = (got v [], (a ++ (u ++ b), e, padded a u b ba ru bb, λ r al. on r al ∙ ap (λ y. alone (got v (b ++ y))) al ∙ ap (λ y. alone (got v y)) (append-nil b) ∙ alone_end v b bb ∙ ap (got v) (sym al)))

@@ -11,7 +11,7 @@ use Rattle.counts.specs.Outcome.{Outcome, gives, refused, each}
 use Rattle.counts.proofs.Alike.{true_false}
 use Rattle.refusal.specs.declared.Refusal.{Refusal}
 use Rattle.refusal.specs.Numbers.{number_of}
-use Rattle.record.specs.Prefix.{Version, one-zero, two-zero, three-zero, major, version_of}
+use Rattle.record.specs.Prefix.{Version, one_zero, two_zero, three_zero, major, version_of}
 use Rattle.dtype.specs.declared.Order.{Order}
 use Rattle.dtype.specs.declared.Order.TheVariants.{C, Fortran}
 use Rattle.header.specs.Reads.{HeaderInfo}
@@ -60,9 +60,9 @@ refusal_known Refusal.BoolByte = refl
 refusal_known Refusal.Buffer = refl
 
 version_again : (v : Version) → gives v ≡ version_of (major v) 0
-version_again one-zero = refl
-version_again two-zero = refl
-version_again three-zero = refl
+version_again one_zero = refl
+version_again two_zero = refl
+version_again three_zero = refl
 
 order_again : (o : Order) → gives o ≡ order_for (order_number o)
 order_again C = refl

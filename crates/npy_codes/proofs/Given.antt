@@ -13,4 +13,4 @@ pub order_fortran : (n : ℕ) → n ≡ 1 → order_for n ≡ gives Fortran
 order_fortran n is = rw is refl
 
 pub order_none : (n : ℕ) → (n ≡ 0 → ⊥) → (n ≡ 1 → ⊥) → order_for n ≡ refused 27
-order_none n not-c not-fortran = rw (ne_eqb n 0 not-c, ne_eqb n 1 not-fortran) refl
+order_none n not_c not_fortran = rw (ne_eqb n 0 not_c, ne_eqb n 1 not_fortran) refl

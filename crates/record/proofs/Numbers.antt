@@ -30,7 +30,7 @@ use Rattle.record.specs.Dict.{is_the, all_strings, last_of, needed, key_order, k
 use Rattle.record.specs.Dimensions.{signed, dimension, dimensions, sub_shape, ranked, shape_of}
 use Rattle.record.specs.Descr.{arrays, two_or_three, perhaps, descr_of, fields_of, field_of, named_of, typed_of}
 use Rattle.record.specs.FromValue.{declared_order, record_from, record_of_value}
-use Rattle.record.specs.Prefix.{Version, one-zero, two-zero, three-zero, version_of, length_width, text_start, magic, most_text, Prefix, data_start_of, length_read, prefix}
+use Rattle.record.specs.Prefix.{Version, one_zero, two_zero, three_zero, version_of, length_width, text_start, magic, most_text, Prefix, data_start_of, length_read, prefix}
 use Rattle.record.specs.Rooms.{Rooms, needs, too_small}
 use Rattle.record.specs.Header.{Reading, value_read, record_in, stored}
 
@@ -267,8 +267,8 @@ in_numbered reading text =
 
 pub version_numbered : (a b : ℕ) → Numbered (version_of a b)
 version_numbered a b =
-    cond_numbered (eqb a 1 && eqb b 0) (an_answer one-zero)
-    (cond_numbered (eqb a 2 && eqb b 0) (an_answer two-zero) (cond_numbered (eqb a 3 && eqb b 0) (an_answer three-zero) (a_number (refl, refl))))
+    cond_numbered (eqb a 1 && eqb b 0) (an_answer one_zero)
+    (cond_numbered (eqb a 2 && eqb b 0) (an_answer two_zero) (cond_numbered (eqb a 3 && eqb b 0) (an_answer three_zero) (a_number (refl, refl))))
 
 length_numbered : (v : Version) (file : List ℕ) → Numbered (length_read v file)
 length_numbered v file =

@@ -213,7 +213,7 @@ no_shape b h = go (eqb b 91) (eqb b 40) refl refl h
     go false false ht hu e = (eqb-false b 91 ht, eqb-false b 40 hu)
 
 pub shape_round : (b : ℕ) → is_shape b ≡ true → (b ≡ 91 → ⊥) → b ≡ 40
-shape_round b h no-square = eqb-true b 40 (rw (ne_eqb b 91 no-square) at h)
+shape_round b h no_square = eqb-true b 40 (rw (ne_eqb b 91 no_square) at h)
 
 pub shape_open : (b : ℕ) → is_shape b ≡ true → is_open b ≡ true
 unfolding is_open
@@ -231,7 +231,7 @@ module _ (s : List ℕ) (at : ℕ) where
 
   round_by : (j : ℕ) → (byte_at s at ≡ 91 → ⊥) → byte_at s at ≡ 40 → value (suc j) s at ≡ with (λ e ns. tuple (span at e) (nodes ns)) (tuple_by (value j s) s (at + 1))
   unfolding value bracket_by
-  round_by j no-square h = rw (value, open_round (byte_at s at) h, bracket_by, ne_eqb _ _ no-square, eq-eqb _ _ h)
+  round_by j no_square h = rw (value, open_round (byte_at s at) h, bracket_by, ne_eqb _ _ no_square, eq-eqb _ _ h)
 
   module _ (k : ℕ) (some : k ≡ 0 → ⊥) where
     above : suc (k - 1) ≡ k
@@ -243,7 +243,7 @@ module _ (s : List ℕ) (at : ℕ) where
         (subst (λ (x : Outcome Outline). WalksMembers x (list_by (value (k - 1) s) s (at + 1) 93) r) (ap outlined hv) w)
 
     pub judged_round : (byte_at s at ≡ 91 → ⊥) → byte_at s at ≡ 40 → (r : ShapeJudged) → WalksMembers (gives (outline_of [])) (tuple_by (value (k - 1) s) s (at + 1)) r → JudgesShape (value k s at) r
-    judged_round no-square h r w = judged_around (λ e ns. tuple (span at e) (nodes ns)) (tuple_same at) (value k s at) (tuple_by (value (k - 1) s) s (at + 1)) r (ap (λ (j : ℕ). value j s at) (sym above) ∙ round_by (k - 1) no-square h) w
+    judged_round no_square h r w = judged_around (λ e ns. tuple (span at e) (nodes ns)) (tuple_same at) (value k s at) (tuple_by (value (k - 1) s) s (at + 1)) r (ap (λ (j : ℕ). value j s at) (sym above) ∙ round_by (k - 1) no_square h) w
 
 -- a value that is no list and no tuple
 closed : (t : Bool) (x y : ValueKind) → closing_of x ≡ 0 → closing_of y ≡ 0 → closing_of (cond t x y) ≡ 0

@@ -68,12 +68,12 @@ pub trimming_more : (run : List ℕ) (n : ℕ) → 0 < n → Trimming run n → 
 trimming_more run zero h t z = absurd (omega arith)
 trimming_more run (suc n) h t z =
     let e : suc n - 1 ≡ n = omega arith in
-    let zero-at : get_or run n 0 ≡ 0 = rw e at z in
+    let zero_at : get_or run n 0 ≡ 0 = rw e at z in
     let lt : n < length run = omega (arith, t.inside) in
     rw e
     (record {
       inside = omega arith;
-      left = sym (trim_zero (take n run)) ∙ ap (λ (b : ℕ). trimmed (take n run ++ b ∷ [])) (sym zero-at) ∙ ap (λ (m : List ℕ). trimmed m) (sym (take-suc run n 0 lt)) ∙ t.left;
+      left = sym (trim_zero (take n run)) ∙ ap (λ (b : ℕ). trimmed (take n run ++ b ∷ [])) (sym zero_at) ∙ ap (λ (m : List ℕ). trimmed m) (sym (take-suc run n 0 lt)) ∙ t.left;
     })
 
 pub trimming_stop : (run : List ℕ) (n : ℕ) → 0 < n → Trimming run n → (get_or run (n - 1) 0 ≡ 0 → ⊥) → n ≡ length (trimmed run)

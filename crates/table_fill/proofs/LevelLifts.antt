@@ -44,13 +44,13 @@ above_flat (n ∷ ns) d entry up m last size old hs hl room big =
     let long = length-sets old (entry_width * entry) rows in
     let part : take (entry_width * (last - entry)) (drop (entry_width * entry) now) ≡ rows = part_of old (entry_width * entry) (entry_width * (last - entry)) rows (omega (arith, few)) (omega (arith, few)) in
     let one : entry + by - 1 ≡ entry + length ns = omega arith in
-    let last-is : capped (last + by) ≡ last + by = omega arith in
-    let up-there : lifted now entry (last - entry) by ≡ sets now (entry_width * (entry + by)) (flat d (entry + by) (entry + length ns) 0 []) =
+    let last_is : capped (last + by) ≡ last + by = omega arith in
+    let up_there : lifted now entry (last - entry) by ≡ sets now (entry_width * (entry + by)) (flat d (entry + by) (entry + length ns) 0 []) =
     lifted_room now entry (last - entry) by (omega (arith, long))
     ∙ ap (λ (y : List ℕ). sets now (entry_width * (entry + by)) (moved_from 0 by (entry + by - 1) y)) part
     ∙ ap (λ (y : ℕ). sets now (entry_width * (entry + by)) (moved_from 0 by y rows)) one
     ∙ ap (sets now (entry_width * (entry + by))) (dtype_moved by (entry + length ns) d entry (entry + by) up m refl (omega arith)) in
-    ap (λ (y : ℕ). levelled (n ∷ ns) entry up m y size (lifted now entry (last - entry) by)) last-is
-    ∙ ap (levelled (n ∷ ns) entry up m (last + by) size) up-there
+    ap (λ (y : ℕ). levelled (n ∷ ns) entry up m y size (lifted now entry (last - entry) by)) last_is
+    ∙ ap (levelled (n ∷ ns) entry up m (last + by) size) up_there
     ∙ levels_flat (n ∷ ns) d entry up m (last + by) size now hs (omega (arith, count)) (omega (arith, long))
     ∙ sets_over old (entry_width * entry) rows whole (omega (arith, few, all, count))

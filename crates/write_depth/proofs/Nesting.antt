@@ -34,22 +34,22 @@ module _ (t : List ℕ) (e : ℕ) where
     plain_within z (array n d) l = absurd (omega (arith, kind_is (array n d) l))
     plain_within z (record_of fs) l = absurd (omega (arith, kind_is (record_of fs) l))
 
-    module _ (not_plain : x.kind ≡ 0 → ⊥) (not-array : x.kind ≡ 1 → ⊥) where
+    module _ (not_plain : x.kind ≡ 0 → ⊥) (not_array : x.kind ≡ 1 → ⊥) where
       fields_listed : (d : Dtype) × InTableAt t e d → (fs : Fields) × (x.number ≡ field_count fs) × FieldsInTableAt t (e + 1) fs
       fields_listed (plain ty, l) = absurd (not_plain (kind_is (plain ty) l))
-      fields_listed (array n d, l) = absurd (not-array (kind_is (array n d) l))
+      fields_listed (array n d, l) = absurd (not_array (kind_is (array n d) l))
       fields_listed (record_of fs, l) = (fs, ap (λ (a : Entry). a.number) (q ∙ listed_entry t e (record_of fs) l), listed_fields t e fs l)
 
       pub record_none : k ≡ 0 → (d : Dtype) → InTableAt t e d → false ≡ within (value_of (descr_layout d)) k
       record_none z (plain ty) l = absurd (not_plain (kind_is (plain ty) l))
-      record_none z (array n d) l = absurd (not-array (kind_is (array n d) l))
+      record_none z (array n d) l = absurd (not_array (kind_is (array n d) l))
       record_none z (record_of fs) l = rw z
 
       pub record_within : (k ≡ 0 → ⊥) → (r : Bool)
           → ((fs : Fields) → x.number ≡ field_count fs → FieldsInTableAt t (e + 1) fs → r ≡ all_within (values_of (field_row fs)) (k - 1))
           → (d : Dtype) → InTableAt t e d → r ≡ within (value_of (descr_layout d)) k
       record_within z r h (plain ty) l = absurd (not_plain (kind_is (plain ty) l))
-      record_within z r h (array n d) l = absurd (not-array (kind_is (array n d) l))
+      record_within z r h (array n d) l = absurd (not_array (kind_is (array n d) l))
       record_within z r h (record_of fs) l =
           let v : k ≡ suc (k - 1) = omega arith in
           rw v (h fs (ap (λ (a : Entry). a.number) (q ∙ listed_entry t e (record_of fs) l)) (listed_fields t e fs l))
@@ -160,16 +160,16 @@ module _ (t : List ℕ) (e k c left : ℕ) (fs : Fields) (g : Passing t e k c le
         field_as name d k (rw z at enough) ∙ sym (inner d f)
 
     pub passing_no : r ≡ false → false ≡ all_within (values_of (field_row fs)) k
-    passing_no is-no = go g.still g.counted g.listed g.decides
+    passing_no is_no = go g.still g.counted g.listed g.decides
       where
         go : (gs : Fields) → left ≡ field_count gs → FieldsInTableAt t c gs → all_within (values_of (field_row fs)) k ≡ all_within (values_of (field_row gs)) k
             → false ≡ all_within (values_of (field_row fs)) k
         go end_of_fields n l u = absurd (omega arith)
         go (field_then name d gs) n l u =
-            sym (u ∙ ap (λ (b : Bool). b && all_within (values_of (field_row gs)) k) (first_is name d gs l ∙ is-no))
+            sym (u ∙ ap (λ (b : Bool). b && all_within (values_of (field_row gs)) k) (first_is name d gs l ∙ is_no))
 
     pub passing_more : r ≡ true → Passing t e k (c + x.extent) (left - 1) fs
-    passing_more is-yes = go g.still g.counted g.listed g.decides
+    passing_more is_yes = go g.still g.counted g.listed g.decides
       where
         go : (gs : Fields) → left ≡ field_count gs → FieldsInTableAt t c gs → all_within (values_of (field_row fs)) k ≡ all_within (values_of (field_row gs)) k
             → Passing t e k (c + x.extent) (left - 1) fs
@@ -181,5 +181,5 @@ module _ (t : List ℕ) (e k c left : ℕ) (fs : Fields) (g : Passing t e k c le
               listed = rw z (listed_later t c name d gs l);
               counted = omega arith;
               further = omega (arith, g.further);
-              decides = u ∙ ap (λ (b : Bool). b && all_within (values_of (field_row gs)) k) (first_is name d gs l ∙ is-yes);
+              decides = u ∙ ap (λ (b : Bool). b && all_within (values_of (field_row gs)) k) (first_is name d gs l ∙ is_yes);
             }

@@ -6,7 +6,7 @@ use mathlib.Core.Bool.{Bool, true, false}
 use borrow.Author.Tests.{lt-ltb, le-ltb, ltb-true, ltb-false}
 use lib.Dec.{ltb}
 use Rattle.counts.specs.Outcome.{gives, refused, unless}
-use Rattle.record.specs.Prefix.{Version, one-zero, two-zero, three-zero, length_width, text_start, most_text}
+use Rattle.record.specs.Prefix.{Version, one_zero, two_zero, three_zero, length_width, text_start, most_text}
 use Rattle.record.specs.Padding.{padding_unit, spaces_after, padded_length, most_short, version_for}
 use Rattle.record.proofs.Padded.{short_is_one_zero, long_is_two_zero, as_three_zero}
 use Rattle.header_prefix.specs.declared.Version.{Version as Chosen}
@@ -20,9 +20,9 @@ unfolding spaces_after
 spaces_few n = omega arith
 
 pub chosen_back : (v : Version) → version_is (chosen v) ≡ v
-chosen_back one-zero = refl
-chosen_back two-zero = refl
-chosen_back three-zero = refl
+chosen_back one_zero = refl
+chosen_back two_zero = refl
+chosen_back three_zero = refl
 
 pub version_three : (n : ℕ) (ascii : Bool) → ascii ≡ false → ThreeZero ≡ chosen (version_for ascii n)
 version_three n ascii e = rw e (ap chosen (sym (as_three_zero n)))

@@ -11,7 +11,7 @@ use Rattle.emit.proofs.Pieces.{emits_then, emits_same, emits_length}
 use Rattle.literal_grammar.specs.Print.{spaces}
 use Rattle.type_letters.specs.declared.Endianness.TheVariants.{Little}
 use Rattle.number_bytes.specs.Numbers.{least_bytes, out_order}
-use Rattle.record.specs.Prefix.{Version, one-zero, two-zero, three-zero, major, length_width, magic}
+use Rattle.record.specs.Prefix.{Version, one_zero, two_zero, three_zero, major, length_width, magic}
 use Rattle.record.specs.File.{file_by}
 use Rattle.header_prefix.specs.declared.Version.{Version as Chosen}
 use Rattle.header_prefix.specs.Answer.{version_is}
@@ -51,9 +51,9 @@ spaces_none (suc k) x h = absurd (omega arith)
 
 -- ---- the prefix
 width_fits : (v : Version) → length_width v < 256
-width_fits one-zero = omega arith
-width_fits two-zero = omega arith
-width_fits three-zero = omega arith
+width_fits one_zero = omega arith
+width_fits two_zero = omega arith
+width_fits three_zero = omega arith
 
 pub byte_width : (v : Chosen) (w : ℕ) → w ≡ length_width (version_is v) → w < 256
 byte_width v w e = omega (arith, width_fits (version_is v), e)

@@ -3,7 +3,7 @@
 -- record's Padding.antt; its `padding_unit` is the code's PADDING_UNIT.
 use Rattle.std.specs.Prelude.{ℕ, ◌+◌, Bool, ltb}
 use Rattle.counts.specs.Outcome.{Outcome, gives, refused, unless}
-use Rattle.record.specs.Prefix.{Version, one-zero, two-zero, three-zero, text_start, most_text}
+use Rattle.record.specs.Prefix.{Version, one_zero, two_zero, three_zero, text_start, most_text}
 use Rattle.record.specs.Padding.{spaces_after, padded_length, version_for}
 use Rattle.refusal.specs.Numbers.{number_of}
 use Rattle.header_prefix.specs.declared.Version.{Version as Chosen}
@@ -13,9 +13,9 @@ use Rattle.write_padding.specs.declared.Planned.{Planned}
 
 -- a version as the code names it; the way back is `version_is` of header_prefix
 abbrev pub chosen : Version → Chosen
-chosen one-zero = OneZero
-chosen two-zero = TwoZero
-chosen three-zero = ThreeZero
+chosen one_zero = OneZero
+chosen two_zero = TwoZero
+chosen three_zero = ThreeZero
 
 -- how a text of n bytes is written as a version
 abbrev pub plan_with : Version → ℕ → PaddingPlan

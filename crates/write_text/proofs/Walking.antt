@@ -66,7 +66,7 @@ module _ (t ns : List ℕ) (e b : ℕ) where
     plain_walked k old at out p h (array n d) s = absurd (omega (arith, kind_is (array n d) s))
     plain_walked k old at out p h (record_of fs) s = absurd (omega (arith, kind_is (record_of fs) s))
 
-    module _ (not_plain : x.kind ≡ 0 → ⊥) (not-array : x.kind ≡ 1 → ⊥) where
+    module _ (not_plain : x.kind ≡ 0 → ⊥) (not_array : x.kind ≡ 1 → ⊥) where
       fields_stand : (fs : Fields) → ListedNamed t ns e b (record_of fs) → ListedNamedIn t ns (e + 1) b fs
       fields_stand fs s = record { listed = listed_fields t e fs s.listed; later = s.later; named = s.named; inside = s.inside; typed = s.typed }
 
@@ -75,7 +75,7 @@ module _ (t ns : List ℕ) (e b : ℕ) where
 
       fields_asks : (d : Dtype) × ListedNamed t ns e b d → (fs : Fields) × (x.number ≡ field_count fs) × ListedNamedIn t ns (e + 1) b fs
       fields_asks (plain ty, s) = absurd (not_plain (kind_is (plain ty) s))
-      fields_asks (array n d, s) = absurd (not-array (kind_is (array n d) s))
+      fields_asks (array n d, s) = absurd (not_array (kind_is (array n d) s))
       fields_asks (record_of fs, s) = (fs, count_is fs s, fields_stand fs s)
 
       pub record_walked : (old : List ℕ) (at : ℕ) (m₁ : List ℕ) (p₁ : ℕ) (m₂ : List ℕ) (r : WalkEnd) (out : List ℕ) (p : ℕ) → Emits (λ z. 91 ∷ z) old at m₁ p₁
@@ -83,7 +83,7 @@ module _ (t ns : List ℕ) (e b : ℕ) where
           → Emits (λ z. 93 ∷ z) m₂ r.at out p → (d : Dtype) → ListedNamed t ns e b d
           → Walked (print (descr_layout d)) (entries_of d) (name_bytes_of d) old e b at out (record { entry = r.entry; byte = r.byte; at = p })
       record_walked old at m₁ p₁ m₂ r out p a f c (plain ty) s = absurd (not_plain (kind_is (plain ty) s))
-      record_walked old at m₁ p₁ m₂ r out p a f c (array n d) s = absurd (not-array (kind_is (array n d) s))
+      record_walked old at m₁ p₁ m₂ r out p a f c (array n d) s = absurd (not_array (kind_is (array n d) s))
       record_walked old at m₁ p₁ m₂ r out p a f c (record_of fs) s =
           let w = f fs (count_is fs s) (fields_stand fs s) in
           let row = print_row (field_row fs) in

@@ -51,5 +51,5 @@ returns c =
     let a = c.args in
     let s = a.text.now in
     let z : is_shape (byte_at s a.at) ≡ true = ap is_shape (sym c.peek-b.ensures) ∙ not-false _ c.if-not-b.false-raw in
-    let no-square : byte_at s a.at ≡ 91 → ⊥ = λ e. c.if-b-eq-SQUARE.false (c.peek-b.ensures ∙ e) in
-    judged_round s a.at a.room c.if-room-eq0.false no-square (shape_round (byte_at s a.at) z no-square) c.tuple.result c.tuple.ensures
+    let no_square : byte_at s a.at ≡ 91 → ⊥ = λ e. c.if-b-eq-SQUARE.false (c.peek-b.ensures ∙ e) in
+    judged_round s a.at a.room c.if-room-eq0.false no_square (shape_round (byte_at s a.at) z no_square) c.tuple.result c.tuple.ensures
