@@ -1,9 +1,11 @@
 -- Where a string begins, there is a byte of the text, since what is past the end is of another kind. By the kinds.
 use Prim.Native.Nat.{ℕ, ◌<◌}
 use mathlib.Core.Path.{◌≡◌, refl, sym, ap, ◌∙◌}
-use mathlib.Core.List.{List}
+use mathlib.Core.List.{List, [], ◌∷◌}
 use mathlib.Core.Bool.{true, false}
 use lib.ListN.{length}
+use denote.Enum.Declared.{tag_of}
+use types.Run.{OneOf, miss}
 use lib.Dec.{eqb}
 use borrow.Author.Tests.{eqb-true}
 use Rattle.counts.proofs.Alike.{true_false}
@@ -12,8 +14,22 @@ use Rattle.literal_grammar.specs.Bytes.{is_quote}
 use Rattle.literal_bytes.specs.Text.{byte_at, kind_of}
 use Rattle.literal_bytes.specs.declared.ValueKind.{ValueKind}
 use Rattle.literal_bytes.specs.declared.ValueKind.TheVariants.{Square, Round, Curly, Quote, Minus, Digit, TrueWord, FalseWord, NoneWord, Other}
+use Rattle.literal_bytes.specs.contracts.ValueKind.{the_type}
 use Rattle.literal_bytes.proofs.Positions.{by_test, kind_in}
 use Rattle.descr_field.specs.Begins.{is_string}
+
+-- every kind but a string's
+pub other_kind : (k : ValueKind) → OneOf (0 ∷ 1 ∷ 2 ∷ 4 ∷ 5 ∷ 6 ∷ 7 ∷ 8 ∷ 9 ∷ []) (tag_of the_type k) → is_string k ≡ false
+other_kind Square o = refl
+other_kind Round o = refl
+other_kind Curly o = refl
+other_kind Quote o = absurd (miss (0 ∷ 1 ∷ 2 ∷ 4 ∷ 5 ∷ 6 ∷ 7 ∷ 8 ∷ 9 ∷ []) 3 tt o)
+other_kind Minus o = refl
+other_kind Digit o = refl
+other_kind TrueWord o = refl
+other_kind FalseWord o = refl
+other_kind NoneWord o = refl
+other_kind Other o = refl
 
 -- a string begins with a quote, and nothing else does
 pub string_quote : (b : ℕ) → is_quote b ≡ is_string (kind_of b)

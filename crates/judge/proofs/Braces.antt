@@ -25,14 +25,18 @@ use Rattle.literal_bytes.specs.declared.ValueKind.TheVariants.{Square, Round, Cu
 use Rattle.literal_bytes.specs.contracts.ValueKind.{the_type}
 use Rattle.literal.proofs.View.{view, View}
 use Rattle.descr_field.specs.Begins.{is_string}
+use Rattle.descr_field.proofs.Begins.{other_kind}
 use Rattle.judge_names.specs.declared.Name as name
 use Rattle.judge_names.specs.declared.Name.{Name}
 use Rattle.judge_names.specs.Answer.{NameIs}
 use Rattle.judge.specs.Pairs.{pairs_in}
 
--- what the `else` of `let ValueKind::Curly = k else { .. }` knows of k
+-- what the `else` of `let ValueKind::Curly = k else { .. }` knows of k, and that of `ValueKind::Quote`
 abbrev pub NoCurly : ValueKind → Type 0
 NoCurly c = OneOf (0 ∷ 1 ∷ 3 ∷ 4 ∷ 5 ∷ 6 ∷ 7 ∷ 8 ∷ 9 ∷ []) (tag_of the_type c)
+
+abbrev pub NoQuote : ValueKind → Type 0
+NoQuote c = OneOf (0 ∷ 1 ∷ 2 ∷ 4 ∷ 5 ∷ 6 ∷ 7 ∷ 8 ∷ 9 ∷ []) (tag_of the_type c)
 
 -- a brace
 is_curly : ValueKind → Bool
@@ -119,7 +123,10 @@ module _ (k : ℕ) (s : List ℕ) (at e : ℕ) (n : Node) (h : value k s at ≡ 
   no_string_by NoneWord z v = text_of v
   no_string_by Other z v = absurd v
 
-  pub no_string : is_string (kind_of (byte_at s at)) ≡ false → NameIs name.Name.NoString (string_or 8 (forget n))
-  no_string z =
+  pub not_a_string : is_string (kind_of (byte_at s at)) ≡ false → NameIs name.Name.NoString (string_or 8 (forget n))
+  not_a_string z =
       let e = no_string_by (kind_of (byte_at s at)) z (view k s at h refl) in
       record { of_string = ap given e; of_descr = ap (is_the key_descr) e; of_order = ap (is_the key_order) e; of_shape = ap (is_the key_shape) e }
+
+  pub no_string : (c : ValueKind) → c ≡ kind_of (byte_at s at) → NoQuote c → NameIs name.Name.NoString (string_or 8 (forget n))
+  no_string c hk z = not_a_string (ap is_string (sym hk) ∙ other_kind c z)

@@ -5,7 +5,7 @@ use native.Mathlib.Decide.{dec_lt}
 use native.Mathlib.Numerals.{add-one}
 use mathlib.Core.Path.{◌≡◌, refl, sym, ap, ◌∙◌}
 use mathlib.Core.List.{List, [], ◌∷◌}
-use mathlib.Core.Bool.{Bool, true, false, ◌&&◌, not, cond}
+use mathlib.Core.Bool.{Bool, true, false, ◌&&◌, not, cond, or-true}
 use lib.ListN.{length, get_or, take, drop, drop_of_length-le}
 use lib.Seq.{drop-cons, drop-drop}
 use lib.Dec.{eqb, ltb}
@@ -116,3 +116,10 @@ module _ (q : ℕ) (s : List ℕ) (from to n : ℕ) (le : q ≤ 39) (h : n ≡ r
   pub high_to : (t : Bool) → t ≡ (ltb (from + n) (length s) && eqb (byte_at s (from + n)) q) → t ≡ true → from + n ≡ past (is_plain q) s from
   unfolding is_plain
   high_to t said so = sym (high_on ∙ past_stop (is_plain q) s (from + n) (rw (and_right (ltb (from + n) (length s)) (eqb (byte_at s (from + n)) q) (sym said ∙ so))))
+
+-- no run begins with a backslash
+pub backslash_stops : (q : ℕ) (s : List ℕ) (at : ℕ) (t : Bool) → t ≡ (ltb at (length s) && eqb (byte_at s at) 92) → t ≡ true → at ≡ past (is_plain q) s at
+unfolding is_plain
+backslash_stops q s at t said so =
+    let b = and_right (ltb at (length s)) (eqb (byte_at s at) 92) (sym said ∙ so) in
+    sym (past_stop (is_plain q) s at (rw (b, or-true)))

@@ -4,7 +4,7 @@ use native.Mathlib.Omega.{arith}
 use mathlib.Core.Path.{refl}
 use Rattle.literal_bytes.proofs.Positions.{kind_in}
 use Rattle.literal_bytes.proofs.Ends.{stops}
-use Rattle.judge.proofs.Braces.{no_string}
+use Rattle.judge.proofs.Braces.{not_a_string}
 use Rattle.judge.proofs.KeyAt.{begins_string, begins_other, key_fault, key_string, raw_within, raw_named}
 use Rattle.judge.proofs.keys.key_at.Goals as goal
 
@@ -12,7 +12,7 @@ pub returns-then-not-string_at : goal.returns-then-not-string_at
 returns-then-not-string_at c =
     let a = c.args in
     let no = begins_other a.text.now a.at _ c.string_at.ensures c.if-not-string_at.true-raw in
-    record { begins = c.key.ensures; named = λ k n e h. no_string k a.text.now a.at e n h no }
+    record { begins = c.key.ensures; named = λ k n e h. not_a_string k a.text.now a.at e n h no }
 
 pub overflow_add-from : goal.overflow_add-from
 overflow_add-from c =
