@@ -128,7 +128,7 @@ HoweverCutInC =
     (parts : List (List ℕ)) (text : List ℕ) (l : Lent) (said : List ℕ) (r : ℕ) (numbers' text' : List ℕ) (l' : Lent) (said' : List ℕ) (total : ℕ) → RunInC (replicate 20 0) text l parts said r numbers' text' l' said' total
     → (r₀ : ℕ) (m : Lent) (said₀ : List ℕ) → NpyRead (joined parts) l said r₀ m said₀ → CutInC (joined parts) text l said r₀ m said₀ r numbers' text' l' said' total
 
--- as More-before: 255, and nothing else
+-- as MoreBefore: 255, and nothing else
 abbrev pub MoreBeforeInC : Type 0
 MoreBeforeInC =
     (parts : List (List ℕ)) (later text : List ℕ) (l : Lent) (said : List ℕ) (r : ℕ) (numbers' text' : List ℕ) (l' : Lent) (said' : List ℕ) (total : ℕ) → RunInC (replicate 20 0) text l parts said r numbers' text' l' said' total
