@@ -1,4 +1,6 @@
 -- The answers of `check`: what `check_dtype` answers for the dtype beside the shape, and then 22.
+use Rattle.counts.specs.declared.Bytes.{Bytes}
+use Rattle.std.specs.Prelude.{Option}
 use Prim.Native.Nat.{ℕ, ◌/◌}
 use mathlib.Core.Path.{◌≡◌, refl, ap, sym, ◌∙◌}
 use mathlib.Core.Bool.{Bool, true, false, ◌||◌}
@@ -15,7 +17,6 @@ use Rattle.dtype.specs.Limits.{over_dimensions, over_levels, over_entries, over_
 use Rattle.shape.specs.Count.{item_count}
 use Rattle.check_table.specs.Reading.{read_dtype}
 use Rattle.check_record.specs.Limited.{limited_dtype}
-use Rattle.check_record.specs.declared.ItemSize.{ItemSize}
 use Rattle.check_record.proofs.DtypeChecks.{limited_read, entries_are}
 use Rattle.check_record.specs.Checked.{checked_record}
 use Rattle.check_record.specs.Valid.{made}
@@ -58,7 +59,7 @@ module _ (t ns s : List ℕ) (o : Order) where
       go (refused m) e k = let z : n ≡ m = cc in ap refused z ∙ sym (checked_by_lem (refused m) e)
 
   -- 22, or what the record has
-  pub check_counted : (n : ℕ) → n ≡ length t / entry_width → (z : ItemSize) → gives z ≡ each item_size (limited_dtype t ns s)
+  pub check_counted : (n : ℕ) → n ≡ length t / entry_width → (z : Option Bytes) → gives z ≡ each item_size (limited_dtype t ns s)
       → each (summary_of n z s) (item_count o s) ≡ each summary (checked_record t ns s o)
   unfolding summary item_count
   check_counted n n_is z h = go (limited_dtype t ns s) refl h

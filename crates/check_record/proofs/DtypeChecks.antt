@@ -1,4 +1,6 @@
 -- The answers of `check_dtype`: what a table shows of its dtype is what the limits say, each in its turn.
+use Rattle.counts.specs.declared.Bytes.{Bytes}
+use Rattle.std.specs.Prelude.{None, Some, Option}
 use Prim.Native.Nat.{ℕ, ◌/◌, ◌<◌, ◌≤◌}
 use mathlib.Core.Path.{◌≡◌, refl, ap, sym, ◌∙◌}
 use mathlib.Core.Bool.{Bool, true, false, ◌||◌, ◌&&◌, not, cond, or-true}
@@ -18,8 +20,6 @@ use Rattle.dtype.proofs.Whole.{lists_whole}
 use Rattle.check_table.specs.Reading.{read_dtype}
 use Rattle.check_record.specs.Answer.{item_size}
 use Rattle.check_record.specs.Limited.{limited_dtype}
-use Rattle.check_record.specs.declared.ItemSize.{ItemSize}
-use Rattle.check_record.specs.declared.ItemSize.TheVariants.{Sized, Unsized}
 use Rattle.check_scan.proofs.Levels.{deep_at}
 use Rattle.check_table.proofs.Passes.{read_view}
 
@@ -92,19 +92,19 @@ module _ (t ns s : List ℕ) (d : Dtype) (h : read_dtype t ns ≡ gives d) (n : 
 
       module _ (v : false ≡ (not (some_from (object_at t) n 0) && some_from (over_at t) n 0)) where
         size_by : (b : Bool) → has_object d ≡ b → over_size d ≡ false
-            → cond b Unsized (Sized (record { 0 = (entry_at (table d) 0).bytes })) ≡ cond b Unsized (Sized (record { 0 = size_of d }))
+            → cond {A = Option Bytes} b None (Some (record { 0 = (entry_at (table d) 0).bytes })) ≡ cond {A = Option Bytes} b None (Some (record { 0 = size_of d }))
         size_by true e q = refl
         size_by false e q =
             let w : some_over d ≡ false = simp e at q in
-            ap (λ (x : ℕ). Sized (record { 0 = x })) (bytes_exact d (table d) 0 0 0 [] refl w)
+            ap (λ (x : ℕ). Some (record { 0 = x })) (bytes_exact d (table d) 0 0 0 [] refl w)
 
-        size_item : (r : ItemSize) → r ≡ cond (some_from (object_at t) n 0) Unsized (Sized (record { 0 = (entry_at t 0).bytes })) → r ≡ item_size d
+        size_item : (r : Option Bytes) → r ≡ cond (some_from (object_at t) n 0) None (Some (record { 0 = (entry_at t 0).bytes })) → r ≡ item_size d
         size_item r e =
             let a : some_from (object_at t) n 0 ≡ has_object d = rw (view.0, entries_are) (object_seen d) in
             e ∙ rw (a, view.0) (size_by (has_object d) refl (sym (v ∙ size_is)))
 
         -- the item size
-        pub check_within : (r : ItemSize) → r ≡ cond (some_from (object_at t) n 0) Unsized (Sized (record { 0 = (entry_at t 0).bytes }))
+        pub check_within : (r : Option Bytes) → r ≡ cond (some_from (object_at t) n 0) None (Some (record { 0 = (entry_at t 0).bytes }))
             → gives r ≡ each item_size (limited_dtype t ns s)
         check_within r q = ap gives (size_item r q) ∙ sym (checked_by_lem false false false none_13 none_20 (sym (v ∙ size_is)))
 

@@ -34,23 +34,22 @@ summing_start t n e x s a =
       low = omega arith;
     })
 
-module _ (t : List ℕ) (n e left c bytes : ℕ) (k : Summing t n e left c bytes) (l : 0 < left) where
-  opened : FieldsAgree t e k.end k.total (suc (left - 1)) c k.passed
-  opened = let z : left ≡ suc (left - 1) = omega (arith, l) in rw z at k.agree
+-- after i of the fields, where there is one more
+pub one_left : (t : List ℕ) (n e number i c bytes : ℕ) → Summing t n e (number - i) c bytes → i < number → Summing t n e (suc (number - (i + 1))) c bytes
+one_left t n e number i c bytes k l = let z : number - i ≡ suc (number - (i + 1)) = omega arith in rw z at k
 
-  split : field_bytes t (entry_at t e).number (suc e) ≡ bytes + ((entry_at t c).bytes + field_bytes t (left - 1) (c + (entry_at t c).extent))
-  split = let z : left ≡ suc (left - 1) = omega (arith, l) in rw z at k.sum
-
+-- where one field more is left than `left`
+module _ (t : List ℕ) (n e left c bytes : ℕ) (k : Summing t n e (suc left) c bytes) where
   pub field_in : c + (entry_at t c).extent ≤ n
-  field_in = omega (arith, opened.2, k.end_in)
+  field_in = omega (arith, k.agree.2, k.end_in)
 
   pub summing_over : (x : Entry) → x ≡ entry_at t c → 2 ^ 64 ≤ bytes + x.bytes → true ≡ over (field_bytes t (entry_at t e).number (suc e))
   summing_over x s h =
       let h' : 2 ^ 64 ≤ bytes + (entry_at t c).bytes = rw s at h in
-      sym (le-leb (2 ^ 64) (field_bytes t (entry_at t e).number (suc e)) (omega (arith, split)))
+      sym (le-leb (2 ^ 64) (field_bytes t (entry_at t e).number (suc e)) (omega (arith, k.sum)))
 
   pub summing_next : (x : Entry) (more : ℕ) → x ≡ entry_at t c → more ≡ bytes + x.bytes → more < 2 ^ 64
-      → Summing t n e (left - 1) (c + x.extent) more
+      → Summing t n e left (c + x.extent) more
   summing_next x more s m b =
       let m' : more ≡ bytes + (entry_at t c).bytes = rw s at m in
       rw s
@@ -59,8 +58,8 @@ module _ (t : List ℕ) (n e left c bytes : ℕ) (k : Summing t n e left c bytes
         total = k.total;
         passed = capped (k.passed + (entry_at t c).bytes);
         end_in = k.end_in;
-        agree = opened.3;
-        sum = omega (arith, split);
+        agree = k.agree.3;
+        sum = omega (arith, k.sum);
         low = b;
       })
 

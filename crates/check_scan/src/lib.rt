@@ -22,9 +22,7 @@ pub fn too_deep(table: &[u64], n: usize) -> bool
     ensures { result ≡ some_from (λ e. ltb 32 (arrays_from table.now (n - e) e)) n 0 }
 {
     let mut levels: u64 = 0;
-    let mut e = n;
-    while 0 < e {
-        e -= 1;
+    for e in (0..n).rev() {
         let entry = table_entry::entry_at(table, e);
         levels = level(entry.kind, levels);
         if MOST_LEVELS < levels {
@@ -46,25 +44,12 @@ fn level(kind: u64, inner: u64) -> u64
 pub fn has_object(table: &[u64], n: usize) -> bool
     ensures { result ≡ some_from (object_at table.now) n 0 }
 {
-    let mut e: usize = 0;
-    while e < n {
-        let entry = table_entry::entry_at(table, e);
-        if entry.letter == OBJECT {
-            return true;
-        }
-        e += 1;
-    }
-    false
+    (0..n).any(|e| table_entry::entry_at(table, e).letter == OBJECT)
 }
 
 // Whether a plain type has more than 2^64-1 bytes. Only `U` can, at four bytes a code point.
 pub fn plain_over(letter: u64, size: u64) -> bool
     ensures { result ≡ over (bytes_for letter size) }
 {
-    if letter == UNICODE {
-        let points = Points(size);
-        let bytes = points.in_bytes();
-        return bytes.is_over();
-    }
-    false
+    letter == UNICODE && Points(size).in_bytes().is_none()
 }

@@ -1,7 +1,6 @@
 pub mod Tests
 pub mod Plain
 pub mod Fields
-pub mod Sound
 pub mod Outcomes
 pub mod Typed
 pub mod Naming

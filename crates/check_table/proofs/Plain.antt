@@ -2,8 +2,7 @@
 use Prim.Native.Nat.{ℕ}
 use mathlib.Core.Path.{◌≡◌, ap, sym, ◌∙◌}
 use lib.Dec.{eqb}
-use Rattle.counts.specs.Outcome.{Outcome, gives, refused}
-use Rattle.counts.proofs.Alike.{true_false}
+use Rattle.counts.specs.Outcome.{Outcome, gives}
 use Rattle.type_str.specs.Text.{is_type}
 use Rattle.type_str.specs.declared.TypeStr.{TypeStr}
 use Rattle.dtype.specs.PlainBytes.{plain_bytes}
@@ -13,9 +12,6 @@ use Rattle.table_entry.specs.EntryType.{type_of}
 use Rattle.check_table.specs.Decides.{refuses, Decides, TypedAgrees}
 use Rattle.check_table.proofs.Tests.{by_eqb}
 use Rattle.table_entry.proofs.Types.{given_made, type_of_back, type_of_written}
-
-pub plain_untyped : (e : Entry) → refused 27 ≡ type_of e → TypedAgrees e → ⊥
-plain_untyped e h a = true_false (ap (λ (o : Outcome TypeStr). refuses o) h ∙ a.typed)
 
 pub plain_decided : (e : Entry) (t : TypeStr) (y : ℕ) → gives t ≡ type_of e → e.extent ≡ 1 → y ≡ capped (plain_bytes t)
     → Decides (eqb e.bytes y) (TypedAgrees e)

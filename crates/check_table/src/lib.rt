@@ -12,34 +12,22 @@ ghost use Rattle.check_table.specs.Named.{NamesPass, Outermost};
 use counts::{Bytes, Items};
 use dtype::Entry;
 use saturating::{held_bytes, held_product, held_sum};
-use table_entry::EntryType;
-use utf8::Text;
 
 // Whether a plain entry has a type, and agrees with its size.
 fn plain_agrees(entry: Entry) -> bool
     ensures { Decides result (TypedAgrees entry) }
 {
-    let EntryType::Type(t) = table_entry::type_of(entry) else {
+    let Some(t) = table_entry::type_of(entry) else {
         return false;
     };
-    if entry.extent != 1 {
-        return false;
-    }
-    let bytes = held_bytes(t);
-    entry.bytes == bytes.0
+    entry.extent == 1 && entry.bytes == held_bytes(t).0
 }
 
 // Whether the numbers of a type are 0, as they must be in an entry that is not plain.
 fn is_bare(entry: Entry) -> bool
     ensures { Decides result (Bare entry) }
 {
-    if entry.order != 0 {
-        return false;
-    }
-    if entry.letter != 0 {
-        return false;
-    }
-    entry.units == 0
+    entry.order == 0 && entry.letter == 0 && entry.units == 0
 }
 
 // Whether an array's entry agrees with the next one.
@@ -53,23 +41,12 @@ fn array_agrees(table: &[u64], n: usize, e: usize) -> bool
     }
     let outer = table_entry::entry_at(table, e);
     let inner = table_entry::entry_at(table, c);
-    if !is_bare(outer) {
-        return false;
-    }
-    if inner.parent != e as u64 {
-        return false;
-    }
-    if inner.name != 0 {
-        return false;
-    }
-    if outer.extent == 0 {
-        return false;
-    }
-    if outer.extent - 1 != inner.extent {
-        return false;
-    }
-    let bytes = held_product(Items(outer.number), Bytes(inner.bytes));
-    outer.bytes == bytes.0
+    is_bare(outer)
+        && inner.parent == e as u64
+        && inner.name == 0
+        && outer.extent != 0
+        && outer.extent - 1 == inner.extent
+        && outer.bytes == held_product(Items(outer.number), Bytes(inner.bytes)).0
 }
 
 // Whether a record's entry agrees with those of its fields.
@@ -84,29 +61,24 @@ fn record_agrees(table: &[u64], n: usize, e: usize) -> bool
     if ((n - e) as u64) < outer.extent {
         return false;
     }
-    let end = e + outer.extent as usize;
+    let stop = e + outer.extent as usize;
     let mut c = e + 1;
     let mut bytes = Bytes(0);
-    let mut left = outer.number;
-    while 0 < left {
-        if end <= c {
+    for _ in 0..outer.number {
+        if stop <= c {
             return false;
         }
         let field = table_entry::entry_at(table, c);
         if field.parent != e as u64 {
             return false;
         }
-        if ((end - c) as u64) < field.extent {
+        if ((stop - c) as u64) < field.extent {
             return false;
         }
         bytes = held_sum(bytes, Bytes(field.bytes));
         c += field.extent as usize;
-        left -= 1;
     }
-    if c != end {
-        return false;
-    }
-    bytes.0 == outer.bytes
+    c == stop && bytes.0 == outer.bytes
 }
 
 // Whether an entry agrees with those after it and, if plain, has a type.
@@ -115,25 +87,19 @@ fn entry_agrees(table: &[u64], n: usize, e: usize) -> bool
     ensures { Decides result (SoundEntry table.now n e) }
 {
     let entry = table_entry::entry_at(table, e);
-    if entry.kind == dtype::PLAIN {
-        return plain_agrees(entry);
+    match entry.kind {
+        dtype::PLAIN => plain_agrees(entry),
+        dtype::ARRAY => array_agrees(table, n, e),
+        dtype::RECORD => record_agrees(table, n, e),
+        _ => false,
     }
-    if entry.kind == dtype::ARRAY {
-        return array_agrees(table, n, e);
-    }
-    if entry.kind == dtype::RECORD {
-        return record_agrees(table, n, e);
-    }
-    false
 }
 
 // Whether each of the first n entries agrees with those after it. From the last entry back, so that no field skipped by a record is empty, and the time is linear in the table.
 pub fn entries_agree(table: &[u64], n: usize) -> bool
     ensures { Decides result ((e : ℕ) → e < n → SoundEntry table.now n e) }
 {
-    let mut e = n;
-    while 0 < e {
-        e -= 1;
+    for e in (0..n).rev() {
         if !entry_agrees(table, n, e) {
             return false;
         }
@@ -144,10 +110,7 @@ pub fn entries_agree(table: &[u64], n: usize) -> bool
 fn is_utf8(text: &[u8]) -> bool
     ensures { result ≡ not (refuses (utf8 text.now)) }
 {
-    match utf8::check(text) {
-        Text::WellFormed => true,
-        Text::Ill(at) => false,
-    }
+    utf8::check(text).is_ok()
 }
 
 // Whether `names` is the names of n entries end to end, each UTF-8 by itself.
@@ -155,8 +118,7 @@ fn names_match(table: &[u64], n: usize, names: &[u8]) -> bool
     ensures { Decides result (NamesPass table.now names.now n) }
 {
     let mut start: usize = 0;
-    let mut e: usize = 0;
-    while e < n {
+    for e in 0..n {
         let entry = table_entry::entry_at(table, e);
         if ((names.len() - start) as u64) < entry.name {
             return false;
@@ -166,7 +128,6 @@ fn names_match(table: &[u64], n: usize, names: &[u8]) -> bool
             return false;
         }
         start = end;
-        e += 1;
     }
     start == names.len()
 }
@@ -176,33 +137,16 @@ pub fn is_dtype(table: &[u64], names: &[u8]) -> bool
     ensures { result ≡ not (refuses (read_dtype table.now names.now)) }
 {
     let n = table.len() / dtype::ENTRY;
-    if n == 0 {
-        return false;
-    }
-    if table.len() != dtype::ENTRY * n {
-        return false;
-    }
-    if !first_fits(table_entry::entry_at(table, 0), n as u64) {
-        return false;
-    }
-    if !entries_agree(table, n) {
-        return false;
-    }
-    names_match(table, n, names)
+    n != 0
+        && table.len() == dtype::ENTRY * n
+        && first_fits(table_entry::entry_at(table, 0), n as u64)
+        && entries_agree(table, n)
+        && names_match(table, n, names)
 }
 
 // Whether the outermost entry extends to the table's end, is no array, and has neither parent nor name.
 fn first_fits(first: Entry, n: u64) -> bool
     ensures { Decides result (Outermost first n) }
 {
-    if first.kind == dtype::ARRAY {
-        return false;
-    }
-    if first.extent != n {
-        return false;
-    }
-    if first.parent != 0 {
-        return false;
-    }
-    first.name == 0
+    first.kind != dtype::ARRAY && first.extent == n && first.parent == 0 && first.name == 0
 }

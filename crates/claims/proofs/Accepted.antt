@@ -1,8 +1,9 @@
 -- The check accepts exactly the records that some file is read as (specs/Accepted.antt). What was read is accepted. What is accepted is sound, so the bytes of its own
 -- header are read as it, into rooms as long as it is.
+use Rattle.std.specs.Prelude.{Ok}
 use Prim.Native.Nat.{ℕ}
 use native.Mathlib.Omega.{arith}
-use mathlib.Core.Path.{◌≡◌, refl, sym, ap, subst, ◌∙◌}
+use mathlib.Core.Path.{◌≡◌, refl, sym, ap, ◌∙◌}
 use mathlib.Core.Bool.{true, false}
 use mathlib.Core.List.{List, [], ◌++◌}
 use borrow.Author.Tests.{le-ltb}
@@ -32,7 +33,6 @@ use Rattle.judge.specs.Judged.{reading}
 use Rattle.judge.proofs.Top.{reading_keeps}
 use Rattle.header.specs.declared.Header.{Header}
 use Rattle.header.specs.declared.RecordInfo.{RecordInfo}
-use Rattle.header.specs.declared.HeaderRead.{HeaderRead}
 use Rattle.header.specs.Reads.{lent, info_of, HeaderInfo, header_info}
 use Rattle.npy_codes.specs.Codes.{summary_values}
 use Rattle.npy_codes.proofs.Then.{returns_same}
@@ -98,9 +98,9 @@ own_file r sound limits p =
         file = file_of r ++ [];
         before = l;
         after = holding r l;
-        result = HeaderRead.Read (answered r);
+        result = Ok (answered r);
         reads =
-            read_tied (file_of r ++ []) l (HeaderRead.Read (answered r)) (holding r l)
+            read_tied (file_of r ++ []) l (Ok (answered r)) (holding r l)
             (record {
               answered = ap gives (returned_eq r (declared_is (header_for r).version)) ∙ sym (ap (each header_info) given);
               after = sym (ap (λ (o : Outcome header.Header). afterwards header.holding_header o l) given);

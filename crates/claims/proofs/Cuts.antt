@@ -8,7 +8,7 @@ use mathlib.Core.List.{List, [], ◌∷◌, ◌++◌, append-nil}
 use mathlib.Core.Bool.{Bool, true, false, not, cond}
 use lib.Dec.{eqb, ltb}
 use lib.ListN.{length, get_or, take, drop, replicate, length-append, length-take, length-drop, take-append-drop}
-use lib.Seq.{take_all, take_at, length-take-le, get_or-append-add}
+use lib.Seq.{take_at, length-take-le, get_or-append-add}
 use borrow.Author.Tests.{lt-ltb, le-ltb, lt-leb, le-leb, leb-true}
 use Rattle.counts.specs.Lists.{at_front, AllBytes}
 use Rattle.counts.specs.Outcome.{Outcome, gives, refused, then, each, unless, afterwards}
@@ -22,19 +22,18 @@ use Rattle.record.specs.Header as header
 use Rattle.judge.specs.Judged.{reading}
 use Rattle.judge.proofs.Top.{reading_keeps}
 use Rattle.header_prefix.proofs.Bytes.{short_is_1}
-use Rattle.header.specs.declared.HeaderRead.{HeaderRead}
-use Rattle.header.specs.Reads.{HeaderInfo, header_info, header_is, answer}
+use Rattle.header.specs.Reads.{HeaderInfo, header_info, header_is}
 use Rattle.header_feed.specs.declared.Fed.{Fed}
 use Rattle.header_feed.specs.declared.Feeder.{Feeder}
 use Rattle.header_feed.specs.declared.Feeding.{Feeding}
 use Rattle.header_feed.specs.Due.{header_with, start_in, due, decided, used}
-use Rattle.header_feed.specs.Feeds.{Progress, need_more, outcome, progress, cut_short, ended, so_far, Kept, After, TakesBy, Stays, FeedsAs, FeedsBy, fresh_feeder, Ends}
+use Rattle.header_feed.specs.Feeds.{Progress, need_more, outcome, progress, cut_short, ended, so_far, Kept, After, TakesBy, FeedsAs, FeedsBy, fresh_feeder}
 use Rattle.header_feed.proofs.Prefixes.{start_bounds, given_whole}
-use Rattle.header_feed.proofs.Decides.{short_undecided, three_undecided, other_decided, buffer_decided, end_decided}
+use Rattle.header_feed.proofs.Decides.{other_decided, buffer_decided, end_decided}
 use Rattle.header_feed.proofs.Outcomes.{said_apart, feeder_of}
 use Rattle.header_feed.proofs.Calls.{buffer_short}
 use Rattle.header_feed.proofs.Verdicts.{Verdict, short, three, other, no_buffer, part_text, whole_text_lem, verdict, apart, settled_stays}
-use Rattle.header_feed.proofs.Reached.{Pending, Settled, Reached, stays_of, call_on, fresh_pending, fresh_reached, used_append, taken_append, used_within}
+use Rattle.header_feed.proofs.Reached.{Pending, Reached, stays_of, call_on, fresh_pending, fresh_reached, used_append, taken_append, used_within}
 use Rattle.header_feed.proofs.Due.{due_is, due_reached, due_least, used_due}
 use Rattle.npy_codes.specs.Codes.{code, order_for, header_values}
 use Rattle.npy_codes.specs.Feeders.{progress_code, progress_values, ReturnsProgress, feeder_numbers, saying_numbers, head_for, taken_for, or_no_feeder, header_for, saying, ended_numbers}
@@ -44,10 +43,9 @@ use Rattle.npy_codes.proofs.Feeders.{refusal_known, saying_back, taken_back, hea
 use Rattle.npy.specs.Feeding.{NoFeederInC, FeedsAsInC, FeedsByInC, EndsSayingInC, EndsNoneInC, EndsAsInC}
 use Rattle.value.proofs.Stored.{bytes_take, bytes_drop}
 use Rattle.claims.specs.Beyond.{SameRest}
-use Rattle.claims.specs.Functions.{Read, FeedStart, Feed, FeedEnd}
-use Rattle.claims.specs.InC.{NpyRead, NpyFeed, NpyFeedEnd}
+use Rattle.claims.specs.Functions.{Read}
 use Rattle.claims.proofs.Beyond.{header_rest}
-use Rattle.claims.specs.Cuts.{joined, Run, no_call, call, TooShort, LongEnough, Cut, HoweverCut, AfterOutcome, judged, work, WorkLinear, RoomsUnchanged, RestKept, MoreBefore, RunInC, last_call, call_before, CutInC, HoweverCutInC, MoreBeforeInC, AfterOutcomeInC, FeedCodes}
+use Rattle.claims.specs.Cuts.{joined, Run, no_call, call, TooShort, LongEnough, HoweverCut, AfterOutcome, judged, work, WorkLinear, RoomsUnchanged, RestKept, MoreBefore, RunInC, last_call, call_before, HoweverCutInC, MoreBeforeInC, AfterOutcomeInC, FeedCodes}
 
 -- ---- calls by one reading
 pub data RunBy (rd : header.Reading) : Feeder → (text : List ℕ) → Lent → List (List ℕ) → Feeder → (text' : List ℕ) → Lent → (total : ℕ) → Type 0 where

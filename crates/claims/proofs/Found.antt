@@ -1,5 +1,8 @@
 -- What a call of a reader or of the writer that succeeded has done, of a Rattle function and of its C function alike: what the header was, and what the rooms hold; the
 -- record that was written, and its bytes.
+use Rattle.refusal.specs.declared.Refusal.{Refusal}
+use Rattle.header.specs.declared.Header.{Header}
+use Rattle.std.specs.Prelude.{Result}
 use Prim.Native.Nat.{ℕ}
 use native.Mathlib.Omega.{arith}
 use mathlib.Core.Path.{◌≡◌, refl, sym, ap, ◌∙◌}
@@ -22,8 +25,7 @@ use Rattle.check_record.specs.Checked.{checked_record}
 use Rattle.table_entry.proofs.Types.{type_of_written, type_of_back}
 use Rattle.judge.specs.Judged.{reading}
 use Rattle.judge.proofs.Top.{reading_keeps}
-use Rattle.header.specs.declared.HeaderRead.{HeaderRead}
-use Rattle.header.specs.Reads.{HeaderInfo, header_info, answer, held_into}
+use Rattle.header.specs.Reads.{HeaderInfo, header_info, header_answer, held_into}
 use Rattle.read_back.specs.Rooms.{table_stored, names_stored, shape_stored, Fronts}
 use Rattle.read_back.proofs.Rooms.{fronts_by, checked_fronts}
 use Rattle.read_back.proofs.Accepted.{read_checked}
@@ -67,7 +69,7 @@ pub record WasRead (file : List ℕ) (l l' : Lent) (i : HeaderInfo) : Type 0 whe
   pub values : i ≡ header_info header_found
   pub held : l' ≡ holding header_found.says l
 
-pub read_was : (file : List ℕ) (l l' : Lent) (x : HeaderRead) (i : HeaderInfo) → Read file l x l' → answer x ≡ gives i → WasRead file l l' i
+pub read_was : (file : List ℕ) (l l' : Lent) (x : Result Header Refusal) (i : HeaderInfo) → Read file l x l' → header_answer x ≡ gives i → WasRead file l l' i
 read_was file l l' x i h e =
     let (k, given_is, same) = each_back header_info (held_into false file l) i (sym (h.answered reading reading_keeps) ∙ e) in
     record {

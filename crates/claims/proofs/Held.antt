@@ -1,5 +1,7 @@
 -- The first bytes of a file are enough (specs/Held.antt): the prefix of a part is the file's, the text after it is the same if it ends within the part, and by crate
 -- record the header is then the file's.
+use Rattle.header.specs.declared.Header.{Header}
+use Rattle.std.specs.Prelude.{Err, Ok, Result}
 use Prim.Native.Nat.{ℕ, ◌<◌, ◌≤◌}
 use native.Mathlib.Omega.{arith}
 use mathlib.Core.Path.{◌≡◌, sym, ap, ◌∙◌}
@@ -19,15 +21,14 @@ use Rattle.record.specs.Header as header
 use Rattle.record.proofs.Fronts.{prefix_front, front_enough}
 use Rattle.judge.specs.Judged.{reading}
 use Rattle.judge.proofs.Top.{reading_keeps}
-use Rattle.header.specs.declared.HeaderRead.{HeaderRead}
-use Rattle.header.specs.Reads.{header_info, answer, after_prefix, held_into}
+use Rattle.header.specs.Reads.{header_info, header_answer, after_prefix, held_into}
 use Rattle.npy_codes.proofs.Then.{returns_same}
 use Rattle.claims.specs.Held.{HeldEnough}
 use Rattle.claims.proofs.Readings.{read_held_tied, npy_read_held_tied}
 
-refused_by : (x : HeaderRead) → answer x ≡ refused 23 → x ≡ HeaderRead.Refused Refusal.Room
-refused_by (HeaderRead.Read h) a = refused_gives (sym a)
-refused_by (HeaderRead.Refused f) a = ap HeaderRead.Refused (number_apart f Refusal.Room cc)
+refused_by : (x : Result Header Refusal) → header_answer x ≡ refused 23 → x ≡ Err Refusal.Room
+refused_by (Ok h) a = refused_gives (sym a)
+refused_by (Err f) a = ap Err (number_apart f Refusal.Room cc)
 
 -- a part whose header ends within it
 module _ (part : List ℕ) (l : Lent) where

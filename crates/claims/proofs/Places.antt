@@ -1,5 +1,6 @@
 -- Demand 3 (specs/Places.antt) holds of every file that is read: the record in the rooms is one that a reading gave, so the check accepts it, and for such records crate
 -- place shows that what is answered is document 01's formula, and crate dtype that by the formula each byte of the data area belongs to exactly one place.
+use Rattle.std.specs.Prelude.{Err, Ok}
 use Prim.Native.Nat.{ℕ, ◌+◌, ◌≤◌}
 use native.Mathlib.Omega.{arith}
 use mathlib.Core.Path.{◌≡◌, refl, sym, ap, ◌∙◌}
@@ -24,13 +25,12 @@ use Rattle.dtype.proofs.Places.{run_inside, owned, owned_once}
 use Rattle.check_record.specs.Valid.{Valid}
 use Rattle.check_record.proofs.Accepts.{valid_checked}
 use Rattle.place_area.specs.declared.Run.{Run}
-use Rattle.place.specs.declared.Placed.{Placed}
 use Rattle.place.specs.Place.{run_from, placed, place_of}
 use Rattle.place.proofs.Placing.{place_given}
 use Rattle.place.proofs.Outcomes.{place_one}
 use Rattle.place.proofs.Walks.{path_or_none, plain_path}
 use Rattle.place_item.proofs.Sums.{range_of}
-use Rattle.header.specs.Reads.{info_of, header_info, answer}
+use Rattle.header.specs.Reads.{info_of, header_info, header_answer}
 use Rattle.npy_codes.specs.Codes.{code, Returns, order_number, header_values, run_values}
 use Rattle.npy_codes.proofs.Then.{returns_same}
 use Rattle.claims.specs.Functions.{Place}
@@ -111,11 +111,11 @@ area_owned Call at nowhere outcome start r answers is =
 
 -- ---- `place::place`
 place_answers : (file start : ℕ) (t ns s : List ℕ) (o : Order)
-    → Answers (Place file start t ns s o) Placed.At (Placed.Refused Refusal.Nowhere) (place_of file start t ns s o)
+    → Answers (Place file start t ns s o) Ok (Err Refusal.Nowhere) (place_of file start t ns s o)
 place_answers file start t ns s o =
     record {
-      run_is = λ x p y u c e. place_one file start t ns s o x p y (Placed.At u) c (sym e);
-      none_is = λ x p y c e. place_one file start t ns s o x p y (Placed.Refused Refusal.Nowhere) c (sym e);
+      run_is = λ x p y u c e. place_one file start t ns s o x p y (Ok u) c (sym e);
+      none_is = λ x p y c e. place_one file start t ns s o x p y (Err Refusal.Nowhere) c (sym e);
     }
 
 -- ---- `npy_place`, with the number of an order
@@ -138,7 +138,7 @@ module _ (file start : ℕ) (t ns s : List ℕ) (o : Order) (room : List ℕ) wh
 -- DEMAND 3
 pub record_owned : RecordOwned
 record_owned file start t ns s o r valid no_object long =
-    area_owned (Place file start t ns s o) Placed.At (Placed.Refused Refusal.Nowhere) (place_of file start t ns s o) start r (place_answers file start t ns s o)
+    area_owned (Place file start t ns s o) Ok (Err Refusal.Nowhere) (place_of file start t ns s o) start r (place_answers file start t ns s o)
     (by_formula file start t ns s o r valid no_object long)
 
 pub record_owned_in_c : RecordOwnedInC
@@ -150,7 +150,7 @@ pub header_stored : HeaderStored
 header_stored =
     record {
       read = λ file l l' x c e.
-          let (i, is) = succeeded in_rattle (answer x) (answer x) refl (rattle_fails (answer x)) e in
+          let (i, is) = succeeded in_rattle (header_answer x) (header_answer x) refl (rattle_fails (header_answer x)) e in
           let w = read_was file l l' x i c is in
           (w.header_found, is ∙ ap gives w.values, w.held);
       npy_read = λ file l l' said said' c.

@@ -1,5 +1,11 @@
 -- The contracts of the readers are stated with the literal's own reading, their predicates (specs/Functions.antt, specs/InC.antt) with every reading that keeps the promise.
 -- For each text one outcome keeps it, so a contract gives its predicate.
+use Rattle.refusal.specs.Answers.{answer}
+use Rattle.header.specs.declared.RecordInfo.{RecordInfo}
+use Rattle.place_area.specs.declared.Run.{Run}
+use Rattle.header.specs.declared.Header.{Header}
+use Rattle.refusal.specs.declared.Refusal.{Refusal}
+use Rattle.std.specs.Prelude.{Result}
 use Prim.Native.Nat.{ℕ}
 use mathlib.Core.Path.{◌≡◌, sym, ap, ◌∙◌}
 use mathlib.Core.Bool.{Bool, false}
@@ -9,15 +15,12 @@ use lib.ListN.{length, take}
 use Rattle.counts.specs.declared.Bytes.{Bytes}
 use Rattle.counts.specs.Lists.{at_front, AllBytes}
 use Rattle.counts.specs.Outcome.{Outcome, gives, refused, each, afterwards, then}
-use Rattle.refusal.specs.declared.BytesAnswer.{BytesAnswer}
 use Rattle.dtype.specs.Record.{Record}
 use Rattle.record.specs.Rooms.{Lent, rooms_of, holding}
 use Rattle.record.specs.Header as header
 use Rattle.record.proofs.OneHeader.{header_same, text_same as records_same}
 use Rattle.judge.specs.Judged.{reading}
 use Rattle.judge.proofs.Top.{reading_keeps}
-use Rattle.header.specs.declared.TextRead.{TextRead}
-use Rattle.header.specs.declared.HeaderRead.{HeaderRead}
 use Rattle.header.specs.Reads as reads
 use Rattle.list_file.specs.Report.{held_most, fresh, text_for, report_of, Reports, WritesText}
 use Rattle.list_file.specs.Enough.{WritesReport}
@@ -29,8 +32,6 @@ use Rattle.npy_codes.specs.Feeders.{head_for, taken_for, saying}
 use Rattle.npy_codes.proofs.Then.{returns_same}
 use Rattle.npy.specs.Calls as npy
 use Rattle.npy.specs.Feeding.{FeedsAsInC, FeedsByInC, FeedsInC}
-use Rattle.place.specs.declared.Placed.{Placed}
-use Rattle.place.specs.Answer as place
 use Rattle.place.specs.Place.{placed}
 use Rattle.get_file.specs.Found.{ample, found_in}
 use Rattle.claims.specs.Functions.{Read, ReadHeld, ReadText, report_by, Report, ReportWhole, Find, Feed}
@@ -45,17 +46,17 @@ module _ (other : header.Reading) (keeps : header.Keeps other) where
   held_same longer file l = header_same reading other reading_keeps keeps longer file (rooms_of l)
 
 -- ---- from a contract to its predicate
-pub read_held_tied : (longer : Bool) (file : List ℕ) (l : Lent) (x : HeaderRead) (l' : Lent) → reads.ReadsHeld longer file l x l' → ReadHeld longer file l x l'
+pub read_held_tied : (longer : Bool) (file : List ℕ) (l : Lent) (x : Result Header Refusal) (l' : Lent) → reads.ReadsHeld longer file l x l' → ReadHeld longer file l x l'
 read_held_tied longer file l x l' h =
     record {
       answered = λ other keeps. h.answered ∙ ap (each reads.header_info) (held_same other keeps longer file l);
       after = λ other keeps. h.after ∙ ap (λ (o : Outcome header.Header). afterwards header.holding_header o l) (held_same other keeps longer file l);
     }
 
-pub read_tied : (file : List ℕ) (l : Lent) (x : HeaderRead) (l' : Lent) → reads.Reads file l x l' → Read file l x l'
+pub read_tied : (file : List ℕ) (l : Lent) (x : Result Header Refusal) (l' : Lent) → reads.Reads file l x l' → Read file l x l'
 read_tied file l x l' h = read_held_tied false file l x l' h
 
-pub read_text_tied : (text : List ℕ) (l : Lent) (x : TextRead) (l' : Lent) → reads.ReadsText text l x l' → ReadText text l x l'
+pub read_text_tied : (text : List ℕ) (l : Lent) (x : Result RecordInfo Refusal) (l' : Lent) → reads.ReadsText text l x l' → ReadText text l x l'
 read_text_tied text l x l' h =
     record {
       answered = λ other keeps. h.answered ∙ ap (each reads.info_of) (text_same other keeps text l);
@@ -67,10 +68,10 @@ pub report_same : (other : header.Reading) → header.Keeps other → (file : Li
 unfolding report_of
 report_same other keeps file = ap text_for (held_same other keeps (ltb held_most (length file)) (take held_most file) fresh)
 
-pub text_moved : {text new out : List ℕ} (x : BytesAnswer) {out' : List ℕ} → text ≡ new → WritesText text out x out' → WritesText new out x out'
+pub text_moved : {text new out : List ℕ} (x : Result Bytes Refusal) {out' : List ℕ} → text ≡ new → WritesText text out x out' → WritesText new out x out'
 text_moved x e h = rw (sym e) h
 
-pub report_tied : (file out : List ℕ) (x : BytesAnswer) (out' : List ℕ) → Reports file out x out' → Report file out x out'
+pub report_tied : (file out : List ℕ) (x : Result Bytes Refusal) (out' : List ℕ) → Reports file out x out' → Report file out x out'
 report_tied file out x out' h = λ other keeps. text_moved x (report_same other keeps file) h
 
 pub report_whole_tied : (file out : List ℕ) (n : Bytes) (out' : List ℕ) → WritesReport file out n out' → ReportWhole file out n out'
@@ -81,12 +82,12 @@ report_whole_tied file out n out' h =
     }
 
 -- the place that is found, by the literal's own reading and by any other
-pub find_tied : (longer : Bool) (held : List ℕ) (file : ℕ) (x p : List ℕ) (y : Placed) → place.answer y ≡ found_in longer held file x p → Find longer held file x p y
+pub find_tied : (longer : Bool) (held : List ℕ) (file : ℕ) (x p : List ℕ) (y : Result Run Refusal) → answer y ≡ found_in longer held file x p → Find longer held file x p y
 unfolding found_in
 find_tied longer held file x p y h = λ other keeps. h ∙ ap (λ (o : Outcome header.Header). then o (λ a. placed file a.data_start a.says x p)) (held_same other keeps longer held ample)
 
-pub find_moved : (longer : Bool) (held : List ℕ) (file : ℕ) (x p : List ℕ) (y : Placed) → place.answer y ≡ then (header.held_by reading longer held ample) (λ h. placed file h.data_start h.says x p)
-    → place.answer y ≡ found_in longer held file x p
+pub find_moved : (longer : Bool) (held : List ℕ) (file : ℕ) (x p : List ℕ) (y : Result Run Refusal) → answer y ≡ then (header.held_by reading longer held ample) (λ h. placed file h.data_start h.says x p)
+    → answer y ≡ found_in longer held file x p
 unfolding found_in
 find_moved longer held file x p y h = h
 

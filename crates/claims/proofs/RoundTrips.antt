@@ -1,6 +1,7 @@
 -- Both round trips of demand 2 (specs/RoundTrips.antt), of the Rattle functions and of the C functions. What was written is the header of the record that the check
 -- accepted, which is sound; and crate record shows that the bytes of a sound record are read back. What was read is sound, and the check accepts it: so it
 -- is written, apart from 4 and 28, and the same holds for its bytes.
+use Rattle.std.specs.Prelude.{Ok}
 use Prim.Native.Nat.{ℕ, ◌<◌, ◌≤◌}
 use native.Mathlib.Omega.{arith}
 use mathlib.Core.Path.{◌≡◌, refl, sym, ap, subst, ◌∙◌}
@@ -14,7 +15,6 @@ use Rattle.counts.specs.Lists.{at_front}
 use Rattle.counts.specs.Owes.{roomed}
 use Rattle.counts.proofs.Owes.{roomed_whole, roomed_short}
 use Rattle.counts.proofs.Holds.{Holds, then_any, unless_holds, holds_of, then_back, each_back}
-use Rattle.refusal.specs.declared.BytesAnswer.{BytesAnswer}
 use Rattle.refusal.specs.Answers.{bytes_answer}
 use Rattle.literal_grammar.specs.Print.{value_of}
 use Rattle.dtype.specs.declared.Order.{Order}
@@ -36,7 +36,7 @@ use Rattle.check_record.specs.Valid.{Valid}
 use Rattle.check_record.proofs.Accepts.{checked_valid, valid_checked}
 use Rattle.judge.specs.Judged.{reading}
 use Rattle.judge.proofs.Top.{reading_keeps}
-use Rattle.header.specs.Reads.{HeaderInfo, header_info, answer, held_into, info_of}
+use Rattle.header.specs.Reads.{HeaderInfo, header_info, header_answer, held_into, info_of}
 use Rattle.write.specs.Writes.{header_written}
 use Rattle.read_back.specs.Rooms.{table_stored, names_stored, shape_stored}
 use Rattle.read_back.proofs.Accepted.{valid_sound}
@@ -98,7 +98,7 @@ module _ (r : Record) (sound : Sound r) (room : List ℕ) (e : writing r room �
 
   sound_back : ReadBack (file_of r) (table r.dtype) (names r.dtype) r.shape r.order
   sound_back rest l l' x h =
-      comes_back in_rattle r l l' (answer x) (held_into false (file_of r ++ rest) l) (sound_read rest l) (h.answered reading reading_keeps) (h.after reading reading_keeps)
+      comes_back in_rattle r l l' (header_answer x) (held_into false (file_of r ++ rest) l) (sound_read rest l) (h.answered reading reading_keeps) (h.after reading reading_keeps)
 
   npy_sound_back : NpyReadBack (file_of r) (table r.dtype) (names r.dtype) r.shape r.order
   npy_sound_back rest l l' said said' c h =
@@ -141,7 +141,7 @@ module _ (t ns s : List ℕ) (o : Order) (room : List ℕ) (n : ℕ) (room' : Li
   npy_own_back = rw (w.valid.table_is, w.valid.names_are, w.valid.shape_is, w.valid.order_is, w.bytes) (npy_sound_back w.says w.sound room w.writes)
 
 -- ---- what a call of the writer wrote
-pub header_wrote : (t ns s : List ℕ) (o : Order) (out out' : List ℕ) (n : ℕ) → WriteHeader t ns s o out (BytesAnswer.Is (record { 0 = n })) out' → Wrote t ns s o out n out'
+pub header_wrote : (t ns s : List ℕ) (o : Order) (out out' : List ℕ) (n : ℕ) → WriteHeader t ns s o out (Ok (record { 0 = n })) out' → Wrote t ns s o out n out'
 header_wrote t ns s o out out' n h =
     let (bytes, e, len) = each_back length (header_written t ns s o out) n (sym h.writes.answered) in
     wrote t ns s o out bytes n out' h.small_table h.small_shape e len (h.writes.room_after ∙ ap (λ (y : Outcome (List ℕ)). afterwards at_front y out) e)

@@ -1,4 +1,6 @@
 -- The claims of document 02's wish 1 (specs/Values.antt). An element that is named has the value of its bytes (`value_after` of element), so what holds of bytes and a type holds of each element.
+use Rattle.refusal.specs.Answers.{answer}
+use Rattle.std.specs.Prelude.{Ok}
 use Prim.Native.Nat.{ℕ, ◌*◌, ◌<◌}
 use native.Mathlib.Omega.{arith}
 use mathlib.Core.Path.{◌≡◌, refl, sym, ap, subst, ◌∙◌}
@@ -37,10 +39,8 @@ use Rattle.value_float.proofs.Edges as halves
 use Rattle.value_float.proofs.FloatEdges.{float_edges}
 use Rattle.value.specs.declared.Value.{Value}
 use Rattle.value.specs.declared.Form.{Form}
-use Rattle.value.specs.declared.ValueAnswer.{ValueAnswer}
 use Rattle.value.specs.Values.{form_of, has_no_value, value_by, value_in, read_value}
 use Rattle.value.specs.Stored.{value_bytes}
-use Rattle.value.specs.Answer.{value_answer}
 use Rattle.value.proofs.Forms.{type_allows, value_of_run}
 use Rattle.value.proofs.Stored.{bytes_take, bytes_drop, stored_back}
 use Rattle.value.proofs.Sorts.{sort_of}
@@ -128,10 +128,10 @@ pub values_exact : ValuesExact
 values_exact =
     record {
       element_value = λ file start t ns s o x p y h.
-          exactly_by in_rattle _ (λ v. v) (λ v m. m) tt (value_answer y) tt (element_value file start t ns s o x p) h.answered (rattle_fails _)
+          exactly_by in_rattle _ (λ v. v) (λ v m. m) tt (answer y) tt (element_value file start t ns s o x p) h.answered (rattle_fails _)
           (λ v d. (value_due file start t ns s o x p v d, refl)) (λ v e. (v, value_found file start t ns s o x p v e));
       read_value = λ run k y h.
-          exactly_by in_rattle _ (λ v. v) (λ v m. m) tt (value_answer y) tt (read_value k run) h.answered (rattle_fails _)
+          exactly_by in_rattle _ (λ v. v) (λ v m. m) tt (answer y) tt (read_value k run) h.answered (rattle_fails _)
           (λ v d. (itself_due run k v d, refl)) (λ v e. (v, itself_found run k v e));
     }
 
@@ -208,7 +208,7 @@ halves_exact =
     record {
       element_value = λ file start t ns s o x p y h k bytes e l n.
           let b = in_order k.order bytes in
-          (half_of b, half_becomes b, value_one _ y (ValueAnswer.Is (Value.Single (half_of b))) (h.answered ∙ half_value file start t ns s o x p k bytes e l n) refl);
+          (half_of b, half_becomes b, value_one _ y (Ok (Value.Single (half_of b))) (h.answered ∙ half_value file start t ns s o x p k bytes e l n) refl);
       npy_element_value = λ file start t ns s order x p said c said' h o k bytes is e l n.
           let b = in_order k.order bytes in
           let w = returns_same (by_order file start t ns s order x p o is ∙ half_value file start t ns s o x p k bytes e l n) h.answered in
@@ -411,7 +411,7 @@ no_order order none = go (order_for order) refl
 pub value_refusals : ValueRefusals
 value_refusals =
     record {
-      element_value = λ file start t ns s o x p y h. value_refused_by file start t ns s o x p in_rattle (value_answer y) h.answered (λ v. refl);
+      element_value = λ file start t ns s o x p y h. value_refused_by file start t ns s o x p in_rattle (answer y) h.answered (λ v. refl);
       npy_element_value = λ file start t ns s order x p said r said' h o is.
           value_refused_by file start t ns s o x p (in_c value_values said) (r, said') (c_returned (returns_same (by_order file start t ns s order x p o is) h.answered)) (λ v. refl);
       npy_no_order = λ file start t ns s order x p said r said' h none.

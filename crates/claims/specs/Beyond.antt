@@ -1,8 +1,9 @@
 -- Document 01, "The refusal numbers": "On success, room beyond what was needed is unchanged." One line for each function that a customer calls and that is lent room for a
 -- result; those of the C interface are in Codes.antt, and that of a feeder in Cuts.antt. If n bytes or numbers were written, the room after the first n is unchanged. l and l' are the three lent rooms before
 -- and after the call, room and room' one room; t, ns, s and o are a caller's table, names, shape and order, x an index and p a path.
-use Rattle.std.specs.Prelude.{ℕ, ◌*◌, ◌≡◌, Bool, List, length, drop}
-use Rattle.refusal.specs.declared.ItemsAnswer.{ItemsAnswer}
+use Rattle.counts.specs.declared.Items.{Items}
+use Rattle.refusal.specs.declared.Refusal.{Refusal}
+use Rattle.std.specs.Prelude.{ℕ, ◌*◌, ◌≡◌, Bool, List, length, drop, Ok, Result}
 use Rattle.refusal.specs.Answers.{items_answer, bytes_answer, points_answer}
 use Rattle.counts.specs.Outcome.{Outcome, gives}
 use Rattle.type_str.specs.declared.TypeStr.{TypeStr}
@@ -11,9 +12,7 @@ use Rattle.dtype.specs.Record.{entry_width}
 use Rattle.record.specs.Prefix.{Version}
 use Rattle.record.specs.Rooms.{Lent}
 use Rattle.header.specs.declared.RecordInfo.{RecordInfo}
-use Rattle.header.specs.declared.TextRead.{TextRead}
 use Rattle.header.specs.declared.Header.{Header}
-use Rattle.header.specs.declared.HeaderRead.{HeaderRead}
 use Rattle.claims.specs.Functions.{ReadHeld, ReadText, Report, PutRead, WriteHeader, ListRecord, Strides, ElementBytes, ElementPoints, ReadBytes, ReadPoints, WriteBytes, WritePoints, TypeIsPrinted, Encode}
 
 -- the three rooms of a reader, beyond the entries, name bytes and dimensions that it stored
@@ -29,13 +28,13 @@ Spares {A} answer Call before = (x : A) (after : List ℕ) (n : ℕ) → Call x 
 -- the claim
 pub record RestUnchanged : Type 0 where
   -- `header::read_held`, `read`, which is the same of a file that is not longer, and `read_text`
-  pub read_held : (longer : Bool) (file : List ℕ) (l l' : Lent) (h : Header) → ReadHeld longer file l (HeaderRead.Read h) l' → SameRest h.info l l'
-  pub read_text : (text : List ℕ) (l l' : Lent) (info : RecordInfo) → ReadText text l (TextRead.Read info) l' → SameRest info l l'
+  pub read_held : (longer : Bool) (file : List ℕ) (l l' : Lent) (h : Header) → ReadHeld longer file l (Ok h) l' → SameRest h.info l l'
+  pub read_text : (text : List ℕ) (l l' : Lent) (info : RecordInfo) → ReadText text l (Ok info) l' → SameRest info l l'
   -- `write::write_header`, `list_record::list`, `list_file::report`, `list_file::put_read`
   pub write_header : (t ns s : List ℕ) (o : Order) (out : List ℕ) → Spares bytes_answer (WriteHeader t ns s o out) out
   pub list : (v : Version) (start : ℕ) (t ns s : List ℕ) (o : Order) (out : List ℕ) → Spares bytes_answer (ListRecord v start t ns s o out) out
   pub report : (file out : List ℕ) → Spares bytes_answer (Report file out) out
-  pub put_read : (said : HeaderRead) (l : Lent) (out : List ℕ) → Spares bytes_answer (PutRead said l out) out
+  pub put_read : (said : Result Header Refusal) (l : Lent) (out : List ℕ) → Spares bytes_answer (PutRead said l out) out
   -- `string_element::read_bytes`, `read_points`, `write_bytes`, `write_points`
   pub read_bytes : (run : List ℕ) (k : TypeStr) (out : List ℕ) → Spares bytes_answer (ReadBytes run k out) out
   pub read_points : (run : List ℕ) (k : TypeStr) (out : List ℕ) → Spares points_answer (ReadPoints run k out) out
@@ -48,5 +47,5 @@ pub record RestUnchanged : Type 0 where
   pub print : (k : TypeStr) (out : List ℕ) → Spares bytes_answer (TypeIsPrinted k out) out
   pub encode : (value : ℕ) (out : List ℕ) → Spares bytes_answer (Encode value out) out
   -- `shape::strides`: it writes one number for each dimension, and its answer is the item count
-  pub strides : (s : List ℕ) (o : Order) (out : List ℕ) (x : ItemsAnswer) (out' : List ℕ) (n : ℕ) → Strides s o out x out' → items_answer x ≡ gives n
+  pub strides : (s : List ℕ) (o : Order) (out : List ℕ) (x : Result Items Refusal) (out' : List ℕ) (n : ℕ) → Strides s o out x out' → items_answer x ≡ gives n
       → drop (length s) out' ≡ drop (length s) out

@@ -2,14 +2,14 @@
 -- outcome comes, and the total of bytes used stands, at byte 8 for 1 and 2, at the end of the length field for 4 and 36, and at the header's last byte for all else; before that it says need more and nothing else.
 -- Ending the input early gives 3, or 1 below 8 bytes. After an outcome, further feeding returns that outcome and uses no bytes." Stated of the calls themselves, by their predicates. The byte with which the outcome comes is
 -- `due` (header_feed/specs/Due.antt).
-use Rattle.std.specs.Prelude.{ℕ, ◌+◌, ◌*◌, ◌<◌, ◌≤◌, min, ◌≡◌, true, ◌⊎◌, List, [], ◌∷◌, ◌++◌, length, take, drop, replicate}
+use Rattle.refusal.specs.declared.Refusal.{Refusal}
+use Rattle.std.specs.Prelude.{ℕ, ◌+◌, ◌*◌, ◌<◌, ◌≤◌, min, ◌≡◌, true, ◌⊎◌, List, [], ◌∷◌, ◌++◌, length, take, replicate, Result}
 use Rattle.counts.specs.Outcome.{Outcome, gives, refused}
 use Rattle.refusal.specs.Numbers.{is_refusal}
 use Rattle.record.specs.Prefix.{Prefix, prefix}
 use Rattle.record.specs.Rooms.{Lent}
 use Rattle.header.specs.declared.Header.{Header}
-use Rattle.header.specs.declared.HeaderRead.{HeaderRead}
-use Rattle.header.specs.Reads.{HeaderInfo, answer}
+use Rattle.header.specs.Reads.{HeaderInfo, header_answer}
 use Rattle.header_feed.specs.declared.Fed.{Fed}
 use Rattle.header_feed.specs.declared.Feeder.{Feeder}
 use Rattle.header_feed.specs.declared.Feeding.{Feeding}
@@ -41,18 +41,18 @@ abbrev pub LongEnough : (buffer : ℕ) (file : List ℕ) → Type 0
 LongEnough buffer file = (p : Prefix) → prefix file ≡ gives p → p.text_length ≤ buffer
 
 -- the feeder, the buffer and the rooms after parts that are this file, where the whole-slice reader has returned x for the file, and its rooms then held m
-pub record Cut (file text : List ℕ) (l : Lent) (x : HeaderRead) (m : Lent) (f : Feeder) (text' : List ℕ) (l' : Lent) (total : ℕ) : Type 0 where
+pub record Cut (file text : List ℕ) (l : Lent) (x : Result Header Refusal) (m : Lent) (f : Feeder) (text' : List ℕ) (l' : Lent) (total : ℕ) : Type 0 where
   -- "The outcome comes, and the total of bytes used stands, at" the byte that is due; an input that ends before it is used whole
   pub used_in_all : total ≡ min (due (length text) file) (length file)
   pub kept : Kept (take total file) text text'
   -- "before that it says need more and nothing else"
   pub says_more : length file < due (length text) file → (progress f.said ≡ need_more) × (l' ≡ l)
   -- "Ending the input early gives 3, or 1 below 8 bytes", as the whole-slice reader returns
-  pub ends_early : length file < due (length text) file → (f' : Feeder) → FeedEnd f f' → (progress f'.said ≡ outcome (refused (cut_short (length file)))) × (answer x ≡ refused (cut_short (length file)))
+  pub ends_early : length file < due (length text) file → (f' : Feeder) → FeedEnd f f' → (progress f'.said ≡ outcome (refused (cut_short (length file)))) × (header_answer x ≡ refused (cut_short (length file)))
   -- "36, lent buffer shorter than the named text, after 4 and before any text byte is taken"
   pub says_36 : TooShort (length text) file → (progress f.said ≡ outcome (refused 36)) × (l' ≡ l)
   -- "outcome and record equal those of the whole-slice reader"
-  pub says_same : due (length text) file ≤ length file → LongEnough (length text) file → (progress f.said ≡ outcome (answer x)) × (l' ≡ m)
+  pub says_same : due (length text) file ≤ length file → LongEnough (length text) file → (progress f.said ≡ outcome (header_answer x)) × (l' ≡ m)
   -- the data of a header that is read starts after the bytes that were used
   pub used_to_data : (h : HeaderInfo) → progress f.said ≡ outcome (gives h) → total ≡ h.data_start
 
@@ -60,7 +60,7 @@ pub record Cut (file text : List ℕ) (l : Lent) (x : HeaderRead) (m : Lent) (f 
 abbrev pub HoweverCut : Type 0
 HoweverCut =
     (parts : List (List ℕ)) (text : List ℕ) (l : Lent) (f₀ f : Feeder) (text' : List ℕ) (l' : Lent) (total : ℕ) → FeedStart f₀ → Run f₀ text l parts f text' l' total
-    → (x : HeaderRead) (m : Lent) → Read (joined parts) l x m → Cut (joined parts) text l x m f text' l' total
+    → (x : Result Header Refusal) (m : Lent) → Read (joined parts) l x m → Cut (joined parts) text l x m f text' l' total
 
 -- "before that it says need more and nothing else": calls with the first parts of an input, before the byte that is due for the whole of it
 abbrev pub MoreBefore : Type 0

@@ -3,10 +3,12 @@
 -- exactly the inputs that document 01 accepts, and returns exactly their record, bytes, place or element. What a text gives is said by the grammar. With which number
 -- any other input is refused is said by the function's predicate (Functions.antt, InC.antt). Other functions are in
 -- Further.antt, the check in Accepted.antt, the program's in Program.antt; what `count`, `item_number` and `type_read` return is one definition each, by their predicates.
-use Rattle.std.specs.Prelude.{ℕ, ◌+◌, ◌≤◌, ◌≡◌, Bool, true, false, List, [], ◌∷◌, length}
-use Rattle.refusal.specs.declared.BytesAnswer.{BytesAnswer}
-use Rattle.refusal.specs.declared.PointsAnswer.{PointsAnswer}
-use Rattle.refusal.specs.Answers.{bytes_answer, points_answer}
+use Rattle.header.specs.declared.Header as declared
+use Rattle.counts.specs.declared.Points.{Points}
+use Rattle.refusal.specs.declared.Refusal.{Refusal}
+use Rattle.counts.specs.declared.Bytes.{Bytes}
+use Rattle.std.specs.Prelude.{ℕ, ◌+◌, ◌≤◌, ◌≡◌, Bool, true, false, List, [], ◌∷◌, length, Result}
+use Rattle.refusal.specs.Answers.{bytes_answer, points_answer, answer}
 use Rattle.counts.specs.Outcome.{Outcome, gives}
 use Rattle.counts.specs.Lists.{at_front}
 use Rattle.literal_grammar.specs.Value.{Value, most_open}
@@ -25,11 +27,8 @@ use Rattle.record.specs.Rooms.{Lent, holding}
 use Rattle.record.specs.Header.{Header}
 use Rattle.record.specs.File.{bare_text, text as header_text, file_of}
 use Rattle.check_record.specs.Valid.{Valid}
-use Rattle.header.specs.declared.HeaderRead.{HeaderRead}
-use Rattle.header.specs.Reads.{HeaderInfo, header_info, answer}
+use Rattle.header.specs.Reads.{HeaderInfo, header_info, header_answer}
 use Rattle.place_area.specs.declared.Run.{Run}
-use Rattle.place.specs.declared.Placed.{Placed}
-use Rattle.place.specs.Answer as place_answer
 use Rattle.place.specs.Place.{run_from}
 use Rattle.string_value.specs.Elements.{bytes_in, points_in}
 use Rattle.string_value.specs.Runs.{bytes_out, points_out}
@@ -135,21 +134,21 @@ ByType order letter size units = ByNumber (order ∷ letter ∷ size ∷ units �
 -- the claim, of every call
 pub record Exact : Type 0 where
   -- `header::read_held`, and `header::read`, which is the same of a file that is not longer
-  pub read_held : (longer : Bool) (file : List ℕ) (l : Lent) (x : HeaderRead) (l' : Lent) → ReadHeld longer file l x l' → ReadsExactly in_rattle file l (answer x) l'
-  pub write_header : (t ns s : List ℕ) (o : Order) (out : List ℕ) (w : BytesAnswer) (out' : List ℕ) → WriteHeader t ns s o out w out'
+  pub read_held : (longer : Bool) (file : List ℕ) (l : Lent) (x : Result declared.Header Refusal) (l' : Lent) → ReadHeld longer file l x l' → ReadsExactly in_rattle file l (header_answer x) l'
+  pub write_header : (t ns s : List ℕ) (o : Order) (out : List ℕ) (w : Result Bytes Refusal) (out' : List ℕ) → WriteHeader t ns s o out w out'
       → WritesExactly in_rattle (Writable t ns s o out) out (bytes_answer w) out'
-  pub place : (file start : ℕ) (t ns s : List ℕ) (o : Order) (x p : List ℕ) (y : Placed) → Place file start t ns s o x p y
-      → PlacesExactly in_rattle (λ a. PlaceIs file start t ns s o x p a.0 a.1) start x p (place_answer.answer y)
-  pub element_bytes : (file : List ℕ) (start : ℕ) (t ns s : List ℕ) (o : Order) (x p out : List ℕ) (y : BytesAnswer) (out' : List ℕ)
+  pub place : (file start : ℕ) (t ns s : List ℕ) (o : Order) (x p : List ℕ) (y : Result Run Refusal) → Place file start t ns s o x p y
+      → PlacesExactly in_rattle (λ a. PlaceIs file start t ns s o x p a.0 a.1) start x p (answer y)
+  pub element_bytes : (file : List ℕ) (start : ℕ) (t ns s : List ℕ) (o : Order) (x p out : List ℕ) (y : Result Bytes Refusal) (out' : List ℕ)
       → ElementBytes file start t ns s o x p out y out'
       → TakesExactly in_rattle (Element bytes_in file start t ns s o x p out) out (bytes_answer y) out'
-  pub element_points : (file : List ℕ) (start : ℕ) (t ns s : List ℕ) (o : Order) (x p out : List ℕ) (y : PointsAnswer) (out' : List ℕ)
+  pub element_points : (file : List ℕ) (start : ℕ) (t ns s : List ℕ) (o : Order) (x p out : List ℕ) (y : Result Points Refusal) (out' : List ℕ)
       → ElementPoints file start t ns s o x p out y out'
       → TakesExactly in_rattle (Element points_in file start t ns s o x p out) out (points_answer y) out'
   -- `string_element::write_bytes`, `write_points`
-  pub write_bytes : (k : TypeStr) (value out : List ℕ) (y : BytesAnswer) (out' : List ℕ) → WriteBytes k value out y out'
+  pub write_bytes : (k : TypeStr) (value out : List ℕ) (y : Result Bytes Refusal) (out' : List ℕ) → WriteBytes k value out y out'
       → TakesExactly in_rattle (ByItself k (bytes_out k value) out) out (bytes_answer y) out'
-  pub write_points : (k : TypeStr) (value out : List ℕ) (y : BytesAnswer) (out' : List ℕ) → WritePoints k value out y out'
+  pub write_points : (k : TypeStr) (value out : List ℕ) (y : Result Bytes Refusal) (out' : List ℕ) → WritePoints k value out y out'
       → TakesExactly in_rattle (ByItself k (points_out k value) out) out (bytes_answer y) out'
 
 -- the same of the functions of the C interface

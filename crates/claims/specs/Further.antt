@@ -1,10 +1,11 @@
 -- The functions beside those that demand 2 names (Exact.antt): a text by itself, an element by itself, strides, a listing, a type string printed, one character, the program's text.
 -- Each succeeds exactly where it is due, and returns and writes exactly what is due. With which number any other input is refused is said by the function's predicate.
-use Rattle.std.specs.Prelude.{ℕ, ◌≤◌, ◌≡◌, true, false, List, [], ◌∷◌, length}
-use Rattle.refusal.specs.declared.ItemsAnswer.{ItemsAnswer}
-use Rattle.refusal.specs.declared.BytesAnswer.{BytesAnswer}
-use Rattle.refusal.specs.declared.PointsAnswer.{PointsAnswer}
-use Rattle.refusal.specs.Answers.{items_answer, bytes_answer, points_answer}
+use Rattle.counts.specs.declared.Points.{Points}
+use Rattle.counts.specs.declared.Items.{Items}
+use Rattle.refusal.specs.declared.Refusal.{Refusal}
+use Rattle.counts.specs.declared.Bytes.{Bytes}
+use Rattle.std.specs.Prelude.{ℕ, ◌≤◌, ◌≡◌, true, false, List, [], ◌∷◌, length, Result}
+use Rattle.refusal.specs.Answers.{items_answer, bytes_answer, points_answer, answer}
 use Rattle.counts.specs.Outcome.{gives}
 use Rattle.counts.specs.Lists.{at_front}
 use Rattle.utf8_scalar.specs.Scalar.{is_scalar}
@@ -19,8 +20,7 @@ use Rattle.record.specs.Rooms.{Lent, holding}
 use Rattle.record.specs.Prefix.{Version, major}
 use Rattle.check_record.specs.Valid.{Valid}
 use Rattle.header.specs.declared.RecordInfo.{RecordInfo}
-use Rattle.header.specs.declared.TextRead.{TextRead}
-use Rattle.header.specs.Reads.{info_of, text_answer}
+use Rattle.header.specs.Reads.{info_of}
 use Rattle.string_value.specs.Elements.{bytes_in, points_in}
 use Rattle.list_text.specs.Listing.{listing}
 use Rattle.npy_codes.specs.Codes.{one_number, order_number, text_values}
@@ -58,25 +58,25 @@ pub record Encoded (value : ℕ) (room content : List ℕ) : Type 0 where
 -- the claim, of every call
 pub record FurtherExact : Type 0 where
   -- `header::read_text`
-  pub read_text : (text : List ℕ) (l : Lent) (x : TextRead) (l' : Lent) → ReadText text l x l' → ReadsTextExactly in_rattle text l (text_answer x) l'
+  pub read_text : (text : List ℕ) (l : Lent) (x : Result RecordInfo Refusal) (l' : Lent) → ReadText text l x l' → ReadsTextExactly in_rattle text l (answer x) l'
   -- `shape::strides`
-  pub strides : (s : List ℕ) (o : Order) (out : List ℕ) (y : ItemsAnswer) (out' : List ℕ) → Strides s o out y out'
+  pub strides : (s : List ℕ) (o : Order) (out : List ℕ) (y : Result Items Refusal) (out' : List ℕ) → Strides s o out y out'
       → StridesExactly in_rattle (λ a. (a ≡ o) × StridesDue a s out) s out (items_answer y) out'
   -- `list_record::list`
-  pub list : (v : Version) (start : ℕ) (t ns s : List ℕ) (o : Order) (out : List ℕ) (y : BytesAnswer) (out' : List ℕ) → ListRecord v start t ns s o out y out'
+  pub list : (v : Version) (start : ℕ) (t ns s : List ℕ) (o : Order) (out : List ℕ) (y : Result Bytes Refusal) (out' : List ℕ) → ListRecord v start t ns s o out y out'
       → TakesExactly in_rattle (ListingIs v start t ns s o out) out (bytes_answer y) out'
   -- `list_file::report`; of `report_whole` see Program.antt
-  pub report : (file out : List ℕ) (y : BytesAnswer) (out' : List ℕ) → Report file out y out'
+  pub report : (file out : List ℕ) (y : Result Bytes Refusal) (out' : List ℕ) → Report file out y out'
       → ByGrammar (λ reading. TakesExactly in_rattle (λ c. (c ≡ report_by reading file) × (length c ≤ length out)) out (bytes_answer y) out')
   -- `string_element::read_bytes`, `read_points`
-  pub read_bytes : (run : List ℕ) (k : TypeStr) (out : List ℕ) (y : BytesAnswer) (out' : List ℕ) → ReadBytes run k out y out'
+  pub read_bytes : (run : List ℕ) (k : TypeStr) (out : List ℕ) (y : Result Bytes Refusal) (out' : List ℕ) → ReadBytes run k out y out'
       → TakesExactly in_rattle (ByItself k (bytes_in k run) out) out (bytes_answer y) out'
-  pub read_points : (run : List ℕ) (k : TypeStr) (out : List ℕ) (y : PointsAnswer) (out' : List ℕ) → ReadPoints run k out y out'
+  pub read_points : (run : List ℕ) (k : TypeStr) (out : List ℕ) (y : Result Points Refusal) (out' : List ℕ) → ReadPoints run k out y out'
       → TakesExactly in_rattle (ByItself k (points_in k run) out) out (points_answer y) out'
   -- `type_print::print`, `utf8_scalar::encode`
-  pub type_print : (k : TypeStr) (out : List ℕ) (y : BytesAnswer) (out' : List ℕ) → TypeIsPrinted k out y out'
+  pub type_print : (k : TypeStr) (out : List ℕ) (y : Result Bytes Refusal) (out' : List ℕ) → TypeIsPrinted k out y out'
       → TakesExactly in_rattle (ByItself k (gives (type_text k [])) out) out (bytes_answer y) out'
-  pub encode : (value : ℕ) (out : List ℕ) (y : BytesAnswer) (out' : List ℕ) → Encode value out y out'
+  pub encode : (value : ℕ) (out : List ℕ) (y : Result Bytes Refusal) (out' : List ℕ) → Encode value out y out'
       → TakesExactly in_rattle (Encoded value out) out (bytes_answer y) out'
 
 -- the same of the functions of the C interface

@@ -1,13 +1,14 @@
 -- Document 01, "What counts as an answer": "Every public function states its complete result and the final content of each buffer, for refused input too; that no second outcome
 -- satisfies the statement is itself proved". So of the predicates that the claims speak of: for each function that a customer calls, one result and one content of all
 -- that was lent satisfies its predicate, and no second. That there is one is what src/lib.rt shows.
-use Rattle.std.specs.Prelude.{ℕ, Bool, List}
+use Rattle.refusal.specs.declared.Refusal.{Refusal}
+use Rattle.header.specs.declared.Header.{Header}
+use Rattle.std.specs.Prelude.{ℕ, Bool, List, Result}
 use Rattle.counts.specs.OneOutcome.{OneOutcome}
 use Rattle.type_str.specs.declared.TypeStr.{TypeStr}
 use Rattle.dtype.specs.declared.Order.{Order}
 use Rattle.record.specs.Prefix.{Version}
 use Rattle.record.specs.Rooms.{Lent}
-use Rattle.header.specs.declared.HeaderRead.{HeaderRead}
 use Rattle.header_feed.specs.declared.Feeder.{Feeder}
 use Rattle.header_feed.specs.declared.Feeding.{Feeding}
 use Rattle.claims.specs.Functions as rattle
@@ -31,7 +32,7 @@ pub record OneOutcomeEach : Type 0 where
   pub feed_end : (f : Feeder) → OneOutcome (rattle.FeedEnd f)
   pub report : (file out : List ℕ) → Beside (rattle.Report file out)
   pub report_whole : (file out : List ℕ) → Beside (rattle.ReportWhole file out)
-  pub put_read : (said : HeaderRead) (l : Lent) (out : List ℕ) → Beside (rattle.PutRead said l out)
+  pub put_read : (said : Result Header Refusal) (l : Lent) (out : List ℕ) → Beside (rattle.PutRead said l out)
   pub find : (longer : Bool) (held : List ℕ) (file : ℕ) (x p : List ℕ) → OneOutcome (rattle.Find longer held file x p)
   pub numbers_listed : (text out : List ℕ) → Beside (rattle.NumbersListed text out)
   pub put_element : (run : List ℕ) (k : TypeStr) (out : List ℕ) → Beside (rattle.PutElement run k out)

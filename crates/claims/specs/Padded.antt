@@ -1,8 +1,9 @@
 -- Document 02, "Wish 4. Sixty-four, as NumPy says.": what holds of every header that is written, and which padding is read. The 128 bytes and the edges of version and padding are
 -- in Edges.antt (`padding_edges`).
-use Rattle.std.specs.Prelude.{ℕ, ◌+◌, ◌^◌, ◌%◌, ◌<◌, ◌≤◌, ◌≡◌, true, false, List, [], ◌∷◌, ◌++◌, length, take, replicate}
+use Rattle.refusal.specs.declared.Refusal.{Refusal}
+use Rattle.header.specs.declared.Header.{Header}
+use Rattle.std.specs.Prelude.{ℕ, ◌+◌, ◌^◌, ◌%◌, ◌<◌, ◌≤◌, ◌≡◌, true, false, List, [], ◌∷◌, ◌++◌, length, take, replicate, Ok, Result}
 use Rattle.counts.specs.Outcome.{gives}
-use Rattle.refusal.specs.declared.BytesAnswer.{BytesAnswer}
 use Rattle.literal_grammar.specs.Bytes.{is_blank}
 use Rattle.literal_grammar.specs.Grammar.{All}
 use Rattle.dtype.specs.declared.Order.{Order}
@@ -12,8 +13,7 @@ use Rattle.record.specs.Rooms.{Lent}
 use Rattle.record.specs.Padding.{is_ascii}
 use Rattle.record.specs.File.{bare_text, file_by}
 use Rattle.check_record.specs.Valid.{Valid}
-use Rattle.header.specs.declared.HeaderRead.{HeaderRead}
-use Rattle.header.specs.Reads.{HeaderInfo, answer}
+use Rattle.header.specs.Reads.{HeaderInfo, header_answer}
 use Rattle.npy_codes.specs.Codes.{order_number, header_values}
 use Rattle.claims.specs.Exact.{InText, InFile}
 use Rattle.claims.specs.Functions.{Read, WriteHeader}
@@ -36,7 +36,7 @@ pub record PaddedHeader (r : Record) (bytes : List ℕ) : Type 0 where
 
 -- "Correct the definition.": what was written is such a header, of the caller's record
 pub record PaddedTo64 : Type 0 where
-  pub write_header : (t ns s : List ℕ) (o : Order) (out out' : List ℕ) (n : ℕ) → WriteHeader t ns s o out (BytesAnswer.Is (record { 0 = n })) out'
+  pub write_header : (t ns s : List ℕ) (o : Order) (out out' : List ℕ) (n : ℕ) → WriteHeader t ns s o out (Ok (record { 0 = n })) out'
       → (r : Record) × Valid t ns s o r × PaddedHeader r (take n out')
   pub npy_write_header : (t ns s : List ℕ) (order : ℕ) (out out' count : List ℕ) (n : ℕ) → NpyWriteHeader t ns s order out count 0 out' (n ∷ [])
       → (o : Order) × (order ≡ order_number o) × ((r : Record) × Valid t ns s o r × PaddedHeader r (take n out'))
@@ -45,8 +45,8 @@ pub record PaddedTo64 : Type 0 where
 -- after it
 abbrev pub Aligned : Type 0
 Aligned =
-    (t ns s : List ℕ) (o : Order) (out out' : List ℕ) (n : ℕ) → WriteHeader t ns s o out (BytesAnswer.Is (record { 0 = n })) out'
-    → (n % 64 ≡ 0) × ((rest : List ℕ) (l l' : Lent) (x : HeaderRead) (i : HeaderInfo) → Read (take n out' ++ rest) l x l' → answer x ≡ gives i → i.data_start ≡ n)
+    (t ns s : List ℕ) (o : Order) (out out' : List ℕ) (n : ℕ) → WriteHeader t ns s o out (Ok (record { 0 = n })) out'
+    → (n % 64 ≡ 0) × ((rest : List ℕ) (l l' : Lent) (x : Result Header Refusal) (i : HeaderInfo) → Read (take n out' ++ rest) l x l' → header_answer x ≡ gives i → i.data_start ≡ n)
 
 -- the same in C
 abbrev pub AlignedInC : Type 0

@@ -3,7 +3,8 @@
 -- it has no `O` and the file is at least as long as data start + count times item size, each index in range with each path to a plain type is answered with the run of
 -- that type's bytes at "data start + item size times the sum of index times stride + the offset inside the item" (`place`, dtype/specs/Places.antt), inside the data
 -- area; all else with 26; and each byte of the data area belongs to exactly one index, path and byte of such a run.
-use Rattle.std.specs.Prelude.{ℕ, ◌+◌, ◌<◌, ◌≤◌, ◌≡◌, true, false, List, length}
+use Rattle.header.specs.declared.Header as declared
+use Rattle.std.specs.Prelude.{ℕ, ◌+◌, ◌<◌, ◌≤◌, ◌≡◌, true, false, List, length, Err, Ok, Result}
 use Rattle.refusal.specs.declared.Refusal.{Refusal}
 use Rattle.counts.specs.Outcome.{gives, given}
 use Rattle.type_str.specs.declared.TypeStr.{TypeStr}
@@ -17,10 +18,8 @@ use Rattle.record.specs.Rooms.{Lent, holding}
 use Rattle.record.specs.Header.{Header}
 use Rattle.check_record.specs.Valid.{Valid}
 use Rattle.place_area.specs.declared.Run.{Run}
-use Rattle.place.specs.declared.Placed.{Placed}
 use Rattle.place.specs.Place.{run_from}
-use Rattle.header.specs.declared.HeaderRead.{HeaderRead}
-use Rattle.header.specs.Reads.{info_of, header_info, answer}
+use Rattle.header.specs.Reads.{info_of, header_info, header_answer}
 use Rattle.read_back.specs.Rooms.{table_stored, names_stored, shape_stored}
 use Rattle.npy_codes.specs.Codes.{order_number, header_values, run_values}
 use Rattle.claims.specs.Functions.{Read, Place}
@@ -53,7 +52,7 @@ pub record Owned {Y : Type 0} (Call : (x p : List ℕ) → Y → Type 0) (at : R
 abbrev pub RecordOwned : Type 0
 RecordOwned =
     (file start : ℕ) (t ns s : List ℕ) (o : Order) (r : Record) → Valid t ns s o r → has_object r.dtype ≡ false → start + data_bytes r ≤ file
-    → Owned (Place file start t ns s o) Placed.At (Placed.Refused Refusal.Nowhere) start r
+    → Owned (Place file start t ns s o) Ok (Err Refusal.Nowhere) start r
 
 -- the same in C: 0 and the run's values, or 26 and the values' room `run` as it was
 abbrev pub RecordOwnedInC : Type 0
@@ -64,8 +63,8 @@ RecordOwnedInC =
 
 -- a file that is read has such a header: its values were returned, and its record was stored
 pub record HeaderStored : Type 0 where
-  pub read : (file : List ℕ) (l l' : Lent) (x : HeaderRead) → Read file l x l' → given (answer x) ≡ true
-      → (h : Header) × (answer x ≡ gives (header_info h)) × (l' ≡ holding h.says l)
+  pub read : (file : List ℕ) (l l' : Lent) (x : Result declared.Header Refusal) → Read file l x l' → given (header_answer x) ≡ true
+      → (h : Header) × (header_answer x ≡ gives (header_info h)) × (l' ≡ holding h.says l)
   pub npy_read : (file : List ℕ) (l l' : Lent) (said said' : List ℕ) → NpyRead file l said 0 l' said'
       → (h : Header) × (said' ≡ header_values (header_info h)) × (l' ≡ holding h.says l)
 
@@ -80,10 +79,10 @@ pub record DataOwnedBy (file : List ℕ) (h : Header) (l' : Lent) (Area : (start
 -- begins with it
 abbrev pub DataOwned : Type 0
 DataOwned =
-    (file : List ℕ) (l l' : Lent) (x : HeaderRead) (h : Header) → Read file l x l' → answer x ≡ gives (header_info h) → l' ≡ holding h.says l
+    (file : List ℕ) (l l' : Lent) (x : Result declared.Header Refusal) (h : Header) → Read file l x l' → header_answer x ≡ gives (header_info h) → l' ≡ holding h.says l
     → let i = info_of h.says in
     DataOwnedBy file h l'
-    (Owned (Place (length file) h.data_start (table_stored i l') (names_stored i l') (shape_stored i l') i.order) Placed.At (Placed.Refused Refusal.Nowhere))
+    (Owned (Place (length file) h.data_start (table_stored i l') (names_stored i l') (shape_stored i l') i.order) Ok (Err Refusal.Nowhere))
 
 -- the same in C
 abbrev pub DataOwnedInC : Type 0

@@ -3,10 +3,12 @@
 -- starts after them; or the result is 23, if a room is too small. `ReadWritten`: the record that a reading left in the rooms is refused by the writer with 4 exactly if its
 -- text is over 131,072 bytes, then with 28 exactly if the output room is too small; else it is written and read back. That some header is
 -- read and some record written at all follows with Exact.antt from document 01's 80 bytes and from document 02's 128 (`eighty_read` and `three_writable`, Edges.antt).
-use Rattle.std.specs.Prelude.{ℕ, ◌*◌, ◌<◌, ◌≤◌, ◌≡◌, List, [], ◌∷◌, ◌++◌, length, take}
+use Rattle.header.specs.declared.Header as declared
+use Rattle.refusal.specs.declared.Refusal.{Refusal}
+use Rattle.counts.specs.declared.Bytes.{Bytes}
+use Rattle.std.specs.Prelude.{ℕ, ◌*◌, ◌<◌, ◌≤◌, ◌≡◌, List, [], ◌∷◌, ◌++◌, length, take, Ok, Result}
 use Rattle.counts.specs.Outcome.{gives, refused}
 use Rattle.counts.specs.Lists.{at_front}
-use Rattle.refusal.specs.declared.BytesAnswer.{BytesAnswer}
 use Rattle.refusal.specs.Answers.{bytes_answer}
 use Rattle.dtype.specs.declared.Order.{Order}
 use Rattle.dtype.specs.Record.{entry_width, Record, table, names}
@@ -14,8 +16,7 @@ use Rattle.record.specs.Prefix.{most_text}
 use Rattle.record.specs.Rooms.{Lent, holding}
 use Rattle.record.specs.Header.{Header}
 use Rattle.record.specs.File.{text as header_text, file_of}
-use Rattle.header.specs.declared.HeaderRead.{HeaderRead}
-use Rattle.header.specs.Reads.{HeaderInfo, info_of, header_info, answer}
+use Rattle.header.specs.Reads.{HeaderInfo, info_of, header_info, header_answer}
 use Rattle.read_back.specs.Rooms.{table_stored, names_stored, shape_stored}
 use Rattle.npy_codes.specs.Codes.{one_number, order_number, header_values}
 use Rattle.claims.specs.Doors.{Door, in_rattle, in_c}
@@ -44,7 +45,7 @@ pub record ComesBack {R : Type 0} (door : Door HeaderInfo R) (t ns s : List ℕ)
 -- whatever follows these bytes and whatever rooms are lent, reading them gives this record, by `header::read` and by `npy_read`
 abbrev pub ReadBack : (bytes : List ℕ) (t ns s : List ℕ) (o : Order) → Type 0
 ReadBack bytes t ns s o =
-    (rest : List ℕ) (l l' : Lent) (x : HeaderRead) → Read (bytes ++ rest) l x l' → ComesBack in_rattle t ns s o (length bytes) l (answer x) l'
+    (rest : List ℕ) (l l' : Lent) (x : Result declared.Header Refusal) → Read (bytes ++ rest) l x l' → ComesBack in_rattle t ns s o (length bytes) l (header_answer x) l'
 
 abbrev pub NpyReadBack : (bytes : List ℕ) (t ns s : List ℕ) (o : Order) → Type 0
 NpyReadBack bytes t ns s o =
@@ -54,7 +55,7 @@ NpyReadBack bytes t ns s o =
 -- the first claim
 abbrev pub WrittenRead : Type 0
 WrittenRead =
-    (t ns s : List ℕ) (o : Order) (out out' : List ℕ) (n : ℕ) → WriteHeader t ns s o out (BytesAnswer.Is (record { 0 = n })) out'
+    (t ns s : List ℕ) (o : Order) (out out' : List ℕ) (n : ℕ) → WriteHeader t ns s o out (Ok (record { 0 = n })) out'
     → (length (take n out') ≡ n) × ReadBack (take n out') t ns s o
 
 -- the same in C: the order's number names an order
@@ -79,8 +80,8 @@ SameRecord Back r bytes = Back bytes (table r.dtype) (names r.dtype) r.shape r.o
 -- Places.antt), and by Exact.antt the file begins with it
 abbrev pub ReadWritten : Type 0
 ReadWritten =
-    (file : List ℕ) (l l' : Lent) (x : HeaderRead) (h : Header) → Read file l x l' → answer x ≡ gives (header_info h) → l' ≡ holding h.says l
-    → (out out' : List ℕ) (w : BytesAnswer)
+    (file : List ℕ) (l l' : Lent) (x : Result declared.Header Refusal) (h : Header) → Read file l x l' → header_answer x ≡ gives (header_info h) → l' ≡ holding h.says l
+    → (out out' : List ℕ) (w : Result Bytes Refusal)
     → let i = info_of h.says in
     WriteHeader (table_stored i l') (names_stored i l') (shape_stored i l') i.order out w out'
     → GoesAgain in_rattle h.says out (bytes_answer w) out' (SameRecord ReadBack h.says)

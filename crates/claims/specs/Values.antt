@@ -1,7 +1,9 @@
 -- Document 02, "Wish 1. Counter values, not bytes.": where an element has a value, and which; that the value has the exact bits stored; what a half float becomes; when 31 and 32
 -- are given. Of `element::read_value` and `npy_element_value`, which read at a place; the first two also of `value::read` and `npy_read_value`, which read bytes by themselves. What the value of
 -- some bytes is, is `value_in` of value/specs/Values.antt.
-use Rattle.std.specs.Prelude.{ℕ, ◌<◌, ◌≡◌, ◌⊎◌, Bool as Truth, true, false, List, [], ◌∷◌, eqb, length}
+use Rattle.refusal.specs.Answers.{answer}
+use Rattle.refusal.specs.declared.Refusal.{Refusal}
+use Rattle.std.specs.Prelude.{ℕ, ◌<◌, ◌≡◌, ◌⊎◌, Bool as Truth, true, false, List, [], ◌∷◌, eqb, length, Ok, Result}
 use Rattle.counts.specs.Outcome.{gives, refused}
 use Rattle.counts.specs.OneOutcome.{OneOutcome}
 use Rattle.type_letters.specs.declared.TypeChar.{TypeChar}
@@ -19,12 +21,10 @@ use Rattle.value_float.specs.Becomes.{HalfBecomes}
 use Rattle.value_float.specs.Edges.{HalfEdges}
 use Rattle.value_float.specs.FloatEdges.{FloatEdges}
 use Rattle.value.specs.declared.Value.{Value}
-use Rattle.value.specs.declared.ValueAnswer.{ValueAnswer}
 use Rattle.value.specs.Values.{value_in}
 use Rattle.value.specs.Stored.{value_bytes}
 use Rattle.value.specs.Sorts.{ValueSort}
 use Rattle.value.specs.Edges.{ValueEdges}
-use Rattle.value.specs.Answer.{value_answer}
 use Rattle.element.specs.Bytes.{run_bytes}
 use Rattle.npy_codes.specs.Codes.{order_number, type_values}
 use Rattle.npy_codes.specs.Values.{value_numbers, value_values, said_bytes}
@@ -63,9 +63,9 @@ abbrev pub ValuesExactly : {R : Type 0} → Door Value R → (Due : Value → Ty
 ValuesExactly door Due y = Exactly {M = Unit {0}} door Due (λ v. v) (λ v m. m) tt y tt
 
 pub record ValuesExact : Type 0 where
-  pub element_value : (file : List ℕ) (start : ℕ) (t ns s : List ℕ) (o : Order) (x p : List ℕ) (y : ValueAnswer) → ElementValue file start t ns s o x p y
-      → ValuesExactly in_rattle (ValueIs file start t ns s o x p) (value_answer y)
-  pub read_value : (run : List ℕ) (k : TypeStr) (y : ValueAnswer) → ReadValue run k y → ValuesExactly in_rattle (ValueByItself run k) (value_answer y)
+  pub element_value : (file : List ℕ) (start : ℕ) (t ns s : List ℕ) (o : Order) (x p : List ℕ) (y : Result Value Refusal) → ElementValue file start t ns s o x p y
+      → ValuesExactly in_rattle (ValueIs file start t ns s o x p) (answer y)
+  pub read_value : (run : List ℕ) (k : TypeStr) (y : Result Value Refusal) → ReadValue run k y → ValuesExactly in_rattle (ValueByItself run k) (answer y)
 
 pub record ValuesExactInC : Type 0 where
   pub npy_element_value : (file : List ℕ) (start : ℕ) (t ns s : List ℕ) (order : ℕ) (x p said : List ℕ) (r : ℕ) (said' : List ℕ)
@@ -77,9 +77,9 @@ pub record ValuesExactInC : Type 0 where
 -- "bool (byte 0 or 1), signed, unsigned, a single or double float, a complex pair of either, or a time count with its unit": a value that was returned is of the kind of its type, a number
 -- is in the range of the type's size, each float is the one of its bits, and a time has the type's unit; with values, floats and the numbers of values at the edges
 pub record ValuesSorted : Type 0 where
-  pub element_value : (file : List ℕ) (start : ℕ) (t ns s : List ℕ) (o : Order) (x p : List ℕ) (v : Value) → ElementValue file start t ns s o x p (ValueAnswer.Is v)
+  pub element_value : (file : List ℕ) (start : ℕ) (t ns s : List ℕ) (o : Order) (x p : List ℕ) (v : Value) → ElementValue file start t ns s o x p (Ok v)
       → (k : TypeStr) (bytes : List ℕ) → ElementIs file start t ns s o x p k bytes → ValueSort k.letter k.size k.units v
-  pub read_value : (run : List ℕ) (k : TypeStr) (v : Value) → ReadValue run k (ValueAnswer.Is v) → ValueSort k.letter k.size k.units v
+  pub read_value : (run : List ℕ) (k : TypeStr) (v : Value) → ReadValue run k (Ok v) → ValueSort k.letter k.size k.units v
   pub edges : ValueEdges
   pub float_edges : FloatEdges
   pub said_edges : SaidEdges
@@ -87,9 +87,9 @@ pub record ValuesSorted : Type 0 where
 -- ---- "A value carries its float with the exact bits stored, in either byte order."
 -- the bytes of a value that was returned, by its type's order and size, are the bytes of the element. This holds for every type that has values
 pub record BitsStored : Type 0 where
-  pub element_value : (file : List ℕ) (start : ℕ) (t ns s : List ℕ) (o : Order) (x p : List ℕ) (v : Value) → ElementValue file start t ns s o x p (ValueAnswer.Is v)
+  pub element_value : (file : List ℕ) (start : ℕ) (t ns s : List ℕ) (o : Order) (x p : List ℕ) (v : Value) → ElementValue file start t ns s o x p (Ok v)
       → (k : TypeStr) (bytes : List ℕ) → ElementIs file start t ns s o x p k bytes → value_bytes k.order k.size v ≡ bytes
-  pub read_value : (run : List ℕ) (k : TypeStr) (v : Value) → ReadValue run k (ValueAnswer.Is v) → value_bytes k.order k.size v ≡ run
+  pub read_value : (run : List ℕ) (k : TypeStr) (v : Value) → ReadValue run k (Ok v) → value_bytes k.order k.size v ≡ run
 
 -- in C from the four numbers that were returned, which are those of the value
 pub record BitsStoredInC : Type 0 where
@@ -108,9 +108,9 @@ HalfIn k bytes r = let h = in_order k.order bytes in HalfBecomes (is_negative h)
 
 pub record HalvesExact : Type 0 where
   -- the value of an element of a type `f2` is that single float
-  pub element_value : (file : List ℕ) (start : ℕ) (t ns s : List ℕ) (o : Order) (x p : List ℕ) (y : ValueAnswer) → ElementValue file start t ns s o x p y
+  pub element_value : (file : List ℕ) (start : ℕ) (t ns s : List ℕ) (o : Order) (x p : List ℕ) (y : Result Value Refusal) → ElementValue file start t ns s o x p y
       → (k : TypeStr) (bytes : List ℕ) → ElementIs file start t ns s o x p k bytes → k.letter ≡ Floating → k.size ≡ 2
-      → (r : Single) × HalfIn k bytes r × (y ≡ ValueAnswer.Is (Value.Single r))
+      → (r : Single) × HalfIn k bytes r × (y ≡ Ok (Value.Single r))
   pub npy_element_value : (file : List ℕ) (start : ℕ) (t ns s : List ℕ) (order : ℕ) (x p said : List ℕ) (c : ℕ) (said' : List ℕ)
       → NpyElementValue file start t ns s order x p said c said'
       → (o : Order) (k : TypeStr) (bytes : List ℕ) → order ≡ order_number o → ElementIs file start t ns s o x p k bytes → k.letter ≡ Floating → k.size ≡ 2
@@ -150,8 +150,8 @@ pub record RefusedExactly {R : Type 0} (door : Door Value R) (Due : ℕ → Type
   pub only : door.success y ≡ false → (n : ℕ) × Due n
 
 pub record ValueRefusals : Type 0 where
-  pub element_value : (file : List ℕ) (start : ℕ) (t ns s : List ℕ) (o : Order) (x p : List ℕ) (y : ValueAnswer) → ElementValue file start t ns s o x p y
-      → RefusedExactly in_rattle (ValueRefused file start t ns s o x p) (value_answer y)
+  pub element_value : (file : List ℕ) (start : ℕ) (t ns s : List ℕ) (o : Order) (x p : List ℕ) (y : Result Value Refusal) → ElementValue file start t ns s o x p y
+      → RefusedExactly in_rattle (ValueRefused file start t ns s o x p) (answer y)
   -- in C of an order that a number names; another number is 27
   pub npy_element_value : (file : List ℕ) (start : ℕ) (t ns s : List ℕ) (order : ℕ) (x p said : List ℕ) (r : ℕ) (said' : List ℕ)
       → NpyElementValue file start t ns s order x p said r said' → (o : Order) → order ≡ order_number o

@@ -9,23 +9,27 @@ ghost use Rattle.header.specs.Reads.{lent};
 ghost use Rattle.claims.specs.Functions.{Read, ReadHeld, ReadText, FeedStart, Feed, FeedEnd, Report, ReportWhole, PutRead, Find, NumbersListed, PutElement, Check, WriteHeader, ListRecord, Count, Strides, ItemNumber, Place, ElementBytes, ElementPoints, ElementValue, ReadBytes, ReadPoints, ReadValue, WriteBytes, WritePoints, TypeIsRead, TypeIsPrinted, Encode};
 ghost use Rattle.claims.specs.InC.{NpyRead, NpyReadHeld, NpyReadText, NpyFeed, NpyFeedEnd, NpyCheck, NpyWriteHeader, NpyList, NpyCount, NpyStrides, NpyItemNumber, NpyPlace, NpyElementBytes, NpyElementPoints, NpyElementValue, NpyReadBytes, NpyReadPoints, NpyReadValue, NpyWriteBytes, NpyWritePoints, NpyTypeRead, NpyTypePrint};
 
-use check_record::Checked;
-use counts::Bytes;
-use dtype::Order;
-use get_file::Listed;
-use header::{HeaderRead, TextRead};
+use check_record::Summary;
+use counts::{Bytes, Items, Points};
+use dtype::{GivenRecord, Order};
+use header::{Header, RecordInfo};
 use header_feed::{Feeder, Feeding};
 use header_prefix::Version;
 use list_file::ROOM;
 use npy_codes::FEEDER;
-use place::Placed;
-use refusal::{BytesAnswer, ItemsAnswer, PointsAnswer};
-use type_str::{TypeRead, TypeStr};
-use value::ValueAnswer;
+use place_area::Run;
+use refusal::Refusal;
+use type_str::TypeStr;
+use value::Value;
 
 // ---- the Rattle functions
 
-fn header_read(file: &[u8], table: &mut [u64], names: &mut [u8], shape: &mut [u64]) -> HeaderRead
+fn header_read(
+    file: &[u8],
+    table: &mut [u64],
+    names: &mut [u8],
+    shape: &mut [u64],
+) -> Result<Header, Refusal>
     ensures { Read file.now (lent table.old names.old shape.old) result (lent table.new names.new shape.new) }
 {
     header::read(file, table, names, shape)
@@ -37,13 +41,18 @@ fn header_read_held(
     table: &mut [u64],
     names: &mut [u8],
     shape: &mut [u64],
-) -> HeaderRead
+) -> Result<Header, Refusal>
     ensures { ReadHeld longer file.now (lent table.old names.old shape.old) result (lent table.new names.new shape.new) }
 {
     header::read_held(file, longer, table, names, shape)
 }
 
-fn header_read_text(text: &[u8], table: &mut [u64], names: &mut [u8], shape: &mut [u64]) -> TextRead
+fn header_read_text(
+    text: &[u8],
+    table: &mut [u64],
+    names: &mut [u8],
+    shape: &mut [u64],
+) -> Result<RecordInfo, Refusal>
     ensures { ReadText text.now (lent table.old names.old shape.old) result (lent table.new names.new shape.new) }
 {
     header::read_text(text, table, names, shape)
@@ -74,7 +83,7 @@ fn header_feed_end(f: Feeder) -> Feeder
     header_feed::end(f)
 }
 
-fn list_file_report(file: &[u8], out: &mut [u8]) -> BytesAnswer
+fn list_file_report(file: &[u8], out: &mut [u8]) -> Result<Bytes, Refusal>
     ensures { Report file.now out.old result out.new }
 {
     list_file::report(file, out)
@@ -87,39 +96,56 @@ fn list_file_report_whole(file: &[u8], out: &mut [u8; ROOM]) -> Bytes
 }
 
 fn list_file_put_read(
-    said: HeaderRead,
+    said: Result<Header, Refusal>,
     table: &[u64],
     names: &[u8],
     shape: &[u64],
     out: &mut [u8],
-) -> BytesAnswer
+) -> Result<Bytes, Refusal>
     ensures { PutRead said (lent table.now names.now shape.now) out.old result out.new }
 {
     list_file::put_read(said, table, names, shape, out)
 }
 
-fn get_file_find(held: &[u8], longer: bool, length: Bytes, index: &[u64], path: &[u64]) -> Placed
+fn get_file_find(
+    held: &[u8],
+    longer: bool,
+    length: Bytes,
+    index: &[u64],
+    path: &[u64],
+) -> Result<Run, Refusal>
     ensures { Find longer held.now length.0 index.now path.now result }
 {
     get_file::find(held, longer, length, index, path)
 }
 
-fn get_file_numbers(text: &[u8], out: &mut [u64]) -> Listed
+fn get_file_numbers(text: &[u8], out: &mut [u64]) -> Option<usize>
     ensures { NumbersListed text.now out.old result out.new }
 {
     get_file::numbers(text, out)
 }
 
-fn element_text_put(run: &[u8], t: TypeStr, out: &mut [u8]) -> BytesAnswer
+fn element_text_put(run: &[u8], t: TypeStr, out: &mut [u8]) -> Result<Bytes, Refusal>
     ensures { PutElement run.now t out.old result out.new }
 {
     element_text::put(run, t, out)
 }
 
-fn check_record_check(table: &[u64], names: &[u8], shape: &[u64], order: Order) -> Checked
+fn check_record_check(
+    table: &[u64],
+    names: &[u8],
+    shape: &[u64],
+    order: Order,
+) -> Result<Summary, Refusal>
     ensures { Check table.now names.now shape.now order result }
 {
-    check_record::check(table, names, shape, order)
+    let given = GivenRecord {
+        table,
+        names,
+        shape,
+        order,
+    };
+    check_record::check(given)
 }
 
 fn write_write_header(
@@ -128,10 +154,16 @@ fn write_write_header(
     shape: &[u64],
     order: Order,
     out: &mut [u8],
-) -> BytesAnswer
+) -> Result<Bytes, Refusal>
     ensures { WriteHeader table.now names.now shape.now order out.old result out.new }
 {
-    write::write_header(table, names, shape, order, out)
+    let given = GivenRecord {
+        table,
+        names,
+        shape,
+        order,
+    };
+    write::write_header(given, out)
 }
 
 fn list_record_list(
@@ -142,25 +174,31 @@ fn list_record_list(
     shape: &[u64],
     order: Order,
     out: &mut [u8],
-) -> BytesAnswer
+) -> Result<Bytes, Refusal>
     ensures { ListRecord (version_is version) start.0 table.now names.now shape.now order out.old result out.new }
 {
-    list_record::list(version, start, table, names, shape, order, out)
+    let given = GivenRecord {
+        table,
+        names,
+        shape,
+        order,
+    };
+    list_record::list(version, start, given, out)
 }
 
-fn shape_count(shape: &[u64], order: Order) -> ItemsAnswer
+fn shape_count(shape: &[u64], order: Order) -> Result<Items, Refusal>
     ensures { Count shape.now order result }
 {
     shape::count(shape, order)
 }
 
-fn shape_strides(shape: &[u64], order: Order, out: &mut [u64]) -> ItemsAnswer
+fn shape_strides(shape: &[u64], order: Order, out: &mut [u64]) -> Result<Items, Refusal>
     ensures { Strides shape.now order out.old result out.new }
 {
     shape::strides(shape, order, out)
 }
 
-fn place_item_item_number(shape: &[u64], order: Order, index: &[u64]) -> ItemsAnswer
+fn place_item_item_number(shape: &[u64], order: Order, index: &[u64]) -> Result<Items, Refusal>
     ensures { ItemNumber shape.now order index.now result }
 {
     place_item::item_number(shape, order, index)
@@ -175,10 +213,16 @@ fn place_place(
     order: Order,
     index: &[u64],
     path: &[u64],
-) -> Placed
+) -> Result<Run, Refusal>
     ensures { Place file.0 start.0 table.now names.now shape.now order index.now path.now result }
 {
-    place::place(file, start, table, names, shape, order, index, path)
+    let given = GivenRecord {
+        table,
+        names,
+        shape,
+        order,
+    };
+    place::place(file, start, given, index, path)
 }
 
 fn element_read_bytes(
@@ -191,10 +235,16 @@ fn element_read_bytes(
     index: &[u64],
     path: &[u64],
     out: &mut [u8],
-) -> BytesAnswer
+) -> Result<Bytes, Refusal>
     ensures { ElementBytes file.now start.0 table.now names.now shape.now order index.now path.now out.old result out.new }
 {
-    element::read_bytes(file, start, table, names, shape, order, index, path, out)
+    let given = GivenRecord {
+        table,
+        names,
+        shape,
+        order,
+    };
+    element::read_bytes(file, start, given, index, path, out)
 }
 
 fn element_read_points(
@@ -207,10 +257,16 @@ fn element_read_points(
     index: &[u64],
     path: &[u64],
     out: &mut [u32],
-) -> PointsAnswer
+) -> Result<Points, Refusal>
     ensures { ElementPoints file.now start.0 table.now names.now shape.now order index.now path.now out.old result out.new }
 {
-    element::read_points(file, start, table, names, shape, order, index, path, out)
+    let given = GivenRecord {
+        table,
+        names,
+        shape,
+        order,
+    };
+    element::read_points(file, start, given, index, path, out)
 }
 
 fn element_read_value(
@@ -222,55 +278,61 @@ fn element_read_value(
     order: Order,
     index: &[u64],
     path: &[u64],
-) -> ValueAnswer
+) -> Result<Value, Refusal>
     ensures { ElementValue file.now start.0 table.now names.now shape.now order index.now path.now result }
 {
-    element::read_value(file, start, table, names, shape, order, index, path)
+    let given = GivenRecord {
+        table,
+        names,
+        shape,
+        order,
+    };
+    element::read_value(file, start, given, index, path)
 }
 
-fn value_read(run: &[u8], t: TypeStr) -> ValueAnswer
+fn value_read(run: &[u8], t: TypeStr) -> Result<Value, Refusal>
     ensures { ReadValue run.now t result }
 {
     value::read(run, t)
 }
 
-fn string_element_read_bytes(run: &[u8], t: TypeStr, out: &mut [u8]) -> BytesAnswer
+fn string_element_read_bytes(run: &[u8], t: TypeStr, out: &mut [u8]) -> Result<Bytes, Refusal>
     ensures { ReadBytes run.now t out.old result out.new }
 {
     string_element::read_bytes(run, t, out)
 }
 
-fn string_element_read_points(run: &[u8], t: TypeStr, out: &mut [u32]) -> PointsAnswer
+fn string_element_read_points(run: &[u8], t: TypeStr, out: &mut [u32]) -> Result<Points, Refusal>
     ensures { ReadPoints run.now t out.old result out.new }
 {
     string_element::read_points(run, t, out)
 }
 
-fn string_element_write_bytes(t: TypeStr, value: &[u8], out: &mut [u8]) -> BytesAnswer
+fn string_element_write_bytes(t: TypeStr, value: &[u8], out: &mut [u8]) -> Result<Bytes, Refusal>
     ensures { WriteBytes t value.now out.old result out.new }
 {
     string_element::write_bytes(t, value, out)
 }
 
-fn string_element_write_points(t: TypeStr, value: &[u32], out: &mut [u8]) -> BytesAnswer
+fn string_element_write_points(t: TypeStr, value: &[u32], out: &mut [u8]) -> Result<Bytes, Refusal>
     ensures { WritePoints t value.now out.old result out.new }
 {
     string_element::write_points(t, value, out)
 }
 
-fn type_read_parse(text: &[u8]) -> TypeRead
+fn type_read_parse(text: &[u8]) -> Result<TypeStr, Refusal>
     ensures { TypeIsRead text.now result }
 {
     type_read::parse(text)
 }
 
-fn type_print_print(t: TypeStr, out: &mut [u8]) -> BytesAnswer
+fn type_print_print(t: TypeStr, out: &mut [u8]) -> Result<Bytes, Refusal>
     ensures { TypeIsPrinted t out.old result out.new }
 {
     type_print::print(t, out)
 }
 
-fn utf8_scalar_encode(value: u32, room: &mut [u8]) -> BytesAnswer
+fn utf8_scalar_encode(value: u32, room: &mut [u8]) -> Result<Bytes, Refusal>
     ensures { Encode value room.old result room.new }
 {
     utf8_scalar::encode(value, room)

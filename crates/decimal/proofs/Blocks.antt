@@ -1,10 +1,11 @@
 -- Digits in blocks. A text with k digits at its front begins with a block of k digits, and the digits after it are the others; a number with the digits of a block
 -- appended one after the other is the number shifted plus the block's. So `read_on` is the same before a digit or a block and after it.
-use Prim.Native.Nat.{ℕ, zero, suc, ◌+◌, ◌*◌, ◌-◌, ◌/◌, ◌^◌, ◌<◌, ◌≤◌}
-use native.Mathlib.Nat.{pow-suc, mul_assoc, mul-add, mul_comm, mul-le-mul_left, suc-mul, add_assoc, zero-add}
+use Rattle.std.specs.Prelude.{None, Some, Option}
+use Prim.Native.Nat.{ℕ, zero, suc, ◌+◌, ◌*◌, ◌-◌, ◌^◌, ◌<◌, ◌≤◌}
+use native.Mathlib.Nat.{pow-suc, mul_assoc, mul-add, mul_comm, add_assoc, zero-add}
 use native.Mathlib.Numerals.{add-one}
 use native.Mathlib.Omega.{arith}
-use mathlib.Core.Path.{◌≡◌, refl, sym, ap, ◌∙◌, subst}
+use mathlib.Core.Path.{◌≡◌, refl, sym, ap, ◌∙◌}
 use mathlib.Core.List.{List, [], ◌∷◌, ◌++◌}
 use mathlib.Core.Bool.{Bool, true, false, ◌&&◌, and_assoc, and-true}
 use lib.Dec.{leb}
@@ -12,15 +13,12 @@ use lib.ListN.{length, get_or, take, drop, length-append, length-drop, drop_of_l
 use lib.Seq.{drop-cons, drop-drop, length-take-le}
 use borrow.Author.Tests.{leb-true, leb-false, le-leb, lt-leb}
 use Rattle.counts.specs.Number.{number}
-use Rattle.counts.specs.declared.Number.{Number}
-use Rattle.counts.specs.declared.Number.TheVariants.{Is, Over}
-use Rattle.counts.proofs.Alike.{and_left, and_right}
-use Rattle.counts.proofs.Fits.{number_is, product_fits, product_over}
+use Rattle.counts.proofs.Fits.{number_is}
 use Rattle.decimal.specs.Decimal.{is_digit, digits_of, decimal, decimal_from}
 use Rattle.decimal.specs.Read.{digits_read, with_digit}
 use Rattle.decimal.specs.Blocks.{all_digits, with_block, appended, read_on}
 use Rattle.decimal.specs.declared.Digits.{Digits}
-use Rattle.decimal.proofs.Runs.{digit_high, digits_more, digits_inside, with_digit_number}
+use Rattle.decimal.proofs.Runs.{digits_more, digits_inside, with_digit_number}
 
 -- ---- whether each byte is a digit
 -- the loop over a block: the bytes before i are digits where p says so
@@ -63,12 +61,12 @@ front_split (suc k) (b ∷ l) le = go (is_digit b) refl (front_split k l)
     go false e ih = absurd (omega (arith, le, ap (λ (t : Bool). length {A = ℕ} (elim t [ true ↦ b ∷ digits_of l | false ↦ [] ])) e))
 
 -- ---- numbers with digits appended
-append_more : (u w : List ℕ) (x : Number) → appended x (u ++ w) ≡ appended (appended x u) w
+append_more : (u w : List ℕ) (x : Option ℕ) → appended x (u ++ w) ≡ appended (appended x u) w
 unfolding appended
 append_more [] w x = refl
 append_more (d ∷ u) w x = append_more u w (with_digit x (d - 48))
 
-append_over : (ds : List ℕ) → appended Over ds ≡ Over
+append_over : (ds : List ℕ) → appended None ds ≡ None
 unfolding appended with_digit
 append_over [] = refl
 append_over (d ∷ ds) = append_over ds
@@ -76,7 +74,7 @@ append_over (d ∷ ds) = append_over ds
 append_number : (ds : List ℕ) (n : ℕ) → appended (number n) ds ≡ number (decimal_from n ds)
 unfolding appended decimal_from
 append_number [] n = refl
-append_number (d ∷ ds) n = ap (λ (x : Number). appended x ds) (with_digit_number n (d - 48)) ∙ append_number ds (10 * n + (d - 48))
+append_number (d ∷ ds) n = ap (λ (x : Option ℕ). appended x ds) (with_digit_number n (d - 48)) ∙ append_number ds (10 * n + (d - 48))
 
 -- digits after n write n shifted plus what they write alone
 decimal_shift : (w : List ℕ) (n : ℕ) → decimal_from n w ≡ 10 ^ length w * n + decimal w
@@ -93,50 +91,35 @@ decimal_shift (d ∷ w) n =
         ∙ add_assoc (p * 10 * n) (p * e) r
         ∙ sym (ap (λ (z : ℕ). p * 10 * n + (p * z + r)) (zero-add e))
 
--- digits write a number below 10 to the power of how many they are
-decimal_below : (w : List ℕ) → all_digits w ≡ true → decimal w < 10 ^ length w
-unfolding all_digits decimal_from
-decimal_below [] h = omega arith
-decimal_below (d ∷ w) h =
-    let e : d - 48 ≤ 9 = omega (arith, digit_high d (and_left (is_digit d) (all_digits w) h)) in
-    let ih = decimal_below w (and_right (is_digit d) (all_digits w) h) in
-    rw (decimal_shift w (10 * 0 + (d - 48)), pow-suc 10 (length w)) (under (d - 48) (10 ^ length w) (decimal w) e ih)
-  where
-    under : (e p r : ℕ) → e ≤ 9 → r < p → p * (10 * 0 + e) + r < p * 10
-    under e p r h k =
-        let m : p * e ≤ p * 9 = mul-le-mul_left p h in
-        let z : p * (10 * 0 + e) ≡ p * e = ap (λ (y : ℕ). p * y) (zero-add e) in
-        omega (arith, m, z, k)
-
-append_block : (x : Number) (d : ℕ) (ds : List ℕ) → appended x (d ∷ ds) ≡ with_block x (10 ^ length (d ∷ ds)) (decimal (d ∷ ds))
+append_block : (x : Option ℕ) (d : ℕ) (ds : List ℕ) → appended x (d ∷ ds) ≡ with_block x (10 ^ length (d ∷ ds)) (decimal (d ∷ ds))
 unfolding appended with_digit with_block decimal_from
-append_block Over d ds = append_over ds
-append_block (Is n) d ds = append_number ds (10 * n + (d - 48)) ∙ ap number (decimal_shift (d ∷ ds) n)
+append_block None d ds = append_over ds
+append_block (Some n) d ds = append_number ds (10 * n + (d - 48)) ∙ ap number (decimal_shift (d ∷ ds) n)
 
 -- ---- reading on
-digits_equal : (c c' : ℕ) (n n' : Number) → c ≡ c' → n ≡ n' → ◌≡◌ {A = Digits} (record { count = c; number = n }) (record { count = c'; number = n' })
+digits_equal : (c c' : ℕ) (n n' : Option ℕ) → c ≡ c' → n ≡ n' → ◌≡◌ {A = Digits} (record { count = c; number = n }) (record { count = c'; number = n' })
 digits_equal c c' n n' p q = cc
 
-pub read_on_start : (text : List ℕ) → digits_read text ≡ read_on text 0 (Is 0)
+pub read_on_start : (text : List ℕ) → digits_read text ≡ read_on text 0 (Some 0)
 unfolding digits_read read_on
 read_on_start text =
-    digits_equal _ _ _ _ (omega arith) (sym (append_number (digits_of text) 0) ∙ ap (λ (x : Number). appended x (digits_of text)) (number_is 0 (omega arith)))
+    digits_equal _ _ _ _ (omega arith) (sym (append_number (digits_of text) 0) ∙ ap (λ (x : Option ℕ). appended x (digits_of text)) (number_is 0 (omega arith)))
 
-module _ (text : List ℕ) (from : ℕ) (x : Number) where
+module _ (text : List ℕ) (from : ℕ) (x : Option ℕ) where
   pub read_on_end : digits_of (drop from text) ≡ [] → record { count = from; number = x } ≡ read_on text from x
   unfolding read_on appended
   read_on_end h = digits_equal _ _ _ _ (omega (arith, ap length h)) (sym (ap (λ (l : List ℕ). appended x l) h))
 
   -- after some of the digits
-  read_on_more : (u : List ℕ) (to : ℕ) (y : Number) → digits_of (drop from text) ≡ u ++ digits_of (drop to text) → to ≡ from + length u → y ≡ appended x u
+  read_on_more : (u : List ℕ) (to : ℕ) (y : Option ℕ) → digits_of (drop from text) ≡ u ++ digits_of (drop to text) → to ≡ from + length u → y ≡ appended x u
       → read_on text from x ≡ read_on text to y
   unfolding read_on
   read_on_more u to y h t e =
       digits_equal _ _ _ _
       (omega (arith, ap length h, t, length-append u (digits_of (drop to text))))
-      (ap (λ (l : List ℕ). appended x l) h ∙ append_more u (digits_of (drop to text)) x ∙ ap (λ (z : Number). appended z (digits_of (drop to text))) (sym e))
+      (ap (λ (l : List ℕ). appended x l) h ∙ append_more u (digits_of (drop to text)) x ∙ ap (λ (z : Option ℕ). appended z (digits_of (drop to text))) (sym e))
 
-  pub read_on_digit : (y : Number) → from < length text → is_digit (get_or text from 0) ≡ true → y ≡ with_digit x (get_or text from 0 - 48) → read_on text from x ≡ read_on text (from + 1) y
+  pub read_on_digit : (y : Option ℕ) → from < length text → is_digit (get_or text from 0) ≡ true → y ≡ with_digit x (get_or text from 0 - 48) → read_on text from x ≡ read_on text (from + 1) y
   unfolding appended
   read_on_digit y lt h e = read_on_more (get_or text from 0 ∷ []) (from + 1) y (rw (add-one from) (digits_more text from lt h)) (omega arith) e
 
@@ -151,10 +134,7 @@ module _ (text : List ℕ) (from : ℕ) (x : Number) where
     pub block_long : length (take 8 (drop from text)) ≡ 8
     block_long = length-take-le 8 (drop from text) (omega (arith, block_inside, length-drop from text))
 
-    pub block_below : decimal (take 8 (drop from text)) < 100000000
-    block_below = subst (λ (k : ℕ). decimal (take 8 (drop from text)) < 10 ^ k) block_long (decimal_below (take 8 (drop from text)) block_digits)
-
-    pub read_on_block : (y : Number) → y ≡ with_block x 100000000 (decimal (take 8 (drop from text))) → read_on text from x ≡ read_on text (from + 8) y
+    pub read_on_block : (y : Option ℕ) → y ≡ with_block x 100000000 (decimal (take 8 (drop from text))) → read_on text from x ≡ read_on text (from + 8) y
     read_on_block y e =
         read_on_more (take 8 (drop from text)) (from + 8) y
         (front_split 8 (drop from text) h ∙ ap (λ (l : List ℕ). take 8 (drop from text) ++ digits_of l) (drop-drop 8 from text))
@@ -166,19 +146,12 @@ module _ (text : List ℕ) (from : ℕ) (x : Number) where
         whole (d ∷ ds) l = append_block x d ds ∙ ap (λ (k : ℕ). with_block x (10 ^ k) (decimal (d ∷ ds))) l
 
 -- one digit is a block that can write ten numbers
-pub digit_block : (x : Number) (d : ℕ) → with_block x 10 d ≡ with_digit x d
+pub digit_block : (x : Option ℕ) (d : ℕ) → with_block x 10 d ≡ with_digit x d
 unfolding with_block with_digit
-digit_block (Is n) d = refl
-digit_block Over d = refl
+digit_block (Some n) d = refl
+digit_block None d = refl
 
 -- ---- a number with a block appended, by what it then is
-pub block_number : (x r : Number) (n m b : ℕ) → x ≡ Is n → r ≡ number (n * m + b) → r ≡ with_block x m b
+pub block_number : (x r : Option ℕ) (n m b : ℕ) → x ≡ Some n → r ≡ number (n * m + b) → r ≡ with_block x m b
 unfolding with_block
-block_number x r n m b e h = h ∙ ap (λ (k : ℕ). number (k + b)) (mul_comm n m) ∙ ap (λ (y : Number). with_block y m b) (sym e)
-
--- a number below the largest divided by m has room for any block of m
-pub block_fits : (n m b : ℕ) → n < 18446744073709551615 / m → b < m → n * m + b < 2 ^ 64
-block_fits n m b h k = omega (arith, product_fits (suc n) m (λ z. omega (arith, k, z)) h, suc-mul n m, k)
-
-pub block_over : (n m b : ℕ) → 18446744073709551615 / m < n → b < m → 2 ^ 64 ≤ n * m + b
-block_over n m b h k = omega (arith, product_over n m (λ z. omega (arith, k, z)) h)
+block_number x r n m b e h = h ∙ ap (λ (k : ℕ). number (k + b)) (mul_comm n m) ∙ ap (λ (y : Option ℕ). with_block y m b) (sym e)

@@ -1,56 +1,16 @@
 -- The number of eight digits by their pairs. The digits are taken as one number of eight bytes, the first digit lowest. Ten times that number plus the number without its first byte
 -- is a number whose bytes are each a digit and the next one, as a number below 100; bytes 0, 2, 4 and 6 have the four pairs.
-use Prim.Native.Nat.{ℕ, suc, ◌+◌, ◌*◌, ◌-◌, ◌/◌, ◌%◌, ◌^◌, ◌<◌, ◌≤◌}
-use native.Mathlib.Nat.{pow-suc, pow-le-pow_right}
+use Prim.Native.Nat.{ℕ, ◌+◌, ◌*◌, ◌-◌, ◌/◌, ◌%◌, ◌≤◌}
 use native.Mathlib.Omega.{arith}
-use mathlib.Core.Path.{◌≡◌, sym, ap, ◌∙◌, subst}
+use mathlib.Core.Path.{◌≡◌, sym, ap, ◌∙◌}
 use mathlib.Core.Bool.{true}
 use mathlib.Core.List.{List, [], ◌∷◌}
-use lib.ListN.{length, get_or, drop, drop_of_length-le}
-use lib.Seq.{drop-cons}
+use lib.ListN.{length}
+use Rattle.std.specs.Int.{w64, from_le_bytes}
 use Rattle.counts.proofs.Alike.{and_left, and_right}
 use Rattle.decimal.specs.Decimal.{is_digit, decimal, decimal_from}
 use Rattle.decimal.specs.Blocks.{all_digits}
 use Rattle.decimal.proofs.Runs.{digit_low, digit_high}
-
--- ---- bytes as one number, the first byte lowest
-unfoldable pub packed : List ℕ → ℕ
-packed [] = 0
-packed (b ∷ s) = b + 256 * packed s
-
-grows : (k n b : ℕ) → n < 256 ^ k → b < 256 → n * 256 + b < 256 ^ suc k
-grows k n b h l = omega (arith, h, l, pow-suc 256 k)
-
--- the number of the bytes from i on, of eight
-pub record Packed (s : List ℕ) (i n : ℕ) : Type 0 where
-  pub inside : i ≤ 8
-  pub is : n ≡ packed (drop i s)
-  pub below : n < 256 ^ (8 - i)
-
-module _ (s : List ℕ) (l : length s ≡ 8) where
-  pub packed_start : (i : ℕ) → length s ≤ i → i ≤ 8 → Packed s i 0
-  unfolding packed
-  packed_start i all most =
-      let none : 8 - i ≡ 0 = omega (arith, l, all) in
-      record { inside = most; is = ap packed (sym (drop_of_length-le s all)); below = subst (λ (k : ℕ). 0 < 256 ^ k) (sym none) (omega arith) }
-
-  -- the byte before them
-  module _ (i n : ℕ) (p : 0 < i) (h : Packed s i n) where
-    pub packed_fits : (b : ℕ) → b < 256 → n * 256 + b < 2 ^ 64
-    packed_fits b lt = omega (arith, grows (8 - i) n b h.below lt, pow-le-pow_right {n = 256} (omega arith) {i = suc (8 - i)} {j = 8} (omega (arith, p)))
-
-    pub packed_more : get_or s (i - 1) 0 < 256 → Packed s (i - 1) (n * 256 + get_or s (i - 1) 0)
-    unfolding packed
-    packed_more lt =
-        let next : suc (i - 1) ≡ i = omega (arith, p) in
-        let many : suc (8 - i) ≡ 8 - (i - 1) = omega (arith, p, h.inside) in
-        let bytes : packed (drop (i - 1) s) ≡ get_or s (i - 1) 0 + 256 * packed (drop i s) =
-        ap packed (drop-cons s (i - 1) 0 (omega (arith, p, l, h.inside))) ∙ ap (λ (j : ℕ). get_or s (i - 1) 0 + 256 * packed (drop j s)) next in
-        record {
-          inside = omega (arith, h.inside);
-          is = omega (arith, bytes, h.is);
-          below = subst (λ (j : ℕ). n * 256 + get_or s (i - 1) 0 < 256 ^ j) many (grows (8 - i) n (get_or s (i - 1) 0) h.below lt);
-        }
 
 -- ---- eight digits by themselves
 module _ (b : ℕ) (s : List ℕ) (p : all_digits (b ∷ s) ≡ true) where
@@ -134,24 +94,22 @@ without_6 y = omega arith
 abbrev pub zeros : ℕ
 zeros = 3472328296227680304
 
-module _ (s : List ℕ) (l : length s ≡ 8) (p : all_digits s ≡ true) (n : ℕ) (k : Packed s 0 n) where
+module _ (s : List ℕ) (l : length s ≡ 8) (p : all_digits s ≡ true) (n : ℕ) (k : n ≡ from_le_bytes w64 s) where
   pub zeros_below : zeros ≤ n
-  unfolding packed
-  zeros_below = let t = eight_digits s l p in omega (arith, k.is, ap packed t.are)
+  zeros_below = let t = eight_digits s l p in omega (arith, k, ap (λ (u : List ℕ). from_le_bytes w64 u) t.are)
 
   -- no digit is above 9
   pub digits_below : n - zeros ≤ 651061555542690057
-  unfolding packed
-  digits_below = let t = eight_digits s l p in omega (arith, t.small, k.is, ap packed t.are)
+  digits_below = let t = eight_digits s l p in omega (arith, t.small, k, ap (λ (u : List ℕ). from_le_bytes w64 u) t.are)
 
   pub by_pairs : (y : ℕ) → y ≡ (n - zeros) * 10 + (n - zeros) / 256
       → y % 256 * 1000000 + y / 65536 % 256 * 10000 + y / 4294967296 % 256 * 100 + y / 281474976710656 % 256 ≡ decimal s
-  unfolding packed decimal_from
+  unfolding decimal_from
   by_pairs y q =
       let t = eight_digits s l p in
       let m = t.small in
       let w = t.b + 256 * (t.c + 256 * (t.d + 256 * (t.e + 256 * (t.f + 256 * (t.g + 256 * t.h))))) in
-      let v : n - zeros ≡ t.a + 256 * w = omega (arith, k.is, ap packed t.are) in
+      let v : n - zeros ≡ t.a + 256 * w = omega (arith, k, ap (λ (u : List ℕ). from_le_bytes w64 u) t.are) in
       let u : (n - zeros) / 256 ≡ w = omega (arith, v, m.0) in
       let y6 = 10 * t.g + t.h + 256 * (10 * t.h + 0) + 65536 * 0 in
       let y4 = 10 * t.e + t.f + 256 * (10 * t.f + t.g) + 65536 * y6 in

@@ -1,6 +1,8 @@
 -- The totals of a dtype are made of those of its parts: of fields one after the other, of a record's own entry and its fields, of a sub-shape and its
 -- type, of a name and a type. So are the verdicts, where a refusal of the first part comes first. By recursion on nothing: each law is one step of the
 -- definitions.
+use Rattle.counts.specs.declared.Bytes.{Bytes}
+use Rattle.std.specs.Prelude.{Option}
 use Prim.Native.Nat.{ℕ, zero, suc, ◌+◌, ◌*◌, ◌^◌, ◌≤◌}
 use native.Mathlib.Omega.{arith}
 use mathlib.Core.Path.{◌≡◌, refl, sym, ap, ◌∙◌}
@@ -12,7 +14,6 @@ use native.Mathlib.Nat.{mul-suc}
 use borrow.Author.Tests.{leb-true}
 use Rattle.counts.specs.Outcome.{Outcome, gives, refused, then, each, unless}
 use Rattle.counts.specs.Counts.{bytes_over, as_bytes, held_bytes}
-use Rattle.counts.specs.declared.ByteCount.{ByteCount}
 use Rattle.counts.proofs.Alike.{false_true}
 use Rattle.counts.proofs.Counted.{bytes_eq, bytes_test}
 use Rattle.literal_grammar.specs.Value.{Value, Values, string, integer, True, False, None, list, tuple, dict, end_of_values, value_then}
@@ -167,7 +168,7 @@ over_levels_lem ns s false h = ap (λ (t : Bool). t || false) (go (over s) refl)
     go false k =
         let lt = over_not s k in
         let e : at_most largest s ≡ s = omega arith in
-        sym (ap (λ (x : ℕ). bytes_over (largest_in (outline_of ns) x)) e ∙ (ap (λ (x : ByteCount). bytes_over x) (largest_is ns s) ∙ bytes_test (after_zero ns * s)))
+        sym (ap (λ (x : ℕ). bytes_over (largest_in (outline_of ns) x)) e ∙ (ap (λ (x : Option Bytes). bytes_over x) (largest_is ns s) ∙ bytes_test (after_zero ns * s)))
 
 cap_right : (m a b : ℕ) → at_most m (a + b) ≡ at_most m (a + at_most m b)
 cap_right m a b = omega arith
@@ -179,7 +180,7 @@ held_levels ns s = go (has_zero ns)
     go : (t : Bool) → as_bytes (at_most largest (cond t 0 (after_zero ns * s))) ≡ cond t (as_bytes 0) (held_bytes (largest_in (outline_of ns) (at_most largest s)))
     go true = refl
     go false =
-        sym (ap (λ (x : ByteCount). held_bytes x) (largest_is ns (at_most largest s)) ∙ (held_bytes_lem (after_zero ns * at_most largest s) ∙ bytes_eq (cap_times (after_zero ns) s)))
+        sym (ap (λ (x : Option Bytes). held_bytes x) (largest_is ns (at_most largest s)) ∙ (held_bytes_lem (after_zero ns * at_most largest s) ∙ bytes_eq (cap_times (after_zero ns) s)))
 
 arrays_totals : (ns : List ℕ) (d : Dtype) → levels d ≡ 0 → totals_of (arrays ns d) ≡ arrayed (outline_of ns) (totals_of d)
 unfolding arrayed outline_of

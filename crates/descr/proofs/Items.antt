@@ -1,5 +1,6 @@
 -- The items of a field on plain values, item by item, whichever row is there: the gap before each says whether it is there, how it ends says whether
 -- the walk goes on, and what is judged of it is what the definition asks.
+use Rattle.refusal.specs.Answers.{answer}
 use Prim.Native.Nat.{ℕ, ◌<◌}
 use mathlib.Core.Path.{◌≡◌, refl, sym, ap, subst, ◌∙◌}
 use mathlib.Core.List.{List, [], ◌∷◌}
@@ -21,7 +22,7 @@ use Rattle.literal.proofs.Rows.{row_shut, row_stray}
 use Rattle.record.specs.Dimensions.{sub_shape}
 use Rattle.shape_verdict.specs.Outline.{outline_of}
 use Rattle.descr_totals.specs.declared.Totals.{Totals}
-use Rattle.descr_totals.specs.Verdict.{verdict, both}
+use Rattle.descr_totals.specs.Verdict.{both}
 use Rattle.descr_field.specs.After.{items_from, second_at}
 use Rattle.descr_field.specs.Parts.{name_verdict, levels_over, last_by, shape_by, after_inner_at}
 use Rattle.descr_field.specs.declared.DescrJudged.{DescrJudged}
@@ -54,14 +55,14 @@ module _ (k : ℕ) (s : List ℕ) (from close : ℕ) (g1 : Gap) (h1 : g1 ≡ gap
   row_first : (ns : List Node) (e : ℕ) → RowOf (value k s) s close ns (gap_at s from close) e → RowOf (value k s) s close ns g1 e
   row_first ns e h = subst (λ (x : Gap). RowOf (value k s) s close ns x e) (sym h1) h
 
-  pub items_empty : (r : DescrJudged) → OneOf (0 ∷ 2 ∷ []) (tag_of the_type g1) → r.ended ≡ ended_at g1 → verdict r.verdict ≡ refused 14 → JudgesInside k s from close r
+  pub items_empty : (r : DescrJudged) → OneOf (0 ∷ 2 ∷ []) (tag_of the_type g1) → r.ended ≡ ended_at g1 → answer r.verdict ≡ refused 14 → JudgesInside k s from close r
   items_empty r o he hv =
       record {
         ends = he ∙ inside_end k s from close g1 h1 o;
         of_row = λ ns e h. hv ∙ (items_none ∙ sym (ap (λ (l : List Node). field_of_items (values_of l)) (row_over k s close ns g1 e o (row_first ns e h))));
       }
 
-  module _ (p1 : ℕ) (i1 : g1 ≡ Item p1) (name : DescrJudged) (hn : (name.ended ≡ pos (value k s p1)) × (verdict name.verdict ≡ name_verdict s p1)) where
+  module _ (p1 : ℕ) (i1 : g1 ≡ Item p1) (name : DescrJudged) (hn : (name.ended ≡ pos (value k s p1)) × (answer name.verdict ≡ name_verdict s p1)) where
     pub items_unread : (r : DescrJudged) → Stops name.ended → r.ended ≡ name.ended → JudgesInside k s from close r
     items_unread r st he =
         record {
@@ -79,7 +80,7 @@ module _ (k : ℕ) (s : List ℕ) (from close : ℕ) (g1 : Gap) (h1 : g1 ≡ gap
           → (n : Node) × (us : List Node) × (ns ≡ n ∷ us) × (value k s p1 ≡ got n q1) × RowOf (value k s) s close us (then_at s q1 close) e
       first ns e h = row_after k s close ns g1 p1 q1 e name.ended i1 e1 hn.0 (row_first ns e h)
 
-      pub items_alone : (r : DescrJudged) → OneOf (0 ∷ 2 ∷ []) (tag_of the_type g2) → r.ended ≡ ended_at g2 → verdict r.verdict ≡ refused 14 → JudgesInside k s from close r
+      pub items_alone : (r : DescrJudged) → OneOf (0 ∷ 2 ∷ []) (tag_of the_type g2) → r.ended ≡ ended_at g2 → answer r.verdict ≡ refused 14 → JudgesInside k s from close r
       items_alone r o he hv =
           record {
             ends = he ∙ (from_end k s close g2 o ∙ sym second_ends);
@@ -102,7 +103,7 @@ module _ (k : ℕ) (s : List ℕ) (from close : ℕ) (g1 : Gap) (h1 : g1 ≡ gap
             }
 
         pub items_whole : (q2 : ℕ) → inner.ended ≡ Value q2 → (g3 : Gap) → g3 ≡ then_at s q2 close → (r : DescrJudged)
-            → (r.ended ≡ pos (items_from k s close g3)) × (verdict r.verdict ≡ after_inner_at k s close (verdict name.verdict) (verdict inner.verdict) g3)
+            → (r.ended ≡ pos (items_from k s close g3)) × (answer r.verdict ≡ after_inner_at k s close (answer name.verdict) (answer inner.verdict) g3)
             → JudgesInside k s from close r
         items_whole q2 e2 g3 h3 r b =
             record {
@@ -110,6 +111,6 @@ module _ (k : ℕ) (s : List ℕ) (from close : ℕ) (g1 : Gap) (h1 : g1 ≡ gap
               of_row = λ ns e h.
                   let w = first ns e h in
                   let v = row_after k s close w.1 g2 p2 q2 e inner.ended i2 e2 hj.ends (second w.1 e w.4) in
-                  let o = b.1 ∙ after_row k s close (verdict name.verdict) (verdict inner.verdict) v.1 g3 e (subst (λ (x : Gap). RowOf (value k s) s close v.1 x e) (sym h3) v.4) in
-                  o ∙ (items_after w.0 v.0 v.1 (verdict name.verdict) (verdict inner.verdict) (hn.1 ∙ name_says s p1 k w.0 q1 w.3) (hj.of_value v.0 q2 v.3) ∙ sym (ap (λ (l : List Node). field_of_items (values_of l)) (w.2 ∙ ap (λ (l : List Node). w.0 ∷ l) v.2)));
+                  let o = b.1 ∙ after_row k s close (answer name.verdict) (answer inner.verdict) v.1 g3 e (subst (λ (x : Gap). RowOf (value k s) s close v.1 x e) (sym h3) v.4) in
+                  o ∙ (items_after w.0 v.0 v.1 (answer name.verdict) (answer inner.verdict) (hn.1 ∙ name_says s p1 k w.0 q1 w.3) (hj.of_value v.0 q2 v.3) ∙ sym (ap (λ (l : List Node). field_of_items (values_of l)) (w.2 ∙ ap (λ (l : List Node). w.0 ∷ l) v.2)));
             }

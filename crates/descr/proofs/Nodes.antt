@@ -1,4 +1,5 @@
 -- What a value is judged as, by the kind of its first byte: a string, a list, a list or tuple, or none of them. By the two views of crate literal.
+use Rattle.refusal.specs.Answers.{answer}
 use Prim.Native.Nat.{ℕ, ◌+◌, ◌-◌, ◌<◌}
 use native.Mathlib.Omega.{arith}
 use mathlib.Core.Path.{◌≡◌, refl, sym, ap, subst, ◌∙◌}
@@ -34,7 +35,7 @@ use Rattle.literal.proofs.View.{view, value_kind, kind_of_node}
 use Rattle.descr_totals.specs.declared.Totals.{Totals}
 use Rattle.descr_totals.specs.Totals.{totals_of, name_totals}
 use Rattle.descr_totals.proofs.Sums.{one_entry}
-use Rattle.descr_totals.specs.Verdict.{verdict, both}
+use Rattle.descr_totals.specs.Verdict.{both}
 use Rattle.descr_field.specs.Begins.{is_string}
 use Rattle.descr_field.proofs.Begins.{string_kind}
 use Rattle.descr_field.specs.Parts.{name_verdict}
@@ -187,11 +188,11 @@ opening_byte b close hc some = go (eqb b 91) (eqb b 40) refl refl (hc ∙ closin
 -- ---- the walk over the value at `at`, by what is there
 module _ (k : ℕ) (s : List ℕ) (at : ℕ) where
   -- a string, scanned once
-  pub type_judged : (r : DescrJudged) → is_string (kind_of (byte_at s at)) ≡ true → r.ended ≡ (spelled (byte_at s at) s (at + 1)).ended → verdict r.verdict ≡ typed_at s at → JudgesDescr k s at descr_by r
+  pub type_judged : (r : DescrJudged) → is_string (kind_of (byte_at s at)) ≡ true → r.ended ≡ (spelled (byte_at s at) s (at + 1)).ended → answer r.verdict ≡ typed_at s at → JudgesDescr k s at descr_by r
   type_judged r t he hv = record { ends = string_ends s at k r.ended t he; of_value = λ n e h. hv ∙ sym (text_says s at k n e h t) }
 
   -- a value of another form
-  module _ (r : DescrJudged) (he : r.ended ≡ pos (value_of k s at)) (hv : verdict r.verdict ≡ refused 14) where
+  module _ (r : DescrJudged) (he : r.ended ≡ pos (value_of k s at)) (hv : answer r.verdict ≡ refused 14) where
     pub descr_no_form : is_string (kind_of (byte_at s at)) ≡ false → (closing_of (kind_of (byte_at s at)) ≡ 93 → ⊥) → JudgesDescr k s at descr_by r
     descr_no_form a b = record { ends = he; of_value = λ n e h. hv ∙ sym (descr_other s at k n e h a b) }
 
@@ -234,7 +235,7 @@ module _ (k : ℕ) (s : List ℕ) (at : ℕ) where
                 j.of_row i.1 e i.3 ∙ sym i.2;
           }
 
-      pub record_judged : close ≡ 93 → (j r : DescrJudged) → JudgesFrom (k - 1) s 93 (gap_at s (at + 1) 93) fields_by j → r.ended ≡ j.ended → verdict r.verdict ≡ both (gives one_entry) (verdict j.verdict) → JudgesDescr k s at descr_by r
+      pub record_judged : close ≡ 93 → (j r : DescrJudged) → JudgesFrom (k - 1) s 93 (gap_at s (at + 1) 93) fields_by j → r.ended ≡ j.ended → answer r.verdict ≡ both (gives one_entry) (answer j.verdict) → JudgesDescr k s at descr_by r
       record_judged h93 j r hj he hv =
           record {
             ends = he ∙ (hj.ends ∙ (ap (λ (y : Got (List Node)). pos y) (list_from (k - 1) s (at + 1) 93) ∙ (sym (ap (λ (c : ℕ). pos (inside (k - 1) s (at + 1) c)) h93) ∙ inside_ends)));

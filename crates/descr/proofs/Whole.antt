@@ -1,4 +1,5 @@
 -- The verdict on a value in a text, and the verdict where there is none.
+use Rattle.refusal.specs.Answers.{answer}
 use Prim.Native.Nat.{ℕ}
 use mathlib.Core.Path.{◌≡◌, refl, sym, ap, subst, ◌∙◌}
 use mathlib.Core.List.{List}
@@ -15,7 +16,6 @@ use Rattle.literal.proofs.Steps.{thing}
 use Rattle.shape_text.specs.Answer.{value_or}
 use Rattle.descr_totals.specs.Totals.{totals_of}
 use Rattle.descr_totals.specs.declared.Totals.{Totals}
-use Rattle.descr_totals.specs.Verdict.{verdict}
 use Rattle.descr_field.specs.declared.DescrJudged.{DescrJudged}
 use Rattle.descr.specs.Judges.{JudgesDescr, JudgesAt}
 
@@ -28,7 +28,7 @@ none_says (fault p) st = refl
 none_says (deep p) st = refl
 
 module _ (k : ℕ) (s : List ℕ) (at : ℕ) where
-  pub judged_none : (j r : DescrJudged) → JudgesDescr k s at totals j → Stops j.ended → r.ended ≡ j.ended → verdict r.verdict ≡ refused 14 → JudgesAt (value k s at) r
+  pub judged_none : (j r : DescrJudged) → JudgesDescr k s at totals j → Stops j.ended → r.ended ≡ j.ended → answer r.verdict ≡ refused 14 → JudgesAt (value k s at) r
   judged_none j r w st he hv = record { ends = he ∙ w.ends; says = hv ∙ none_says (value k s at) (subst (λ (x : Parsed). Stops x) w.ends st) }
 
   pub judged_at : (r : DescrJudged) (e : ℕ) → JudgesDescr k s at totals r → r.ended ≡ parsed.Parsed.Value e → JudgesAt (value k s at) r

@@ -1,5 +1,6 @@
 -- The statements of a walk over a value, and over the items of a bracket: how they end, as crate literal reads them, and the verdict on whichever value or items are there, by
 -- the definitions of crate record.
+use Rattle.refusal.specs.Answers.{answer}
 use Rattle.std.specs.Prelude.{ℕ, ◌+◌, ◌≡◌, List}
 use Rattle.counts.specs.Outcome.{Outcome, then, each}
 use Rattle.literal_grammar.specs.Value.{Value, Values}
@@ -17,24 +18,23 @@ use Rattle.literal_bytes.specs.declared.Gap.{Gap}
 use Rattle.descr_totals.specs.declared.Totals.{Totals}
 use Rattle.shape_text.specs.Answer.{value_or}
 use Rattle.descr_totals.specs.Totals.{totals_of}
-use Rattle.descr_totals.specs.Verdict.{verdict}
 use Rattle.descr_field.specs.After.{items_from}
 use Rattle.descr_field.specs.declared.DescrJudged.{DescrJudged}
 
 -- of what was read, as a descr. Where there is no value the verdict is as for one of another form
 pub record JudgesAt (g : Got Node) (r : DescrJudged) : Type 0 where
   pub ends : r.ended ≡ pos g
-  pub says : verdict r.verdict ≡ then (value_or 14 g) (λ v. each totals_of (descr_of v))
+  pub says : answer r.verdict ≡ then (value_or 14 g) (λ v. each totals_of (descr_of v))
 
 -- of the value at `at`, where k brackets more may open
 pub record JudgesDescr (k : ℕ) (s : List ℕ) (at : ℕ) (f : Value → Outcome Totals) (r : DescrJudged) : Type 0 where
   pub ends : r.ended ≡ pos (value k s at)
-  pub of_value : (n : Node) (e : ℕ) → value k s at ≡ got n e → verdict r.verdict ≡ f (forget n)
+  pub of_value : (n : Node) (e : ℕ) → value k s at ≡ got n e → answer r.verdict ≡ f (forget n)
 
 -- of the items from the gap on
 pub record JudgesFrom (k : ℕ) (s : List ℕ) (close : ℕ) (g : Gap) (f : Values → Outcome Totals) (r : DescrJudged) : Type 0 where
   pub ends : r.ended ≡ pos (items_from k s close g)
-  pub of_row : (ns : List Node) (e : ℕ) → RowOf (value k s) s close ns g e → verdict r.verdict ≡ f (forget_all (nodes ns))
+  pub of_row : (ns : List Node) (e : ℕ) → RowOf (value k s) s close ns g e → answer r.verdict ≡ f (forget_all (nodes ns))
 
 -- the string at `at`, as a type string
 abbrev pub typed_at : List ℕ → ℕ → Outcome Totals

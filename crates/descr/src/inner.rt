@@ -1,6 +1,7 @@
 // The walk over a descr, which reads the text and judges it at once. `judge`, `fields`, `field` and `inner_at` call each other in a cycle; each bracket that opens leaves one
 // fewer. A refusal ends no walk, so that a wrong item count can come before what is refused inside; only a fault of the literal does. The verdict on a text with such a fault
 // means nothing: the caller looks at the end first.
+ghost use Rattle.refusal.specs.Answers.{answer};
 ghost use Rattle.std.specs.Prelude.{◌≡◌, ◌+◌, ◌<◌, length};
 ghost use Rattle.counts.specs.Outcome.{each};
 ghost use Rattle.record.specs.Descr.{descr_of, fields_of, field_of};
@@ -8,14 +9,13 @@ ghost use Rattle.literal_escapes.specs.Strings.{spelled};
 ghost use Rattle.literal_bytes.specs.Text.{byte_at};
 ghost use Rattle.literal_bytes.specs.Gaps.{gap_at};
 ghost use Rattle.descr_totals.specs.Totals.{totals_of, totals_in, field_totals};
-ghost use Rattle.descr_totals.specs.Verdict.{verdict};
 ghost use Rattle.descr.specs.Judges.{JudgesDescr, JudgesFrom, typed_at};
 
 use counts::Bytes;
 use descr_field::{
     DescrJudged, closing_at, name_at, second_at, string_at, sub_shape, typed_at, wrong_form,
 };
-use descr_totals::{DescrVerdict, Totals, join, typed};
+use descr_totals::{Totals, join, typed};
 use literal::value;
 use literal_bytes::{Gap, Parsed, ended, gap_at, then_at};
 
@@ -33,7 +33,7 @@ pub(crate) fn judge(text: &[u8], at: usize, room: usize) -> DescrJudged
     if room == 0 {
         return wrong_form(Parsed::Deep(at));
     }
-    let one = DescrVerdict::Fits(Totals {
+    let one = Ok(Totals {
         entries: 1,
         names: 0,
         object: false,
@@ -56,7 +56,7 @@ fn fields(text: &[u8], from: usize, room: usize) -> DescrJudged
     ensures { JudgesFrom room text.now 93 (gap_at text.now from 93) (λ vs. each totals_in (fields_of vs)) result }
 {
     let mut g = gap_at(text, from, b']');
-    let mut verdict = DescrVerdict::Fits(Totals {
+    let mut verdict = Ok(Totals {
         entries: 0,
         names: 0,
         object: false,
@@ -134,7 +134,7 @@ fn inner_at(text: &[u8], at: usize, room: usize) -> DescrJudged
 fn plain_at(text: &[u8], at: usize) -> DescrJudged
     requires { at < length text.now }
     ensures ended_value { result.ended ≡ (spelled (byte_at text.now at) text.now (at + 1)).ended }
-    ensures verdict_value { verdict result.verdict ≡ typed_at text.now at }
+    ensures verdict_value { answer result.verdict ≡ typed_at text.now at }
 {
     let t = typed_at(text, at + 1, text[at]);
     let end = t.ended;

@@ -8,7 +8,6 @@ ghost use Rattle.literal.specs.Literal.{value as value_of};
 ghost use Rattle.descr.specs.Judges.{JudgesAt};
 
 use descr_field::DescrJudged;
-use descr_totals::DescrVerdict;
 use literal_bytes::Parsed;
 use refusal::Refusal;
 
@@ -21,7 +20,7 @@ pub fn judge(text: &[u8], at: usize, room: usize) -> DescrJudged
     let Parsed::Value(_) = ended else {
         return DescrJudged {
             ended: ended,
-            verdict: DescrVerdict::Refused(Refusal::Form),
+            verdict: Err(Refusal::Form),
         };
     };
     r

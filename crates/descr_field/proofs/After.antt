@@ -1,5 +1,6 @@
 -- What is after a field's inner descr, on plain values: the gap says whether there is a sub-shape, how that ends says whether the walk goes on, and the
 -- gap after it whether there is more.
+use Rattle.refusal.specs.Answers.{answer}
 use Prim.Native.Nat.{ℕ, ◌<◌}
 use mathlib.Core.Path.{◌≡◌, refl, sym, ap, subst, ◌∙◌}
 use mathlib.Core.List.{List, [], ◌∷◌}
@@ -21,7 +22,6 @@ use Rattle.literal_bytes.proofs.Ends.{Stops}
 use Rattle.literal.proofs.Steps.{thing}
 use Rattle.shape_verdict.specs.declared.Outline.{Outline}
 use Rattle.shape_verdict.specs.Outline.{outline_of}
-use Rattle.shape_verdict.specs.Answer.{outlined}
 use Rattle.shape_text.specs.declared.ShapeJudged as dims
 use Rattle.shape_text.specs.Answer as answers
 use Rattle.descr_totals.specs.declared.Totals.{Totals}
@@ -31,7 +31,7 @@ use Rattle.descr_field.proofs.Reach.{from_end, from_stop, from_more}
 use Rattle.descr_field.specs.Parts.{levels_over, last_by, shape_by, after_inner_at}
 
 -- a sub-shape, as crate shape_text judges it
-sub_judged : (g : Got Node) (n : Node) (q : ℕ) (r : dims.ShapeJudged) → answers.JudgesShape g r → g ≡ got n q → outlined r.verdict ≡ each outline_of (sub_shape (forget n))
+sub_judged : (g : Got Node) (n : Node) (q : ℕ) (r : dims.ShapeJudged) → answers.JudgesShape g r → g ≡ got n q → answer r.verdict ≡ each outline_of (sub_shape (forget n))
 sub_judged g n q r j h = j.says ∙ ap (λ (x : Got Node). each outline_of (answers.dimensions_at x)) h
 
 last_none : (o : Outcome Totals) (g : Gap) → OneOf (0 ∷ 2 ∷ []) (tag_of the_type g) → o ≡ last_by o g
@@ -64,7 +64,7 @@ module _ (k : ℕ) (s : List ℕ) (close : ℕ) (x y : Outcome Totals) where
       read = thing (value k s p) q (sym hq ∙ j.ends)
 
       -- with the sub-shape that is there
-      shape_there : last_by (both x (levels_over y (outlined shape.verdict))) next ≡ after_inner_at k s close x y g
+      shape_there : last_by (both x (levels_over y (answer shape.verdict))) next ≡ after_inner_at k s close x y g
       shape_there =
           let d = sub_judged (value k s p) read.0 q shape j read.1 in
           ap (λ (u : Outcome Outline). last_by (both x (levels_over y u)) next) d ∙ (ap (last_by (both x (levels_over y (each outline_of (sub_shape (forget read.0)))))) hn ∙ (sym (ap (shape_by x y (λ e. then_at s e close)) read.1) ∙ sym (ap (after_inner_at k s close x y) hg)))
@@ -72,14 +72,14 @@ module _ (k : ℕ) (s : List ℕ) (close : ℕ) (x y : Outcome Totals) where
       ends_next : pos (items_from k s close next) ≡ pos (items_from k s close g)
       ends_next = sym (from_more k s close small g next p q shape.ended hg hq j.ends hn)
 
-      pub says_shape : OneOf (0 ∷ 2 ∷ []) (tag_of the_type next) → both x (levels_over y (outlined shape.verdict)) ≡ after_inner_at k s close x y g
-      says_shape o = last_none (both x (levels_over y (outlined shape.verdict))) next o ∙ shape_there
+      pub says_shape : OneOf (0 ∷ 2 ∷ []) (tag_of the_type next) → both x (levels_over y (answer shape.verdict)) ≡ after_inner_at k s close x y g
+      says_shape o = last_none (both x (levels_over y (answer shape.verdict))) next o ∙ shape_there
 
       pub ends_shape : OneOf (0 ∷ 2 ∷ []) (tag_of the_type next) → ended_at next ≡ pos (items_from k s close g)
       ends_shape o = from_end k s close next o ∙ ends_next
 
       pub says_more : (more : ℕ) → next ≡ Item more → refused 14 ≡ after_inner_at k s close x y g
-      says_more more hm = sym (ap (last_by (both x (levels_over y (outlined shape.verdict)))) hm) ∙ shape_there
+      says_more more hm = sym (ap (last_by (both x (levels_over y (answer shape.verdict)))) hm) ∙ shape_there
 
       pub ends_more : (more : ℕ) → next ≡ Item more → pos (items_from k s close (Item more)) ≡ pos (items_from k s close g)
       ends_more more hm = ap (λ (z : Gap). pos (items_from k s close z)) (sym hm) ∙ ends_next

@@ -3,8 +3,8 @@
 // descr, and by header, which stores one.
 #![tactic(auto)]
 
-ghost use Rattle.std.specs.Prelude.{◌≡◌};
-ghost use Rattle.type_str.specs.Answer.{answer};
+ghost use Rattle.refusal.specs.Answers.{answer};
+ghost use Rattle.std.specs.Prelude.{◌≡◌, Err};
 ghost use Rattle.type_str.specs.TypeString.{type_string};
 ghost use Rattle.literal_bytes.specs.Text.{byte_at, kind_of};
 ghost use Rattle.literal_escapes.specs.Strings.{spelled};
@@ -13,17 +13,16 @@ ghost use Rattle.descr_field.specs.Begins.{is_string, gap_place};
 ghost use Rattle.literal_bytes.specs.Got.{pos};
 ghost use Rattle.descr_field.specs.After.{items_from, second_at};
 ghost use Rattle.literal.specs.Literal.{value as value_of};
-ghost use Rattle.descr_totals.specs.Verdict.{verdict};
 ghost use Rattle.descr_field.specs.Parts.{name_verdict, after_inner_at};
 
-use descr_totals::{DescrVerdict, join, named, shaped};
+use descr_totals::{Totals, join, named, shaped};
 use literal::value;
 use literal_bytes::{Gap, Parsed, ended, gap_at, kind_at, need, quote_at, then_at};
 use literal_tokens::scan_at;
 use refusal::Refusal;
 use shape_text::closing;
 use type_read::parse;
-use type_str::TypeRead;
+use type_str::TypeStr;
 
 // Whether a string begins at `at`.
 pub fn string_at(text: &[u8], at: usize) -> bool
@@ -54,7 +53,7 @@ pub fn place_of(g: Gap) -> usize
 #[derive(Clone, Copy)]
 pub struct Typed {
     pub ended: Parsed,
-    pub read: TypeRead,
+    pub read: Result<TypeStr, Refusal>,
 }
 
 // The string whose first piece is at `from`, read once. Without an escape, the part of the text up to its end is read as a type string. Any escape in it is a syntax fault.
@@ -67,7 +66,7 @@ pub fn typed_at(text: &[u8], from: usize, quote: u8) -> Typed
     if s.escape | (text.len() < from) {
         return Typed {
             ended: ended,
-            read: TypeRead::Refused(Refusal::Syntax),
+            read: Err(Refusal::Syntax),
         };
     }
     let to = from + s.len;
@@ -119,31 +118,31 @@ pub fn rest(text: &[u8], from: usize, close: u8, room: usize) -> Parsed
 #[derive(Clone, Copy)]
 pub struct DescrJudged {
     pub ended: Parsed,
-    pub verdict: DescrVerdict,
+    pub verdict: Result<Totals, Refusal>,
 }
 
 // The verdict 14, on a value of another form or where there is no value.
 pub fn wrong_form(end: Parsed) -> DescrJudged
     ensures ended_value { result.ended ≡ end }
-    ensures verdict_value { result.verdict ≡ DescrVerdict.Refused Refusal.Form }
+    ensures verdict_value { result.verdict ≡ Err Refusal.Form }
 {
     DescrJudged {
         ended: end,
-        verdict: DescrVerdict::Refused(Refusal::Form),
+        verdict: Err(Refusal::Form),
     }
 }
 
 // The verdict on the name of a field at `at`: a string, read once, its bytes counted decoded.
 pub fn name_at(text: &[u8], at: usize, room: usize) -> DescrJudged
     ensures ended_value { result.ended ≡ pos (value_of room text.now at) }
-    ensures verdict_value { verdict result.verdict ≡ name_verdict text.now at }
+    ensures verdict_value { answer result.verdict ≡ name_verdict text.now at }
 {
     if string_at(text, at) {
         let s = scan_at(text, at + 1, text[at]);
         let end = s.ended;
         return DescrJudged {
             ended: end,
-            verdict: DescrVerdict::Fits(named(s.len)),
+            verdict: Ok(named(s.len)),
         };
     }
     wrong_form(value(text, at, room))
@@ -155,11 +154,11 @@ pub fn sub_shape(
     g: Gap,
     close: u8,
     room: usize,
-    name: DescrVerdict,
-    of: DescrVerdict,
+    name: Result<Totals, Refusal>,
+    of: Result<Totals, Refusal>,
 ) -> DescrJudged
     ensures ended_value { result.ended ≡ pos (items_from room text.now close g) }
-    ensures verdict_value { verdict result.verdict ≡ after_inner_at room text.now close (verdict name) (verdict of) g }
+    ensures verdict_value { answer result.verdict ≡ after_inner_at room text.now close (answer name) (answer of) g }
 {
     let Gap::Item(p) = g else {
         return DescrJudged {

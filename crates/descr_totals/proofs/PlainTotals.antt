@@ -1,11 +1,11 @@
 -- The totals of a plain type, by the bytes that crate type_str counts.
+use Rattle.std.specs.Prelude.{Option}
 use Prim.Native.Nat.{ℕ, ◌^◌}
 use native.Mathlib.Omega.{arith}
 use mathlib.Core.Path.{◌≡◌, refl, sym, ap, ◌∙◌}
 use mathlib.Core.Bool.{Bool, true, false, cond}
 use borrow.Author.Tests.{leb-true}
 use Rattle.counts.specs.Number.{number}
-use Rattle.counts.specs.declared.Number.{Number}
 use Rattle.counts.proofs.Fits.{number_is, number_over}
 use Rattle.counts.proofs.Counted.{bytes_eq}
 use Rattle.counts.specs.Counts.{bytes, as_bytes}
@@ -32,10 +32,10 @@ plain_sized n = go (over n) refl
     go : (t : Bool) → over n ≡ t → plain_totals (counted_bytes (bytes (number n))) ≡ record { entries = 1; names = 0; object = false; over_levels = false; over = over n; size = as_bytes (at_most largest n) }
     go true h =
         let le = leb-true (2 ^ 64) n h in
-        ap (λ (x : Number). plain_totals (counted_bytes (bytes x))) (number_over n le) ∙ totals_eq refl refl refl refl (sym h) (bytes_eq (omega arith))
+        ap (λ (x : Option ℕ). plain_totals (counted_bytes (bytes x))) (number_over n le) ∙ totals_eq refl refl refl refl (sym h) (bytes_eq (omega arith))
     go false h =
         let lt = over_not n h in
-        ap (λ (x : Number). plain_totals (counted_bytes (bytes x))) (number_is n lt) ∙ totals_eq refl refl refl refl (sym h) (bytes_eq (omega arith))
+        ap (λ (x : Option ℕ). plain_totals (counted_bytes (bytes x))) (number_is n lt) ∙ totals_eq refl refl refl refl (sym h) (bytes_eq (omega arith))
 
 module _ (t : TypeStr) where
   object_bytes : is_object t.letter ≡ true → (num_bytes t ≡ Unsized) × (plain_bytes t ≡ 0)

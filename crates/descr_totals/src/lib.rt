@@ -2,20 +2,19 @@
 // refusals 13, 20 and 21 need of it, or the first of 11, 12 and 14 to 19 that applies. Called by descr_field and descr, which walk over a header's text.
 #![tactic(auto)]
 
+ghost use Rattle.refusal.specs.Answers.{answer};
 ghost use Rattle.std.specs.Prelude.{◌≡◌, cond, ◌+◌};
 ghost use Rattle.counts.specs.Outcome.{each, then};
 ghost use Rattle.counts.specs.Counts.{as_bytes};
 ghost use Rattle.dtype.specs.Dtype.{plain as plain_type};
-ghost use Rattle.type_str.specs.Answer.{answer};
-ghost use Rattle.shape_verdict.specs.Answer.{outlined};
 ghost use Rattle.descr_totals.specs.Totals.{at_most, together, arrayed as arrayed_by, totals_of, name_totals};
-ghost use Rattle.descr_totals.specs.Verdict.{verdict, both};
+ghost use Rattle.descr_totals.specs.Verdict.{both};
 
-use counts::{Bytes, Number, sum};
+use counts::{Bytes, held};
 use dtype::MOST_DIMENSIONS;
 use refusal::Refusal;
-use shape_verdict::{Outline, ShapeVerdict, largest};
-use type_str::{TypeBytes, TypeRead, TypeStr};
+use shape_verdict::{Outline, largest};
+use type_str::{TypeBytes, TypeStr};
 
 // Entries and name bytes are counted up to the first number that is over their limit.
 const ENTRIES_OVER: u64 = dtype::MOST_ENTRIES as u64 + 1;
@@ -39,37 +38,25 @@ pub struct Totals {
     pub size: Bytes,
 }
 
-// The totals; or 11, 12, 14 to 19.
-#[derive(Clone, Copy)]
-pub enum DescrVerdict {
-    Fits(Totals),
-    Refused(Refusal),
-}
-
 // The sum, capped at `most`.
 fn add(a: u64, b: u64, most: u64) -> u64
     ensures { result ≡ at_most most (a + b) }
 {
-    let n = sum(a, b);
-    match n {
-        Number::Is(n) => { if n <= most { n } else { most } }
-        Number::Over => most,
-    }
+    a.saturating_add(b).min(most)
 }
 
 // The totals of two parts together.
 fn plus(a: Totals, b: Totals) -> Totals
     ensures { result ≡ together a b }
 {
-    let own = a.size;
-    let size = own.plus(b.size);
+    let size = a.size.plus(b.size);
     Totals {
         entries: add(a.entries, b.entries, ENTRIES_OVER),
         names: add(a.names, b.names, NAMES_OVER),
         object: a.object | b.object,
         over_levels: a.over_levels | b.over_levels,
-        over: a.over | b.over | size.is_over(),
-        size: size.held(),
+        over: a.over | b.over | size.is_none(),
+        size: held(size),
     }
 }
 
@@ -90,78 +77,63 @@ fn arrays(shape: Outline, of: Totals) -> Totals
         names: of.names,
         object: of.object,
         over_levels: (MOST_DIMENSIONS < shape.rank) | of.over_levels,
-        over: size.is_over() | of.over,
-        size: unless_empty(shape.empty, size.held()),
+        over: size.is_none() | of.over,
+        size: unless_empty(shape.empty, held(size)),
     }
 }
 
 // The verdict on two parts, one after the other: the first refusal stays.
-pub fn join(a: DescrVerdict, b: DescrVerdict) -> DescrVerdict
-    ensures { verdict result ≡ both (verdict a) (verdict b) }
+pub fn join(a: Result<Totals, Refusal>, b: Result<Totals, Refusal>) -> Result<Totals, Refusal>
+    ensures { answer result ≡ both (answer a) (answer b) }
 {
-    let DescrVerdict::Fits(t) = a else {
-        return a;
-    };
-    let DescrVerdict::Fits(u) = b else {
-        return b;
-    };
-    DescrVerdict::Fits(plus(t, u))
+    let t = a?;
+    let u = b?;
+    Ok(plus(t, u))
 }
 
 // The verdict on a type under a sub-shape: the type's refusal comes first.
-pub fn shaped(of: DescrVerdict, shape: ShapeVerdict) -> DescrVerdict
-    ensures { verdict result ≡ then (verdict of) (λ t. each (λ o. arrayed_by o t) (outlined shape)) }
+pub fn shaped(
+    of: Result<Totals, Refusal>,
+    shape: Result<Outline, Refusal>,
+) -> Result<Totals, Refusal>
+    ensures { answer result ≡ then (answer of) (λ t. each (λ o. arrayed_by o t) (answer shape)) }
 {
-    let DescrVerdict::Fits(t) = of else {
-        return of;
-    };
-    match shape {
-        ShapeVerdict::Good(o) => DescrVerdict::Fits(arrays(o, t)),
-        ShapeVerdict::Refused(why) => DescrVerdict::Refused(why),
-    }
+    let t = of?;
+    let o = shape?;
+    Ok(arrays(o, t))
 }
 
 // The totals of a plain type.
 fn plain(t: TypeStr) -> Totals
     ensures { result ≡ totals_of (plain_type t) }
 {
-    let bytes = t.num_bytes();
-    match bytes {
-        TypeBytes::Sized(n) => Totals {
-            entries: 1,
-            names: 0,
-            object: false,
-            over_levels: false,
-            over: false,
-            size: n,
-        },
+    let none = Totals {
+        entries: 1,
+        names: 0,
+        object: false,
+        over_levels: false,
+        over: false,
+        size: Bytes(0),
+    };
+    match t.num_bytes() {
+        TypeBytes::Sized(n) => Totals { size: n, ..none },
         TypeBytes::Unsized => Totals {
-            entries: 1,
-            names: 0,
             object: true,
-            over_levels: false,
-            over: false,
-            size: Bytes(0),
+            ..none
         },
         TypeBytes::TooLarge => Totals {
-            entries: 1,
-            names: 0,
-            object: false,
-            over_levels: false,
             over: true,
             size: Bytes(u64::MAX),
+            ..none
         },
     }
 }
 
 // The verdict on a type string that was read.
-pub fn typed(t: TypeRead) -> DescrVerdict
-    ensures { verdict result ≡ each (λ t. totals_of (plain_type t)) (answer t) }
+pub fn typed(t: Result<TypeStr, Refusal>) -> Result<Totals, Refusal>
+    ensures { answer result ≡ each (λ t. totals_of (plain_type t)) (answer t) }
 {
-    match t {
-        TypeRead::Read(t) => DescrVerdict::Fits(plain(t)),
-        TypeRead::Refused(why) => DescrVerdict::Refused(why),
-    }
+    Ok(plain(t?))
 }
 
 // The totals of a name of `len` bytes.

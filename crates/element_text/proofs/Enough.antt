@@ -1,4 +1,6 @@
 -- HOW LONG A LINE IS: at most four bytes for each byte of the element, and 64 more. So a room of that length is enough for the line of every element, and none is refused with 28.
+use Rattle.refusal.specs.declared.Refusal.{Refusal}
+use Rattle.std.specs.Prelude.{Ok, Result}
 use Prim.Native.Nat.{ℕ, zero, suc, ◌+◌, ◌*◌, ◌-◌, ◌/◌, ◌%◌, ◌^◌, ◌<◌, ◌≤◌}
 use native.Mathlib.Omega.{arith}
 use mathlib.Core.Path.{◌≡◌, refl, sym, ap, ◌∙◌}
@@ -17,7 +19,6 @@ use Rattle.counts.proofs.Apart.{gives_apart, gives_refused}
 use Rattle.counts.proofs.Holds.{Holds, each_holds, unless_holds, then_any}
 use Rattle.counts.proofs.Owes.{roomed_whole}
 use Rattle.counts.proofs.Sides.{lt_or_ge}
-use Rattle.refusal.specs.declared.BytesAnswer.{BytesAnswer}
 use Rattle.refusal.specs.Answers.{bytes_answer}
 use Rattle.decimal.specs.Decimal.{printed}
 use Rattle.decimal.proofs.Prints.{printed_low, printed_high}
@@ -268,7 +269,7 @@ never_28 t run room h enough = go (element_text t run) (line_fits t run h)
     go (refused n) k = refl
 
 -- as many bytes as are returned are in the room
-pub put_inside : (t : TypeStr) (run room : List ℕ) (r : BytesAnswer) (room' : List ℕ) (n : Bytes) → PutsElement t run room r room' → r ≡ BytesAnswer.Is n → n.0 ≤ length room'
+pub put_inside : (t : TypeStr) (run room : List ℕ) (r : Result Bytes Refusal) (room' : List ℕ) (n : Bytes) → PutsElement t run room r room' → r ≡ Ok n → n.0 ≤ length room'
 put_inside t run room r room' n w e = go (then (element_text t run) (roomed 28 room)) (sym (ap bytes_answer e) ∙ w.answered) w.room_after
   where
     go : (o : Outcome (List ℕ)) → gives n.0 ≡ each length o → room' ≡ afterwards at_front o room → n.0 ≤ length room'

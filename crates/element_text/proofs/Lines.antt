@@ -1,4 +1,5 @@
 -- The line of an element at each of its ends: by its type, put as far as there is room, and then put where there is room for all of it.
+use Rattle.std.specs.Prelude.{Err, Ok, Result}
 use Prim.Native.Nat.{ℕ, ◌-◌, ◌^◌, ◌<◌, ◌≤◌}
 use native.Mathlib.Omega.{arith}
 use mathlib.Core.Path.{◌≡◌, refl, sym, ap, subst, ◌∙◌}
@@ -10,7 +11,6 @@ use Rattle.counts.specs.Owes.{roomed, Owes}
 use Rattle.counts.specs.declared.Bytes.{Bytes}
 use Rattle.counts.proofs.Apart.{gives_apart, gives_refused, refused_gives}
 use Rattle.refusal.specs.declared.Refusal.{Refusal}
-use Rattle.refusal.specs.declared.BytesAnswer.{BytesAnswer}
 use Rattle.refusal.specs.Numbers.{number_of}
 use Rattle.emit.specs.Emits.{Emits}
 use Rattle.emit.proofs.Pieces.{emits_then, emits_same}
@@ -64,16 +64,16 @@ module _ (t : TypeStr) (run : List ℕ) where
     line_value a b c = rw (line_in, h, sym a, sym b, sym c)
 
 -- ---- put as far as there is room
-pub puts_same : (o o' : Outcome (List ℕ → List ℕ)) (room : List ℕ) (r : BytesAnswer) (room' : List ℕ) → o ≡ o' → PutsOrRefuses o room r room' → PutsOrRefuses o' room r room'
+pub puts_same : (o o' : Outcome (List ℕ → List ℕ)) (room : List ℕ) (r : Result Bytes Refusal) (room' : List ℕ) → o ≡ o' → PutsOrRefuses o room r room' → PutsOrRefuses o' room r room'
 puts_same o o' room r room' e h = subst (λ (u : Outcome (List ℕ → List ℕ)). PutsOrRefuses u room r room') e h
 
 -- the value of an outcome that is known
 pub puts_each : {A : Type 0} (f : A → List ℕ → List ℕ) (o : Outcome A) (a : A) (room : List ℕ) (n : Bytes) (room' : List ℕ) → gives a ≡ o → Emits (f a) room 0 room' n.0
-    → PutsOrRefuses (each f o) room (BytesAnswer.Is n) room'
-puts_each {A} f o a room n room' e h = subst (λ (u : Outcome A). PutsOrRefuses (each f u) room (BytesAnswer.Is n) room') e h
+    → PutsOrRefuses (each f o) room (Ok n) room'
+puts_each {A} f o a room n room' e h = subst (λ (u : Outcome A). PutsOrRefuses (each f u) room (Ok n) room') e h
 
-pub refuses_each : {A : Type 0} (f : A → List ℕ → List ℕ) (o : Outcome A) (why : Refusal) (room : List ℕ) → refused (number_of why) ≡ o → PutsOrRefuses (each f o) room (BytesAnswer.Refused why) room
-refuses_each {A} f o why room e = subst (λ (u : Outcome A). PutsOrRefuses (each f u) room (BytesAnswer.Refused why) room) e (refl, refl)
+pub refuses_each : {A : Type 0} (f : A → List ℕ → List ℕ) (o : Outcome A) (why : Refusal) (room : List ℕ) → refused (number_of why) ≡ o → PutsOrRefuses (each f o) room (Err why) room
+refuses_each {A} f o why room e = subst (λ (u : Outcome A). PutsOrRefuses (each f u) room (Err why) room) e (refl, refl)
 
 -- what was judged of a run of code points
 pub record Judged (o : Outcome (List ℕ)) (n : ℕ) : Type 0 where
@@ -93,7 +93,7 @@ judged_inside o n j = omega (arith, j.long, trim_length (found o))
 
 module _ (o : Outcome (List ℕ)) (n : ℕ) (j : Judged o n) (old : List ℕ) (mid₁ : List ℕ) (p₁ : ℕ) (mid₂ : List ℕ) (p₂ : ℕ) (out : List ℕ) (q : ℕ) where
   pub points_line : Emits (λ x. 116 ∷ 101 ∷ 120 ∷ 116 ∷ 32 ∷ 39 ∷ x) old 0 mid₁ p₁ → Emits (all_text point_text (take n (found o))) mid₁ p₁ mid₂ p₂ → Emits (λ x. 39 ∷ 10 ∷ x) mid₂ p₂ out q
-      → PutsOrRefuses (each (λ cs. lined (points_text cs)) (each trimmed o)) old (BytesAnswer.Is (record { 0 = q })) out
+      → PutsOrRefuses (each (λ cs. lined (points_text cs)) (each trimmed o)) old (Ok (record { 0 = q })) out
   points_line a b c =
       let kept : take n (found o) ≡ trimmed (found o) = ap (λ (k : ℕ). take k (found o)) j.long ∙ trim_take (found o) in
       let d = subst (λ (ps : List ℕ). Emits (all_text point_text ps) mid₁ p₁ mid₂ p₂) kept b in
@@ -123,30 +123,30 @@ module _ (old : List ℕ) (out : List ℕ) (q : ℕ) where
       (emits_then (λ x. 114 ∷ 97 ∷ 119 ∷ 32 ∷ x) (all_text (hex_digits 2) value) old 0 mid₁ p₁ mid₂ p₂ a b) c)
 
 -- ---- where there is room for all of it
-module _ (t : TypeStr) (run scratch mid : List ℕ) (room : List ℕ) (first : BytesAnswer) (measured : PutsOrRefuses (line_in t run) scratch first mid) where
-  pub put_refused : (why : Refusal) → first ≡ BytesAnswer.Refused why → PutsElement t run room first room
-  put_refused why e = subst (λ (r : BytesAnswer). PutsElement t run room r room) (sym e) (go (line_in t run) (subst (λ (r : BytesAnswer). PutsOrRefuses (line_in t run) scratch r mid) e measured))
+module _ (t : TypeStr) (run scratch mid : List ℕ) (room : List ℕ) (first : Result Bytes Refusal) (measured : PutsOrRefuses (line_in t run) scratch first mid) where
+  pub put_refused : (why : Refusal) → first ≡ Err why → PutsElement t run room first room
+  put_refused why e = subst (λ (r : Result Bytes Refusal). PutsElement t run room r room) (sym e) (go (line_in t run) (subst (λ (r : Result Bytes Refusal). PutsOrRefuses (line_in t run) scratch r mid) e measured))
     where
-      go : (o : Outcome (List ℕ → List ℕ)) → PutsOrRefuses o scratch (BytesAnswer.Refused why) mid → Owes (then (each (λ f. f []) o) (roomed 28 room)) room (refused (number_of why)) room
+      go : (o : Outcome (List ℕ → List ℕ)) → PutsOrRefuses o scratch (Err why) mid → Owes (then (each (λ f. f []) o) (roomed 28 room)) room (refused (number_of why)) room
       go (gives f) h = absurd h
       go (refused k) h = record { answered = ap refused h.0; room_after = refl }
 
-  module _ (n : Bytes) (e : first ≡ BytesAnswer.Is n) (fits : n.0 < 2 ^ 64) (short : length room < 2 ^ 64 - 1) where
-    known : PutsOrRefuses (line_in t run) scratch (BytesAnswer.Is n) mid
-    known = subst (λ (r : BytesAnswer). PutsOrRefuses (line_in t run) scratch r mid) e measured
+  module _ (n : Bytes) (e : first ≡ Ok n) (fits : n.0 < 2 ^ 64) (short : length room < 2 ^ 64 - 1) where
+    known : PutsOrRefuses (line_in t run) scratch (Ok n) mid
+    known = subst (λ (r : Result Bytes Refusal). PutsOrRefuses (line_in t run) scratch r mid) e measured
 
-    pub put_short : length room < n.0 → PutsElement t run room (BytesAnswer.Refused Refusal.OutputRoom) room
+    pub put_short : length room < n.0 → PutsElement t run room (Err Refusal.OutputRoom) room
     put_short lt = go (line_in t run) known
       where
-        go : (o : Outcome (List ℕ → List ℕ)) → PutsOrRefuses o scratch (BytesAnswer.Is n) mid → Owes (then (each (λ f. f []) o) (roomed 28 room)) room (refused 28) room
+        go : (o : Outcome (List ℕ → List ℕ)) → PutsOrRefuses o scratch (Ok n) mid → Owes (then (each (λ f. f []) o) (roomed 28 room)) room (refused 28) room
         go (gives f) h = written_short f scratch mid n.0 room fits short h lt
         go (refused k) h = absurd h
 
-    pub put_whole : (out : List ℕ) (again : BytesAnswer) → n.0 ≤ length room → PutsOrRefuses (line_in t run) room again out → PutsElement t run room (BytesAnswer.Is n) out
+    pub put_whole : (out : List ℕ) (again : Result Bytes Refusal) → n.0 ≤ length room → PutsOrRefuses (line_in t run) room again out → PutsElement t run room (Ok n) out
     put_whole out again le w = go (line_in t run) again known w
       where
-        go : (o : Outcome (List ℕ → List ℕ)) (r : BytesAnswer) → PutsOrRefuses o scratch (BytesAnswer.Is n) mid → PutsOrRefuses o room r out
+        go : (o : Outcome (List ℕ → List ℕ)) (r : Result Bytes Refusal) → PutsOrRefuses o scratch (Ok n) mid → PutsOrRefuses o room r out
             → Owes (then (each (λ f. f []) o) (roomed 28 room)) room (gives n.0) out
-        go (gives f) (BytesAnswer.Is m) h w = written_whole f scratch mid n.0 room fits short h out m.0 le w
-        go (gives f) (BytesAnswer.Refused why) h w = absurd w
+        go (gives f) (Ok m) h w = written_whole f scratch mid n.0 room fits short h out m.0 le w
+        go (gives f) (Err why) h w = absurd w
         go (refused k) r h w = absurd h

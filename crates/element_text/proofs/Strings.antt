@@ -1,4 +1,5 @@
 -- Strings between quotes: a byte, a code point, and the code points of a run one after another.
+use Rattle.std.specs.Prelude.{Err, Ok, Result}
 use Prim.Native.Nat.{ℕ, ◌+◌, ◌*◌, ◌<◌, ◌≤◌}
 use native.Mathlib.Omega.{arith}
 use mathlib.Core.Path.{◌≡◌, refl, sym, ap, subst, ◌∙◌}
@@ -15,10 +16,9 @@ use Rattle.counts.specs.declared.Bytes.{Bytes}
 use Rattle.counts.proofs.Apart.{gives_apart, gives_refused, refused_gives}
 use Rattle.counts.proofs.Sides.{lt_or_ge}
 use Rattle.refusal.specs.declared.Refusal.{Refusal}
-use Rattle.refusal.specs.declared.BytesAnswer.{BytesAnswer}
 use Rattle.refusal.specs.Answers.{bytes_answer}
 use Rattle.emit.specs.Emits.{Emits}
-use Rattle.emit.proofs.Pieces.{emits_then, emits_same, Left, left_start, left_more, left_end}
+use Rattle.emit.proofs.Pieces.{emits_then, emits_same, Left, left_more, left_end}
 use Rattle.utf8_scalar.specs.Scalar.{is_scalar}
 use Rattle.utf8_scalar.specs.Encode.{encode}
 use Rattle.utf8_scalar.specs.Answer.{encoding, Encodes}
@@ -70,7 +70,7 @@ module _ (c : ℕ) (room room' : List ℕ) (s : is_scalar c ≡ true) (four : 4 
   encodes : encoding c room ≡ gives (encode c)
   encodes = encoding_fits c room s (omega (arith, encode_few c, four))
 
-  pub encoded_always : {A : Type 0} (why : Refusal) (r : BytesAnswer) → Encodes c room r room' → r ≡ BytesAnswer.Refused why → A
+  pub encoded_always : {A : Type 0} (why : Refusal) (r : Result Bytes Refusal) → Encodes c room r room' → r ≡ Err why → A
   encoded_always why r w e = refused_gives (sym (ap bytes_answer e) ∙ w.answered ∙ ap (each length) encodes)
 
   -- as many bytes as are answered are the code point's
@@ -79,7 +79,7 @@ module _ (c : ℕ) (room room' : List ℕ) (s : is_scalar c ≡ true) (four : 4 
     pub inside : n.0 ≤ length room'
     pub is : take n.0 room' ≡ encode c
 
-  pub encoded : (n : Bytes) (r : BytesAnswer) → Encodes c room r room' → r ≡ BytesAnswer.Is n → Encoded n
+  pub encoded : (n : Bytes) (r : Result Bytes Refusal) → Encodes c room r room' → r ≡ Ok n → Encoded n
   encoded n r w e =
       let long : n.0 ≡ length (encode c) = gives_apart (sym (ap bytes_answer e) ∙ w.answered ∙ ap (each length) encodes) in
       let after : room' ≡ encode c ++ drop (length (encode c)) room = w.room_after ∙ ap (λ (o : Outcome (List ℕ)). afterwards at_front o room) encodes in
@@ -102,39 +102,21 @@ point_scalar order run c e = go (ltb (length run) 4) e
     go true e = gives_refused (sym e)
     go false e = each_one (in_order order (take 4 run)) (is_scalar (in_order order (take 4 run))) refl e
 
--- the first n of them, one after another: i are put, the next is in the four bytes from `from` on
-pub record Turn (order : Endianness) (run : List ℕ) (n : ℕ) (old : List ℕ) (at : ℕ) (out : List ℕ) (p from i : ℕ) : Type 0 where
-  pub left : Left (all_text point_text) (take n (found (points order run))) old at out p i
-  pub four : from ≡ 4 * i
-
+-- the first n of them, one after another: i are put, the next is in the four bytes from 4 * i on
 module _ (order : Endianness) (run : List ℕ) (n : ℕ) (enough : n ≤ length (found (points order run))) where
   taken : length (take n (found (points order run))) ≡ n
   taken = length-take-le n (found (points order run)) enough
 
-  pub turn_start : (old : List ℕ) (at : ℕ) → Turn order run n old at old at 0 0
-  turn_start old at = record { left = left_start point_text (all_text point_text) (λ x. refl) (λ c s x. refl) (take n (found (points order run))) old at; four = omega arith }
+  abbrev pub Turn : (old : List ℕ) (at : ℕ) (out : List ℕ) (p i : ℕ) → Type 0
+  Turn old at out p i = Left (all_text point_text) (take n (found (points order run))) old at out p i
 
-  module _ (old : List ℕ) (at : ℕ) (out : List ℕ) (p from i : ℕ) (t : Turn order run n old at out p from i) where
-    module _ (lt : i < n) where
-      pub record Here : Type 0 where
-        pub inside : from + 4 ≤ length run
-        pub is : point order (drop from run) ≡ gives (get_or (take n (found (points order run))) i 0)
-
-      pub turn_here : Here
-      turn_here =
-          let there = found_at order run i (omega (arith, lt, enough)) in
-          let same = get_or-take n (found (points order run)) i 0 lt in
-          record { inside = omega (arith, there.inside, t.four); is = ap (λ (k : ℕ). point order (drop k run)) t.four ∙ there.is ∙ ap gives (sym same) }
-
-      pub turn_more : (out' : List ℕ) (p' c : ℕ) → point order (drop from run) ≡ gives c → Emits (point_text c) out p out' p' → Turn order run n old at out' p' (from + 4) (i + 1)
-      turn_more out' p' c e h =
-          let same : c ≡ get_or (take n (found (points order run))) i 0 = gives_apart (sym e ∙ turn_here.is) in
-          record {
-            left =
-                left_more point_text (all_text point_text) (λ x. refl) (λ c s x. refl) (take n (found (points order run))) old at out p i out' p' t.left (omega (arith, taken, lt))
-                (subst (λ (d : ℕ). Emits (point_text d) out p out' p') same h);
-            four = omega (arith, t.four);
-          }
+  module _ (old : List ℕ) (at : ℕ) (out : List ℕ) (p i : ℕ) (t : Turn old at out p i) where
+    pub turn_more : i < n → (out' : List ℕ) (p' c : ℕ) → point order (drop (4 * i) run) ≡ gives c → Emits (point_text c) out p out' p' → Turn old at out' p' (i + 1)
+    turn_more lt out' p' c e h =
+        let same : c ≡ get_or (take n (found (points order run))) i 0 =
+        gives_apart (sym e ∙ (found_at order run i (omega (arith, enough))).is ∙ ap gives (sym (get_or-take n (found (points order run)) i 0 lt))) in
+        left_more point_text (all_text point_text) (λ x. refl) (λ c s x. refl) (take n (found (points order run))) old at out p i out' p' t (omega (arith, taken))
+        (subst (λ (d : ℕ). Emits (point_text d) out p out' p') same h)
 
     pub turn_end : n ≤ i → Emits (all_text point_text (take n (found (points order run)))) old at out p
-    turn_end ge = left_end point_text (all_text point_text) (λ x. refl) (λ c s x. refl) (take n (found (points order run))) old at out p i t.left (omega (arith, taken, ge))
+    turn_end ge = left_end point_text (all_text point_text) (λ x. refl) (λ c s x. refl) (take n (found (points order run))) old at out p i t (omega (arith, taken))

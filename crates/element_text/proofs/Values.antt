@@ -1,14 +1,13 @@
 -- The texts of values: each by the cases of the value.
-use Prim.Native.Nat.{ℕ, ◌*◌, ◌/◌, ◌%◌}
-use native.Mathlib.Omega.{arith}
-use mathlib.Core.Path.{◌≡◌, sym, ap, subst}
+use Prim.Native.Nat.{ℕ}
+use mathlib.Core.Path.{◌≡◌, sym, subst}
 use mathlib.Core.Bool.{Bool as Truth, true, false, cond}
 use mathlib.Core.List.{List, ◌∷◌, ◌++◌}
-use lib.Dec.{eqb, leb}
+use lib.Dec.{eqb}
 use Rattle.emit.specs.Emits.{Emits}
 use Rattle.emit.proofs.Pieces.{emits_then, emits_byte}
 use Rattle.element_text.proofs.Pieces.{emits_if, emits_else}
-use Rattle.element_text.specs.Floats.{double_format, float_parts, exponent_text, shown_exponent, finite_text, unsigned_text, parts_text}
+use Rattle.element_text.specs.Floats.{exponent_text, shown_exponent, finite_text, unsigned_text, parts_text}
 use Rattle.element_text.specs.Hexadecimal.{hex_digits}
 use Rattle.value.specs.declared.Value.{Value}
 use Rattle.element_text.specs.Text.{truth_text, value_text}
@@ -17,31 +16,6 @@ use Rattle.element_text.specs.declared.Parts.{Parts}
 pub truth_is : (t b : Truth) (old out : List ℕ) (p : ℕ) → t ≡ b → Emits (λ x. 98 ∷ 111 ∷ 111 ∷ 108 ∷ 32 ∷ truth_text t x) old 0 out p
     → Emits (λ x. 98 ∷ 111 ∷ 111 ∷ 108 ∷ 32 ∷ truth_text b x) old 0 out p
 truth_is t b old out p e h = subst (λ (u : Truth). Emits (λ x. 98 ∷ 111 ∷ 111 ∷ 108 ∷ 32 ∷ truth_text u x) old 0 out p) e h
-
--- a double float's fraction has as many bits as its digits
-pub double_parts : (bits : ℕ)
-    → ◌≡◌ {A = Parts}
-    (record {
-      negative = leb 9223372036854775808 bits;
-      special = eqb (bits / 4503599627370496 % 2048) 2047;
-      exponent = bits / 4503599627370496 % 2048;
-      fraction = bits % 4503599627370496;
-      filled = bits % 4503599627370496;
-      digits = 13;
-      bias = 1023;
-    })
-    (float_parts double_format bits)
-double_parts bits =
-    let e : bits % 4503599627370496 ≡ bits % 4503599627370496 * 1 = omega arith in
-    ap (λ (n : ℕ). record {
-      negative = leb 9223372036854775808 bits;
-      special = eqb (bits / 4503599627370496 % 2048) 2047;
-      exponent = bits / 4503599627370496 % 2048;
-      fraction = bits % 4503599627370496;
-      filled = n;
-      digits = 13;
-      bias = 1023;
-    }) e
 
 -- ---- floats
 module _ (p : Parts) (old : List ℕ) (at : ℕ) (out : List ℕ) (q : ℕ) where

@@ -2,7 +2,7 @@
 // Called by npy_get.
 #![tactic(auto)]
 
-ghost use Rattle.std.specs.Prelude.{◌≡◌, true, cond, ◌&&◌, ◌||◌, eqb, leb, ◌∷◌, ◌++◌, ◌≤◌, ◌<◌, length, take};
+ghost use Rattle.std.specs.Prelude.{◌≡◌, true, cond, ◌&&◌, ◌||◌, eqb, leb, ◌∷◌, ◌++◌, ◌≤◌, ◌<◌, length, take, ◌*◌, ◌^◌};
 ghost use Rattle.utf8_scalar.specs.Scalar.{is_scalar};
 ghost use Rattle.value.specs.declared.Value.{Value};
 ghost use Rattle.counts.specs.Outcome.{each};
@@ -10,17 +10,16 @@ ghost use Rattle.emit.specs.Emits.{Emits};
 ghost use Rattle.string_value.specs.Elements.{trimmed, points, found};
 ghost use Rattle.value.specs.Values.{read_value};
 ghost use Rattle.element_text.specs.Hexadecimal.{hex_digit, hex_digits};
-ghost use Rattle.element_text.specs.Floats.{single_format, double_format, float_parts, exponent_text, shown_exponent, finite_text, special_text, unsigned_text, parts_text};
+ghost use Rattle.element_text.specs.Floats.{float_parts, exponent_text, shown_exponent, finite_text, special_text, unsigned_text, parts_text};
 ghost use Rattle.element_text.specs.Text.{truth_text, signed_text, value_text, all_text, byte_text, point_text, bytes_text, points_text, raw_text, lined, line_in};
 ghost use Rattle.element_text.specs.Puts.{PutsElement, PutsOrRefuses};
 
 use counts::{Bytes, Points};
-use refusal::{BytesAnswer, PointsAnswer, Refusal};
-use string_element::PointRead;
+use refusal::Refusal;
 use type_letters::{Endianness, TypeChar};
 use type_str::TypeStr;
 use type_units::TimeUnits;
-use value::{Value, ValueAnswer};
+use value::Value;
 
 // The parts of a float that its text is made of (`float_parts`).
 #[derive(Clone, Copy)]
@@ -34,71 +33,74 @@ pub struct Parts {
     pub bias: u64,
 }
 
-// A single float's sign, the number of its fractions and of its exponents.
-const SIGN: u32 = 0x8000_0000;
+// A format of floats: how many fractions and how many exponents it has, the exponent of 1, how many hexadecimal digits the fraction is printed with, and the factor that fills them.
+#[derive(Clone, Copy)]
+struct Format {
+    fractions: u64,
+    exponents: u64,
+    bias: u64,
+    digits: u64,
+    filling: u64,
+}
 
-const FRACTIONS: u32 = 0x80_0000;
+const SINGLE: Format = Format {
+    fractions: 0x80_0000,
+    exponents: 0x100,
+    bias: 127,
+    digits: 6,
+    filling: 2,
+};
 
-const EXPONENTS: u32 = 0x100;
-
-// The same of a double float.
-const WIDE_SIGN: u64 = 0x8000_0000_0000_0000;
-
-const WIDE_FRACTIONS: u64 = 0x10_0000_0000_0000;
-
-const WIDE_EXPONENTS: u64 = 0x800;
+const DOUBLE: Format = Format {
+    fractions: 0x10_0000_0000_0000,
+    exponents: 0x800,
+    bias: 1023,
+    digits: 13,
+    filling: 1,
+};
 
 // The first code point that is printed in UTF-8: those before it are ASCII and the control characters after it.
 const FIRST_PRINTED: u32 = 0xA0;
 
 // Writes the line of the element in these bytes to the front of `out`, and returns its length; or the element's refusal, then 28. The line is measured on a scratch byte
 // first, so that a refusal leaves `out` as it was.
-pub fn put(run: &[u8], t: TypeStr, out: &mut [u8]) -> BytesAnswer
+pub fn put(run: &[u8], t: TypeStr, out: &mut [u8]) -> Result<Bytes, Refusal>
     ensures { PutsElement t run.now out.old result out.new }
 {
     let mut scratch = [0u8; 1];
-    let measured = put_line(run, t, &mut scratch);
-    let BytesAnswer::Is(n) = measured else {
-        return measured;
-    };
+    let n = put_line(run, t, &mut scratch)?;
     if (out.len() as u64) < n.0 {
-        return BytesAnswer::Refused(Refusal::OutputRoom);
+        return Err(Refusal::OutputRoom);
     }
-    put_line(run, t, out);
-    BytesAnswer::Is(n)
+    let _ = put_line(run, t, out);
+    Ok(n)
 }
 
 // Puts the line as far as there is room, and returns its length; or the element's refusal.
-fn put_line(run: &[u8], t: TypeStr, out: &mut [u8]) -> BytesAnswer
+fn put_line(run: &[u8], t: TypeStr, out: &mut [u8]) -> Result<Bytes, Refusal>
     ensures { PutsOrRefuses (line_in t run.now) out.old result out.new }
 {
     if !t.is_type() {
-        return BytesAnswer::Refused(Refusal::NoReading);
+        return Err(Refusal::NoReading);
     }
-    let letter = t.letter;
-    let order = t.order;
-    match letter {
-        TypeChar::UnicodeStr => put_points_line(run, order, out),
+    match t.letter {
+        TypeChar::UnicodeStr => put_points_line(run, t.order, out),
         TypeChar::ByteStr => {
-            let n = string_value::kept(run);
-            BytesAnswer::Is(Bytes(put_bytes_line(out, &run[..n]) as u64))
+            let value = &run[..string_value::kept(run)];
+            Ok(Bytes(put_bytes_line(out, value) as u64))
         }
-        TypeChar::RawData => BytesAnswer::Is(Bytes(put_raw_line(out, run) as u64)),
+        TypeChar::RawData => Ok(Bytes(put_raw_line(out, run) as u64)),
         _ => put_value_line(run, t, out),
     }
 }
 
 // Puts the line of a value, or its refusal.
-fn put_value_line(run: &[u8], t: TypeStr, out: &mut [u8]) -> BytesAnswer
+fn put_value_line(run: &[u8], t: TypeStr, out: &mut [u8]) -> Result<Bytes, Refusal>
     ensures { PutsOrRefuses (each (λ v. lined (value_text v)) (read_value t run.now)) out.old result out.new }
 {
-    match value::read(run, t) {
-        ValueAnswer::Is(v) => {
-            let end = put_value(out, v);
-            BytesAnswer::Is(Bytes(emit::put(out, end, b'\n') as u64))
-        }
-        ValueAnswer::Refused(why) => BytesAnswer::Refused(why),
-    }
+    let v = value::read(run, t)?;
+    let end = put_value(out, v);
+    Ok(Bytes(emit::put(out, end, b'\n') as u64))
 }
 
 // Puts the text of a value at the front.
@@ -115,19 +117,19 @@ fn put_value(out: &mut [u8], v: Value) -> usize
             let p = emit::put_bytes(out, 0, b"unsigned ");
             emit::put_count(out, p, n)
         }
-        Value::Single(f) => put_float_after(out, b"single ", single_parts(f.bits)),
-        Value::Double(f) => put_float_after(out, b"double ", double_parts(f.bits)),
+        Value::Single(f) => put_float_after(out, b"single ", float_parts(SINGLE, f.bits as u64)),
+        Value::Double(f) => put_float_after(out, b"double ", float_parts(DOUBLE, f.bits)),
         Value::SinglePair(f, g) => put_pair_after(
             out,
             b"single-pair ",
-            single_parts(f.bits),
-            single_parts(g.bits),
+            float_parts(SINGLE, f.bits as u64),
+            float_parts(SINGLE, g.bits as u64),
         ),
         Value::DoublePair(f, g) => put_pair_after(
             out,
             b"double-pair ",
-            double_parts(f.bits),
-            double_parts(g.bits),
+            float_parts(DOUBLE, f.bits),
+            float_parts(DOUBLE, g.bits),
         ),
         Value::Time(n, units) => put_time(out, n, units),
     }
@@ -179,35 +181,24 @@ fn put_pair_after(out: &mut [u8], word: &[u8], real: Parts, imaginary: Parts) ->
     put_float(out, between, imaginary)
 }
 
-fn single_parts(bits: u32) -> Parts
-    ensures { result ≡ float_parts single_format bits }
+// The parts of a float's bits; the last of the exponents is that of infinities and NaNs.
+fn float_parts(f: Format, bits: u64) -> Parts
+    requires fractions { 0 < f.fractions }
+    requires exponents { 0 < f.exponents }
+    requires sign { f.fractions * f.exponents < 2 ^ 64 }
+    requires filled { f.fractions * f.filling < 2 ^ 64 }
+    ensures { result ≡ float_parts (record { fractions = f.fractions; exponents = f.exponents; bias = f.bias; digits = f.digits; filling = f.filling }) bits }
 {
-    let exponent = bits / FRACTIONS % EXPONENTS;
-    let fraction = bits % FRACTIONS;
+    let exponent = bits / f.fractions % f.exponents;
+    let fraction = bits % f.fractions;
     Parts {
-        negative: SIGN <= bits,
-        special: exponent == 255,
-        exponent: exponent as u64,
-        fraction: fraction as u64,
-        filled: fraction as u64 * 2,
-        digits: 6,
-        bias: 127,
-    }
-}
-
-fn double_parts(bits: u64) -> Parts
-    ensures { result ≡ float_parts double_format bits }
-{
-    let exponent = bits / WIDE_FRACTIONS % WIDE_EXPONENTS;
-    let fraction = bits % WIDE_FRACTIONS;
-    Parts {
-        negative: WIDE_SIGN <= bits,
-        special: exponent == 2047,
+        negative: f.fractions * f.exponents <= bits,
+        special: exponent == f.exponents - 1,
         exponent,
         fraction,
-        filled: fraction,
-        digits: 13,
-        bias: 1023,
+        filled: fraction * f.filling,
+        digits: f.digits,
+        bias: f.bias,
     }
 }
 
@@ -247,14 +238,12 @@ fn put_special(out: &mut [u8], at: usize, p: Parts) -> usize
 fn put_finite(out: &mut [u8], at: usize, p: Parts) -> usize
     ensures { Emits (finite_text p) out.old at out.new result }
 {
-    let bias = p.bias;
-    let exponent = shown_exponent(p);
     let after_prefix = emit::put_bytes(out, at, b"0x");
     let after_lead = emit::put(out, after_prefix, lead_digit(p.exponent));
     let after_point = emit::put(out, after_lead, b'.');
     let after_digits = put_hex(out, after_point, p.digits, p.filled);
     let after_p = emit::put(out, after_digits, b'p');
-    put_exponent(out, after_p, bias, exponent)
+    put_exponent(out, after_p, p.bias, shown_exponent(p))
 }
 
 // The digit before the point: the smallest floats have no leading 1.
@@ -313,14 +302,13 @@ fn put_bytes_line(out: &mut [u8], value: &[u8]) -> usize
     emit::put_bytes(out, after_last, b"'\n")
 }
 
+// `put_each_hex` differs in the function alone; one loop of both would take it as a parameter, with clauses for the room that it changes, and be longer than the two.
 fn put_each_byte(out: &mut [u8], at: usize, value: &[u8]) -> usize
     ensures { Emits (all_text byte_text value.now) out.old at out.new result }
 {
     let mut p = at;
-    let mut i: usize = 0;
-    while i < value.len() {
-        p = put_byte(out, p, value[i]);
-        i += 1;
+    for b in value {
+        p = put_byte(out, p, *b);
     }
     p
 }
@@ -344,21 +332,21 @@ fn put_byte(out: &mut [u8], at: usize, b: u8) -> usize
 fn is_quoted(b: u8) -> bool
     ensures { result ≡ (eqb b 92 || eqb b 39) }
 {
-    if b == b'\\' { true } else { b == b'\'' }
+    b == b'\\' || b == b'\''
 }
 
 // Whether a byte is printed as it is.
 fn is_printed(b: u8) -> bool
     ensures { result ≡ (leb 0x20 b && leb b 0x7E) }
 {
-    if 0x20 <= b { b <= 0x7E } else { false }
+    0x20 <= b && b <= 0x7E
 }
 
 // Puts the line of the bytes of a V element.
 fn put_raw_line(out: &mut [u8], value: &[u8]) -> usize
     ensures { Emits (lined (raw_text value.now)) out.old 0 out.new result }
 {
-    if value.len() == 0 {
+    if value.is_empty() {
         return emit::put_bytes(out, 0, b"raw\n");
     }
     let inside = emit::put_bytes(out, 0, b"raw ");
@@ -370,26 +358,20 @@ fn put_each_hex(out: &mut [u8], at: usize, value: &[u8]) -> usize
     ensures { Emits (all_text (hex_digits 2) value.now) out.old at out.new result }
 {
     let mut p = at;
-    let mut i: usize = 0;
-    while i < value.len() {
-        p = put_hex(out, p, 2, value[i] as u64);
-        i += 1;
+    for b in value {
+        p = put_hex(out, p, 2, *b as u64);
     }
     p
 }
 
 // Puts the line of a U element, or 29 where four bytes are no scalar value.
-fn put_points_line(run: &[u8], order: Endianness, out: &mut [u8]) -> BytesAnswer
+fn put_points_line(run: &[u8], order: Endianness, out: &mut [u8]) -> Result<Bytes, Refusal>
     ensures { PutsOrRefuses (each (λ cs. lined (points_text cs)) (each trimmed (points order run.now))) out.old result out.new }
 {
-    match string_element::judge(run, order) {
-        PointsAnswer::Is(n) => {
-            let inside = emit::put_bytes(out, 0, b"text '");
-            let after_last = put_each_point(out, inside, run, order, n);
-            BytesAnswer::Is(Bytes(emit::put_bytes(out, after_last, b"'\n") as u64))
-        }
-        PointsAnswer::Refused(why) => BytesAnswer::Refused(why),
-    }
+    let n = string_element::judge(run, order)?;
+    let inside = emit::put_bytes(out, 0, b"text '");
+    let after_last = put_each_point(out, inside, run, order, n);
+    Ok(Bytes(emit::put_bytes(out, after_last, b"'\n") as u64))
 }
 
 // Puts the first n code points of a run that was judged; none of them is refused.
@@ -398,16 +380,12 @@ fn put_each_point(out: &mut [u8], at: usize, run: &[u8], order: Endianness, n: P
     ensures { Emits (all_text point_text (take n.0 (found (points order run.now)))) out.old at out.new result }
 {
     let mut p = at;
-    let mut from: usize = 0;
-    let mut i: u64 = 0;
-    while i < n.0 {
-        let PointRead::Scalar(c) = string_element::point_at(run, order, from) else {
+    for i in 0..n.0 as usize {
+        let Some(c) = string_element::point_at(run, order, 4 * i) else {
             // not reached: the run was judged
             return p;
         };
         p = put_point(out, p, c);
-        from += 4;
-        i += 1;
     }
     p
 }
@@ -421,10 +399,9 @@ fn put_point(out: &mut [u8], at: usize, c: u32) -> usize
         return put_byte(out, at, c as u8);
     }
     let mut four = [0u8; 4];
-    let BytesAnswer::Is(n) = utf8_scalar::encode(c, &mut four) else {
+    let Ok(n) = utf8_scalar::encode(c, &mut four) else {
         // not reached: the code point is a scalar value, and four bytes are enough for any
         return at;
     };
-    let end = n.0 as usize;
-    emit::put_bytes(out, at, &four[..end])
+    emit::put_bytes(out, at, &four[..n.0 as usize])
 }

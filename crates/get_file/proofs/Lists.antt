@@ -1,13 +1,14 @@
 -- The numbers of a text: whether it is a list, byte by byte, and each number put after the others. What is left of the text gives, after what was read, what the whole gives.
-use Prim.Native.Nat.{ℕ, zero, suc, ◌+◌, ◌*◌, ◌-◌, ◌^◌, ◌<◌, ◌≤◌}
+use Prim.Native.Nat.{ℕ, zero, suc, ◌+◌, ◌*◌, ◌-◌, ◌^◌, ◌<◌, ◌≤◌, min}
 use native.Mathlib.Omega.{arith}
 use native.Mathlib.Numerals.{add-one}
 use mathlib.Core.Path.{◌≡◌, refl, sym, ap, subst, ◌∙◌}
-use mathlib.Core.Bool.{Bool, true, false, cond, ◌&&◌, ◌||◌}
+use mathlib.Core.Bool.{Bool, true, false, cond, ◌&&◌, ◌||◌, and-true, and-false}
 use mathlib.Core.List.{List, [], ◌∷◌}
 use lib.Dec.{eqb}
-use lib.ListN.{length, get_or, take, drop, set, drop_of_length-le}
-use lib.Seq.{sets, drop-cons, length-take-le, take_all}
+use lib.Pointwise.{pointwise}
+use lib.ListN.{length, get_or, take, drop, set, drop_of_length-le, length-take}
+use lib.Seq.{sets, drop-cons}
 use borrow.Author.Tests.{eq-eqb, ne_eqb}
 use Rattle.counts.specs.Outcome.{Outcome, gives, refused}
 use Rattle.counts.specs.Number.{capped}
@@ -16,6 +17,7 @@ use Rattle.counts.specs.Owes.{Owes}
 use Rattle.counts.proofs.Alike.{true_false, false_true}
 use Rattle.emit.specs.Emits.{Emits}
 use Rattle.emit.proofs.Pieces.{emits_none, emits_same, emits_length}
+use Rattle.std.specs.Char.{is_ascii_digit}
 use Rattle.decimal.specs.Decimal.{is_digit}
 use Rattle.get_file.specs.Numbers.{is_list, list_numbers, numbers_from, numbers_in}
 use Rattle.get_file.specs.Puts.{PutsListed}
@@ -24,9 +26,6 @@ use Rattle.get_file.specs.Puts.{PutsListed}
 pub record Checking (text : List ℕ) (digit : Bool) (i : ℕ) : Type 0 where
   pub inside : i ≤ length text
   pub left : is_list false text ≡ is_list digit (drop i text)
-
-pub checking_start : (text : List ℕ) → Checking text false 0
-checking_start text = record { inside = omega arith; left = refl }
 
 module _ (text : List ℕ) (digit : Bool) (i : ℕ) (c : Checking text digit i) where
   pub checking_end : length text ≤ i → digit ≡ is_list false text
@@ -70,9 +69,6 @@ pub record Listing (text old out : List ℕ) (count n i : ℕ) : Type 0 where
   pub is_value : n ≡ capped value
   pub stored : sets out count (list_numbers value (drop i text)) ≡ sets old 0 (list_numbers 0 text)
   pub counted : capped (count + length (list_numbers value (drop i text))) ≡ capped (length (list_numbers 0 text))
-
-pub listing_start : (text old : List ℕ) → Listing text old old 0 0 0
-listing_start text old = record { inside = omega arith; same_length = refl; value = 0; is_value = omega arith; stored = refl; counted = omega arith }
 
 module _ (text old out : List ℕ) (count n i : ℕ) (l : Listing text old out count n i) where
   module _ (out' : List ℕ) (count' : ℕ) (w : Emits (λ x. n ∷ x) out count out' count') where
@@ -156,31 +152,25 @@ module _ (text room : List ℕ) where
       owes out k g h = subst (λ (o : Outcome (List ℕ)). Owes o room (gives k) out) is_list_lem (record { answered = ap gives g; room_after = h ∙ sets_front (list_numbers 0 text) room })
 
       module _ (out : List ℕ) (count : ℕ) (w : PutsListed text room out count) (fits : count < 2 ^ 64) (short : length room < 2 ^ 64 - 1) where
-        pub listed_all : count ≤ length room → Owes (numbers_in text room) room (gives count) out
-        listed_all le =
-            let long : length (list_numbers 0 text) ≡ count = omega (arith, w.counted, fits, short, le) in
-            owes out count (sym (ap (λ (l : List ℕ). length l) (take_all (length room) (list_numbers 0 text) (omega (arith, long, le))) ∙ long)) w.stored
-
-        pub listed_some : (k : ℕ) → k ≡ length room → length room < count → Owes (numbers_in text room) room (gives k) out
-        listed_some k e lt = owes out k (e ∙ sym (length-take-le (length room) (list_numbers 0 text) (omega (arith, w.counted, fits, short, lt)))) w.stored
+        pub listed : (k : ℕ) → k ≡ min count (length room) → Owes (numbers_in text room) room (gives k) out
+        listed k e = owes out k (e ∙ sym (rw length-take (omega (arith, w.counted)))) w.stored
 
 -- ---- `-`
-pub dash_not : (text : List ℕ) → (length text ≡ 1 → ⊥) → false ≡ same text (45 ∷ [])
-dash_not [] h = refl
-dash_not (b ∷ []) h = absurd (h refl)
-dash_not (b ∷ d ∷ text) h = refl
-
-pub dash_one : (text : List ℕ) → length text ≡ 1 → eqb (get_or text 0 0) 45 ≡ same text (45 ∷ [])
-dash_one [] h = absurd (omega arith)
-dash_one (b ∷ []) h = refl
-dash_one (b ∷ d ∷ text) h = absurd (omega arith)
+pub dash_is : (text : List ℕ) → pointwise eqb text (45 ∷ []) ≡ same text (45 ∷ [])
+dash_is [] = refl
+dash_is (b ∷ []) = and-true (eqb b 45)
+dash_is (b ∷ d ∷ text) = and-false (eqb b 45)
 
 -- ---- a byte of a list
-pub follows_digit : (d digit t : Bool) → d ≡ true → true ≡ (d || digit && t)
-follows_digit d digit t e = ap (λ (x : Bool). x || digit && t) (sym e)
+pub digit_is : (b : ℕ) (r : Bool) → r ≡ is_ascii_digit b → r ≡ is_digit b
+unfolding is_digit
+digit_is b r e = e
 
-pub follows_other : (d digit t : Bool) (b : Bool) → d ≡ false → digit ≡ b → (b && t) ≡ (d || digit && t)
-follows_other d digit t b e f = ap (λ (x : Bool). x && t) (sym f) ∙ ap (λ (x : Bool). x || digit && t) (sym e)
+pub follows_digit : (b : ℕ) (digit t : Bool) → true ≡ is_ascii_digit b → true ≡ (is_digit b || digit && t)
+follows_digit b digit t e = ap (λ (x : Bool). x || digit && t) (digit_is b true e)
+
+pub follows_other : (b : ℕ) (digit t : Bool) (d : Bool) → false ≡ is_ascii_digit b → digit ≡ d → (d && t) ≡ (is_digit b || digit && t)
+follows_other b digit t d e f = ap (λ (x : Bool). x && t) (sym f) ∙ ap (λ (x : Bool). x || digit && t) (digit_is b false e)
 
 pub comma_yes : (b n : ℕ) (old : List ℕ) (at : ℕ) (out : List ℕ) (p : ℕ) → b ≡ 44 → Emits (λ x. n ∷ x) old at out p → Emits (λ x. cond (eqb b 44) (n ∷ x) x) old at out p
 comma_yes b n old at out p e h =

@@ -1,11 +1,10 @@
 -- The numbers of an index or a path as text: decimal numbers separated by commas (44), `-` (45) for none. A number over 2^64-1 counts as 2^64-1, which no index and no path has in
 -- range: the dimensions of a shape, the lengths of arrays and the counts of fields are at most that.
-use Rattle.std.specs.Prelude.{ℕ, ◌+◌, ◌*◌, ◌-◌, Bool, true, false, cond, not, ◌&&◌, List, [], ◌∷◌, eqb, length, take}
+use Rattle.std.specs.Prelude.{ℕ, ◌+◌, ◌*◌, ◌-◌, Bool, true, false, cond, not, ◌&&◌, List, [], ◌∷◌, eqb, length, take, None, Some, Option}
 use Rattle.counts.specs.Outcome.{Outcome, gives, refused, each, unless}
 use Rattle.counts.specs.Number.{capped}
 use Rattle.counts.specs.Lists.{same}
 use Rattle.decimal.specs.Decimal.{is_digit}
-use Rattle.get_file.specs.declared.Listed.{Listed}
 
 -- whether a text is digits, and single commas between digits; `digit` if the byte before it is a digit
 unfoldable pub is_list : (digit : Bool) → List ℕ → Bool
@@ -26,6 +25,6 @@ abbrev pub numbers_in : (text room : List ℕ) → Outcome (List ℕ)
 numbers_in text room = each (take (length room)) (numbers_from text)
 
 -- what an answer means
-abbrev pub listed_answer : Listed → Outcome ℕ
-listed_answer (Listed.Are n) = gives n
-listed_answer Listed.NoList = refused 0
+abbrev pub listed_answer : Option ℕ → Outcome ℕ
+listed_answer (Some n) = gives n
+listed_answer None = refused 0

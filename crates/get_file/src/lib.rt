@@ -2,6 +2,7 @@
 // index or a path, from their text. npy_get calls it.
 #![tactic(auto)]
 
+ghost use Rattle.refusal.specs.Answers.{answer};
 ghost use Rattle.std.specs.Prelude.{◌-◌, ◌+◌, ◌*◌, ◌≡◌, false, cond, ◌&&◌, ◌||◌, [], ◌∷◌, eqb};
 ghost use Rattle.counts.specs.Number.{capped};
 ghost use Rattle.counts.specs.Lists.{same};
@@ -10,7 +11,6 @@ ghost use Rattle.emit.specs.Emits.{Emits};
 ghost use Rattle.decimal.specs.Decimal.{is_digit};
 ghost use Rattle.dtype.specs.Record.{Record};
 ghost use Rattle.place.specs.Place.{placed};
-ghost use Rattle.place.specs.Answer.{answer};
 ghost use Rattle.header.specs.Reads.{lent};
 ghost use Rattle.read_back.specs.Rooms.{Holds};
 ghost use Rattle.get_file.specs.Found.{found_in};
@@ -18,9 +18,10 @@ ghost use Rattle.get_file.specs.Numbers.{is_list, numbers_in, listed_answer};
 ghost use Rattle.get_file.specs.Puts.{PutsListed};
 
 use counts::Bytes;
-use dtype::{MOST_DIMENSIONS, MOST_NAMES, TABLE};
-use header::{Header, HeaderRead};
-use place::Placed;
+use dtype::{GivenRecord, MOST_DIMENSIONS, MOST_NAMES, TABLE};
+use header::Header;
+use place_area::Run;
+use refusal::Refusal;
 
 // How many numbers of an index are kept: one more than any shape has dimensions. A longer index is cut to that, which is of wrong length for every shape, as the whole is.
 pub const INDEX: usize = 33;
@@ -28,25 +29,21 @@ pub const INDEX: usize = 33;
 // How many numbers of a path are kept: as many as a table has entries, of which the first is the item's. A longer path is cut to that, which leads nowhere, as the whole does.
 pub const PATH: usize = 512;
 
-// How many numbers were written; or a text that is no list of numbers.
-#[derive(Clone, Copy)]
-pub enum Listed {
-    Are(usize),
-    NoList,
-}
-
 // The bytes that an index and a path name in a file of this length, of which these first bytes are held: `longer` if it has more. Or the first refusal of the header, then 24, 25, 26.
-pub fn find(held: &[u8], longer: bool, length: Bytes, index: &[u64], path: &[u64]) -> Placed
+pub fn find(
+    held: &[u8],
+    longer: bool,
+    length: Bytes,
+    index: &[u64],
+    path: &[u64],
+) -> Result<Run, Refusal>
     ensures { answer result ≡ found_in longer held.now length.0 index.now path.now }
 {
     let mut table = [0u64; TABLE];
     let mut names = [0u8; MOST_NAMES];
     let mut shape = [0u64; MOST_DIMENSIONS];
-    let r = header::read_held(held, longer, &mut table, &mut names, &mut shape);
-    match r {
-        HeaderRead::Read(h) => find_in(h, length, &table, &names, &shape, index, path),
-        HeaderRead::Refused(why) => Placed::Refused(why),
-    }
+    let h = header::read_held(held, longer, &mut table, &mut names, &mut shape)?;
+    find_in(h, length, &table, &names, &shape, index, path)
 }
 
 // The same by a header that was read to the rooms.
@@ -58,49 +55,37 @@ fn find_in(
     shape: &[u64],
     index: &[u64],
     path: &[u64],
-) -> Placed
+) -> Result<Run, Refusal>
     ensures { (r : Record) → Holds r h.info (lent table.now names.now shape.now) → answer result ≡ placed length.0 h.start.0 r index.now path.now }
 {
-    let info = h.info;
-    let start = h.start;
-    let order = info.order;
-    place::place(
-        length,
-        start,
-        read_back::table_of(table, info.entries),
-        read_back::names_of(names, info.names),
-        read_back::shape_of(shape, info.rank),
-        order,
-        index,
-        path,
-    )
+    let given = GivenRecord {
+        table: read_back::table_of(table, h.info.entries),
+        names: read_back::names_of(names, h.info.names),
+        shape: read_back::shape_of(shape, h.info.rank),
+        order: h.info.order,
+    };
+    place::place(length, h.start, given, index, path)
 }
 
 // Writes the numbers of a text, separated by commas, to the front of `out`: as many as it has room for, and returns how many these are. `-` is a list of none. A number over
 // 2^64-1 counts as 2^64-1, which is in range of nothing.
-pub fn numbers(text: &[u8], out: &mut [u64]) -> Listed
+pub fn numbers(text: &[u8], out: &mut [u64]) -> Option<usize>
     ensures { Owes (numbers_in text.now out.old) out.old (listed_answer result) out.new }
 {
     if is_dash(text) {
-        return Listed::Are(0);
+        return Some(0);
     }
     if !is_list(text) {
-        return Listed::NoList;
+        return None;
     }
     let count = put_listed(text, out);
-    if out.len() < count {
-        return Listed::Are(out.len());
-    }
-    Listed::Are(count)
+    Some(count.min(out.len()))
 }
 
 fn is_dash(text: &[u8]) -> bool
     ensures { result ≡ same text.now (45 ∷ []) }
 {
-    if text.len() != 1 {
-        return false;
-    }
-    text[0] == b'-'
+    text == b"-".as_slice()
 }
 
 // Whether a text is numbers, separated by commas.
@@ -108,13 +93,11 @@ fn is_list(text: &[u8]) -> bool
     ensures { result ≡ is_list false text.now }
 {
     let mut digit = false;
-    let mut i: usize = 0;
-    while i < text.len() {
-        if !may_follow(digit, text[i]) {
+    for b in text {
+        if !may_follow(digit, *b) {
             return false;
         }
-        digit = is_digit(text[i]);
-        i += 1;
+        digit = b.is_ascii_digit();
     }
     digit
 }
@@ -123,29 +106,18 @@ fn is_list(text: &[u8]) -> bool
 fn may_follow(digit: bool, b: u8) -> bool
     ensures { result ≡ (is_digit b || digit && eqb b 44) }
 {
-    if is_digit(b) {
-        return true;
-    }
-    if digit { b == b',' } else { false }
-}
-
-fn is_digit(b: u8) -> bool
-    ensures { result ≡ is_digit b }
-{
-    if b'0' <= b { b <= b'9' } else { false }
+    b.is_ascii_digit() || digit && b == b','
 }
 
 // Puts the numbers of a text as far as there is room, and returns how many there are.
 fn put_listed(text: &[u8], out: &mut [u64]) -> usize
     ensures { PutsListed text.now out.old out.new result }
 {
-    let mut count: usize = 0;
-    let mut n: u64 = 0;
-    let mut i: usize = 0;
-    while i < text.len() {
-        count = put_at_comma(out, count, n, text[i]);
-        n = number_after(n, text[i]);
-        i += 1;
+    let mut count = 0;
+    let mut n = 0;
+    for b in text {
+        count = put_at_comma(out, count, n, *b);
+        n = number_after(n, *b);
     }
     put_number(out, count, n)
 }
@@ -160,14 +132,15 @@ fn put_at_comma(out: &mut [u64], at: usize, n: u64, b: u8) -> usize
     at
 }
 
-// The number after one more byte of a list: 0 after a comma.
+// The number after one more byte of a list: 0 after a comma, else one more digit, or 2^64-1 where that is larger. A byte before `0` counts as `0`: a list has none.
 fn number_after(n: u64, b: u8) -> u64
     ensures { result ≡ cond (eqb b 44) 0 (capped (10 * n + (b - 48))) }
 {
     if b == b',' {
         return 0;
     }
-    with_digit(n, b)
+    n.saturating_mul(10)
+        .saturating_add(b.saturating_sub(b'0') as u64)
 }
 
 // Puts a number where there is room, and returns the place after it.
@@ -178,29 +151,5 @@ fn put_number(out: &mut [u64], at: usize, n: u64) -> usize
         out[at] = n;
         return at + 1;
     }
-    place_after(at)
-}
-
-fn place_after(at: usize) -> usize
-    ensures { result ≡ capped (at + 1) }
-{
-    if at < usize::MAX { at + 1 } else { at }
-}
-
-// The number with one more digit, or 2^64-1 where that is larger. A byte before `0` counts as `0`: a list has none.
-fn with_digit(n: u64, b: u8) -> u64
-    ensures { result ≡ capped (10 * n + (b - 48)) }
-{
-    let d = digit_of(b);
-    if n <= (u64::MAX - d) / 10 {
-        10 * n + d
-    } else {
-        u64::MAX
-    }
-}
-
-fn digit_of(b: u8) -> u64
-    ensures { result ≡ b - 48 }
-{
-    if b'0' <= b { (b - b'0') as u64 } else { 0 }
+    at.saturating_add(1)
 }

@@ -1,5 +1,8 @@
 -- The parts of a field, as the code finds them. A field that is one is a bracket of two or three items; each item begins where the gap before it says, and
 -- the definition, taken apart by its outcomes, says what each is.
+use Rattle.refusal.specs.Answers.{answer}
+use Rattle.refusal.specs.declared.Refusal.{Refusal}
+use Rattle.std.specs.Prelude.{Err, Ok, Result}
 use Prim.Native.Nat.{ℕ, ◌+◌, ◌-◌, ◌<◌, ◌≤◌, ◌*◌}
 use native.Mathlib.Omega.{arith}
 use mathlib.Core.Path.{◌≡◌, refl, sym, ap, subst, ◌∙◌}
@@ -17,8 +20,6 @@ use Rattle.literal_grammar.specs.Value as value
 use Rattle.literal_grammar.specs.Value.{Value, Values}
 use Rattle.dtype.specs.Dtype.{Dtype, size_of}
 use Rattle.type_str.specs.declared.TypeStr.{TypeStr}
-use Rattle.type_str.specs.declared.TypeRead.{TypeRead}
-use Rattle.type_str.specs.Answer.{answer}
 use Rattle.record.specs.Parts.{string_or, members_or}
 use Rattle.record.specs.Dimensions.{sub_shape}
 use Rattle.record.specs.Descr.{Field, arrays, two_or_three, perhaps, descr_of, field_of, named_of, typed_of}
@@ -75,9 +76,9 @@ pub record FilledField (e entry up byte : ℕ) (f : Field) (table names table' n
   pub names_after : names' ≡ sets names byte (f.name ++ names_of f.type [])
 
 -- an answer that means a type is that type
-pub read_back : (r : TypeRead) (t : TypeStr) → answer r ≡ gives t → r ≡ TypeRead.Read t
-read_back (TypeRead.Read u) t h = let z : u ≡ t = cc in ap TypeRead.Read z
-read_back (TypeRead.Refused why) t h = refused_gives h
+pub read_back : (r : Result TypeStr Refusal) (t : TypeStr) → answer r ≡ gives t → r ≡ Ok t
+read_back (Ok u) t h = let z : u ≡ t = cc in ap Ok z
+read_back (Err why) t h = refused_gives h
 
 -- ---- rows
 module _ {A : Type 0} (rd : ℕ → Got A) (s : List ℕ) (close : ℕ) where

@@ -1,4 +1,7 @@
 -- From the text read with lent rooms to the header after its prefix, and to the whole file.
+use Rattle.refusal.specs.Answers.{answer}
+use Rattle.header.specs.declared.Header.{Header}
+use Rattle.std.specs.Prelude.{Err, Ok, Result}
 use Prim.Native.Nat.{ℕ, ◌+◌, ◌-◌, ◌<◌, ◌≤◌}
 use native.Mathlib.Omega.{arith}
 use mathlib.Core.Path.{◌≡◌, refl, sym, ap, subst, ◌∙◌}
@@ -17,9 +20,7 @@ use Rattle.header_prefix.specs.declared.Prefix as before
 use Rattle.header_prefix.specs.Answer.{version_is, prefix_is}
 use Rattle.judge.specs.Judged.{reading}
 use Rattle.header.specs.declared.RecordInfo.{RecordInfo}
-use Rattle.header.specs.declared.TextRead.{TextRead}
-use Rattle.header.specs.declared.HeaderRead.{HeaderRead}
-use Rattle.header.specs.Reads.{info_of, text_answer, ReadsText, HeaderInfo, header_info, answer, after_prefix, held_into, ReadsAfterPrefix, ReadsHeld}
+use Rattle.header.specs.Reads.{info_of, ReadsText, HeaderInfo, header_info, header_answer, after_prefix, held_into, ReadsAfterPrefix, ReadsHeld}
 
 -- ---- after the prefix
 pub start_small : (v : Version) → text_start v ≤ 12
@@ -62,11 +63,11 @@ module _ (longer : Bool) (file : List ℕ) (p : Prefix) (l : Lent) where
   filled_each (gives r) = refl
   filled_each (refused n) = refl
 
-  pub after_missing : (f : Refusal) → number_of f ≡ missing longer → length file < data_start_of p → ReadsAfterPrefix longer file p l (HeaderRead.Refused f) l
+  pub after_missing : (f : Refusal) → number_of f ≡ missing longer → length file < data_start_of p → ReadsAfterPrefix longer file p l (Err f) l
   unfolding text_held
   after_missing f e lt = let z = lt-ltb (length file) (data_start_of p) lt in record { answered = rw (text_held, z) (ap refused e); after = rw (text_held, z) refl }
 
-  after_by : data_start_of p ≤ length file → (x : TextRead) (l' : Lent) (y : HeaderRead) → ReadsText words l x l' → answer y ≡ each (header_info_of p) (text_answer x) → ReadsAfterPrefix longer file p l y l'
+  after_by : data_start_of p ≤ length file → (x : Result RecordInfo Refusal) (l' : Lent) (y : Result Header Refusal) → ReadsText words l x l' → header_answer y ≡ each (header_info_of p) (answer x) → ReadsAfterPrefix longer file p l y l'
   after_by le x l' y h e =
       let o = header.text_by reading words l in
       record {
@@ -75,7 +76,7 @@ module _ (longer : Bool) (file : List ℕ) (p : Prefix) (l : Lent) where
       }
 
 -- the same, of what the code has in hand
-module _ (longer : Bool) (file : List ℕ) (p : before.Prefix) (l l' : Lent) (start : ℕ) (at : start ≡ text_start (version_is p.version)) (le : start + p.length ≤ length file) (x : TextRead) (h : ReadsText (take (start + p.length - start) (drop start file)) l x l') where
+module _ (longer : Bool) (file : List ℕ) (p : before.Prefix) (l l' : Lent) (start : ℕ) (at : start ≡ text_start (version_is p.version)) (le : start + p.length ≤ length file) (x : Result RecordInfo Refusal) (h : ReadsText (take (start + p.length - start) (drop start file)) l x l') where
   start_is : start + p.length ≡ data_start_of (prefix_is p)
   start_is = ap (λ (n : ℕ). n + p.length) at
 
@@ -87,25 +88,25 @@ module _ (longer : Bool) (file : List ℕ) (p : before.Prefix) (l l' : Lent) (st
   reaches : data_start_of (prefix_is p) ≤ length file
   reaches = subst (λ (n : ℕ). n ≤ length file) start_is le
 
-  pub after_read : (s : RecordInfo) → x ≡ TextRead.Read s → ReadsAfterPrefix longer file (prefix_is p) l (HeaderRead.Read (record { version = p.version; info = s; start = record { 0 = start + p.length } })) l'
+  pub after_read : (s : RecordInfo) → x ≡ Ok s → ReadsAfterPrefix longer file (prefix_is p) l (Ok (record { version = p.version; info = s; start = record { 0 = start + p.length } })) l'
   after_read s e =
       after_by longer file (prefix_is p) l reaches x l' _ words_read
-      (ap (λ (n : ℕ). gives (record { version = version_is p.version; info = s; data_start = n })) start_is ∙ sym (ap (λ (y : TextRead). each (header_info_of (prefix_is p)) (text_answer y)) e))
+      (ap (λ (n : ℕ). gives (record { version = version_is p.version; info = s; data_start = n })) start_is ∙ sym (ap (λ (y : Result RecordInfo Refusal). each (header_info_of (prefix_is p)) (answer y)) e))
 
-  pub after_refused : (f : Refusal) → x ≡ TextRead.Refused f → ReadsAfterPrefix longer file (prefix_is p) l (HeaderRead.Refused f) l'
-  after_refused f e = after_by longer file (prefix_is p) l reaches x l' (HeaderRead.Refused f) words_read (sym (ap (λ (y : TextRead). each (header_info_of (prefix_is p)) (text_answer y)) e))
+  pub after_refused : (f : Refusal) → x ≡ Err f → ReadsAfterPrefix longer file (prefix_is p) l (Err f) l'
+  after_refused f e = after_by longer file (prefix_is p) l reaches x l' (Err f) words_read (sym (ap (λ (y : Result RecordInfo Refusal). each (header_info_of (prefix_is p)) (answer y)) e))
 
 -- ---- the file
 module _ (longer : Bool) (file : List ℕ) (l : Lent) where
   held_then : (o : Outcome Prefix) → prefix file ≡ o → held_into longer file l ≡ then o (λ p. after_prefix longer file p l)
   held_then o e = ap (λ (x : Outcome Prefix). then x (λ p. after_prefix longer file p l)) e
 
-  pub held_read : (p : Prefix) (x : HeaderRead) (l' : Lent) → gives p ≡ prefix file → ReadsAfterPrefix longer file p l x l' → ReadsHeld longer file l x l'
+  pub held_read : (p : Prefix) (x : Result Header Refusal) (l' : Lent) → gives p ≡ prefix file → ReadsAfterPrefix longer file p l x l' → ReadsHeld longer file l x l'
   held_read p x l' e h =
       let z = held_then (gives p) (sym e) in
       record { answered = h.answered ∙ ap (each header_info) (sym z); after = h.after ∙ ap (λ (o : Outcome header.Header). afterwards header.holding_header o l) (sym z) }
 
-  pub held_refused : (f : Refusal) → refused (number_of f) ≡ prefix file → ReadsHeld longer file l (HeaderRead.Refused f) l
+  pub held_refused : (f : Refusal) → refused (number_of f) ≡ prefix file → ReadsHeld longer file l (Err f) l
   held_refused f e =
       let z = held_then (refused (number_of f)) (sym e) in
       record { answered = ap (each header_info) (sym z); after = ap (λ (o : Outcome header.Header). afterwards header.holding_header o l) (sym z) }

@@ -1,5 +1,6 @@
 -- The filling walk on plain values. A descr is a type string or a list of fields. What is kept along the fields: what is left to put on the table and on
 -- the names as they are gives the due table and the due names. A record's entry comes after its fields, a field's levels after its type.
+use Rattle.refusal.specs.Answers.{answer}
 use Prim.Native.Nat.{ℕ, suc, ◌+◌, ◌-◌, ◌*◌, ◌^◌, ◌<◌, ◌≤◌}
 use native.Mathlib.Omega.{arith}
 use mathlib.Core.Path.{◌≡◌, refl, sym, ap, subst, ◌∙◌}
@@ -22,7 +23,6 @@ use Rattle.counts.proofs.Apart.{refused_gives}
 use Rattle.dtype.specs.EntryOf.{entry_of, entry_numbers}
 use Rattle.dtype.proofs.Flat.{some_entry_lem, flat_length, names_length}
 use Rattle.type_str.specs.declared.TypeStr.{TypeStr}
-use Rattle.type_str.specs.Answer.{answer}
 use Rattle.type_str.specs.TypeString.{type_string}
 use Rattle.record.specs.Descr.{Field, arrays, descr_of, field_of, fields_of}
 use Rattle.record.proofs.Levels.{arrays_entries, arrays_names, arrays_name_bytes}

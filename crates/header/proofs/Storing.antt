@@ -1,5 +1,6 @@
 -- An accepted record and its rooms: where 13 is not given no field has over 32 array levels, the totals are the record's own, 23 is what the code tests, and
 -- rooms that are filled from their front hold the record.
+use Rattle.std.specs.Prelude.{Err, Ok}
 use Prim.Native.Nat.{ℕ, ◌*◌, ◌/◌, ◌≤◌}
 use native.Mathlib.Omega.{arith}
 use mathlib.Core.Path.{◌≡◌, refl, sym, ap, ◌∙◌}
@@ -35,7 +36,6 @@ use Rattle.judge.specs.Judged.{inside, PlanOf}
 use Rattle.header.specs.Filled.{DueAt, Fills, Narrow, NarrowIn}
 use Rattle.header.specs.declared.fill.DescrFilled.{DescrFilled}
 use Rattle.header.specs.declared.RecordInfo.{RecordInfo}
-use Rattle.header.specs.declared.TextRead.{TextRead}
 use Rattle.header.specs.Reads.{lent, info_of, Stores}
 
 -- ---- 13
@@ -113,7 +113,7 @@ module _ (text : List ℕ) (plan : FoundRecord) (r : Record) (h : PlanOf text (s
     small_is : small ≡ too_small (rooms_of l) (needs r)
     small_is = ap (too_small (rooms_of l)) (rooms_eq entries_is names_is rank_is)
 
-    pub store_23 : small ≡ true → Stores r l (TextRead.Refused Refusal.Room) l
+    pub store_23 : small ≡ true → Stores r l (Err Refusal.Room) l
     store_23 e =
         let z : too_small (rooms_of l) (needs r) ≡ true = sym small_is ∙ e in
         record { answered = rw z refl; after = rw z refl }
@@ -160,7 +160,7 @@ module _ (text : List ℕ) (plan : FoundRecord) (r : Record) (h : PlanOf text (s
 
       pub store_fits :
           (spot : DescrFilled) (count : DimsStored) (t' n' s' : List ℕ) → Fills inside text plan.descr.at 0 0 0 0 t ns t' n' spot → FillsShape (value inside text plan.shape.at) s count s'
-          → Stores r l (TextRead.Read (record { order = plan.order; rank = plan.shape.outline.rank; entries = plan.descr.totals.entries; names = plan.descr.totals.names })) (lent t' n' s')
+          → Stores r l (Ok (record { order = plan.order; rank = plan.shape.outline.rank; entries = plan.descr.totals.entries; names = plan.descr.totals.names })) (lent t' n' s')
       unfolding fill_due
       store_fits spot count t' n' s' f g =
           let a = f fill_due.0 fill_due.1 fill_due.2 fill_due.3 in

@@ -14,7 +14,7 @@ ghost use Rattle.judge.specs.Judged.{PlanOf};
 ghost use Rattle.header.specs.Reads.{lent, Stores};
 ghost use Rattle.header.specs.Filled.{DueHead, Headed, DueShapeAt, Shapes, DueAt, Fills, DuePlainAt, FillsPlain, DueFieldsFrom, FillsFields};
 
-use crate::{RecordInfo, TextRead};
+use crate::RecordInfo;
 use counts::Bytes;
 use descr_field::{closing_at, place_of, string_at, typed_at};
 use dtype::MOST_DIMENSIONS;
@@ -62,7 +62,7 @@ pub(crate) fn store_record(
     table: &mut [u64],
     names: &mut [u8],
     shape: &mut [u64],
-) -> TextRead
+) -> Result<RecordInfo, Refusal>
     requires { (r : Record) × PlanOf text.now (skip text.now 0) plan r }
     ensures { (r : Record) → PlanOf text.now (skip text.now 0) plan r → Stores r (lent table.old names.old shape.old) result (lent table.new names.new shape.new) }
 {
@@ -75,11 +75,11 @@ pub(crate) fn store_record(
     let entries = totals.entries as usize;
     let bytes = totals.names as usize;
     if too_small(table.len(), names.len(), shape.len(), entries, bytes, rank) {
-        return TextRead::Refused(Refusal::Room);
+        return Err(Refusal::Room);
     }
     fill(text, descr.at, MOST_OPEN - 1, table, 0, 0, 0, names, 0);
     shape_text::fill(text, shaped.at, MOST_OPEN - 1, shape);
-    TextRead::Read(RecordInfo {
+    Ok(RecordInfo {
         order: order,
         rank: rank,
         entries: entries,

@@ -12,8 +12,7 @@ ghost use Rattle.header.specs.Reads.{lent, Reads, ReadsHeld, ReadsAfterPrefix, R
 
 use counts::Bytes;
 use dtype::Order;
-use header_prefix::{Prefix, PrefixRead, Version, text_start};
-use judge::Judged;
+use header_prefix::{Prefix, Version, text_start};
 use refusal::Refusal;
 
 // What is known of a record beside its table, names and shape, which are in the lent rooms: its order, and how much of each room it takes.
@@ -25,12 +24,6 @@ pub struct RecordInfo {
     pub names: usize,
 }
 
-#[derive(Clone, Copy)]
-pub enum TextRead {
-    Read(RecordInfo),
-    Refused(Refusal),
-}
-
 // A file's header: its version, what is known of its record beside the lent rooms, and where the data starts.
 #[derive(Clone, Copy)]
 pub struct Header {
@@ -39,14 +32,14 @@ pub struct Header {
     pub start: Bytes,
 }
 
-#[derive(Clone, Copy)]
-pub enum HeaderRead {
-    Read(Header),
-    Refused(Refusal),
-}
-
-// The header that a whole file begins with. Its record's table, names and shape are written to the front of the lent rooms.
-pub fn read(file: &[u8], table: &mut [u64], names: &mut [u8], shape: &mut [u64]) -> HeaderRead
+// The header that a whole file begins with. Its record's table, names and shape are written to the front of the lent rooms. (The rooms are three parameters: with one struct of three `&mut`
+// slices each function would have to promise too, for each of its fields, that it is still the caller's reference.)
+pub fn read(
+    file: &[u8],
+    table: &mut [u64],
+    names: &mut [u8],
+    shape: &mut [u64],
+) -> Result<Header, Refusal>
     ensures { Reads file.now (lent table.old names.old shape.old) result (lent table.new names.new shape.new) }
 {
     read_held(file, false, table, names, shape)
@@ -59,13 +52,11 @@ pub fn read_held(
     table: &mut [u64],
     names: &mut [u8],
     shape: &mut [u64],
-) -> HeaderRead
+) -> Result<Header, Refusal>
     ensures { ReadsHeld longer file.now (lent table.old names.old shape.old) result (lent table.new names.new shape.new) }
 {
-    match header_prefix::read(file) {
-        PrefixRead::Read(p) => read_after_prefix(file, longer, p, table, names, shape),
-        PrefixRead::Refused(why) => HeaderRead::Refused(why),
-    }
+    let p = header_prefix::read(file)?;
+    read_after_prefix(file, longer, p, table, names, shape)
 }
 
 // The header after its prefix: 3 or 23 where the text is not all there.
@@ -76,24 +67,21 @@ fn read_after_prefix(
     table: &mut [u64],
     names: &mut [u8],
     shape: &mut [u64],
-) -> HeaderRead
+) -> Result<Header, Refusal>
     requires { p.length ≤ most_text }
     ensures { ReadsAfterPrefix longer file.now (prefix_is p) (lent table.old names.old shape.old) result (lent table.new names.new shape.new) }
 {
-    let version = p.version;
-    let start = text_start(version);
+    let start = text_start(p.version);
     let end = start + p.length;
     if file.len() < end {
-        return HeaderRead::Refused(missing(longer));
+        return Err(missing(longer));
     }
-    match read_text(&file[start..end], table, names, shape) {
-        TextRead::Read(info) => HeaderRead::Read(Header {
-            version: version,
-            info: info,
-            start: Bytes(end as u64),
-        }),
-        TextRead::Refused(why) => HeaderRead::Refused(why),
-    }
+    let info = read_text(&file[start..end], table, names, shape)?;
+    Ok(Header {
+        version: p.version,
+        info,
+        start: Bytes(end as u64),
+    })
 }
 
 // Why a text is not all there: it is not held, or the file ends before it does.
@@ -108,11 +96,14 @@ fn missing(longer: bool) -> Refusal
 }
 
 // The record of a header's text: the text is judged first, so that nothing is written before the last refusal is ruled out.
-pub fn read_text(text: &[u8], table: &mut [u64], names: &mut [u8], shape: &mut [u64]) -> TextRead
+pub fn read_text(
+    text: &[u8],
+    table: &mut [u64],
+    names: &mut [u8],
+    shape: &mut [u64],
+) -> Result<RecordInfo, Refusal>
     ensures { ReadsText text.now (lent table.old names.old shape.old) result (lent table.new names.new shape.new) }
 {
-    match judge::judge(text) {
-        Judged::Fits(plan) => fill::store_record(text, plan, table, names, shape),
-        Judged::Refused(why) => TextRead::Refused(why),
-    }
+    let plan = judge::judge(text)?;
+    fill::store_record(text, plan, table, names, shape)
 }

@@ -1,4 +1,5 @@
 -- What a call owes, of what its steps have in hand.
+use Rattle.std.specs.Prelude.{Err, Ok, Result}
 use Prim.Native.Nat.{ℕ, ◌+◌, ◌-◌, ◌<◌, ◌≤◌, min}
 use native.Mathlib.Omega.{arith}
 use mathlib.Core.Path.{◌≡◌, refl, ap, sym, ◌∙◌, subst}
@@ -24,8 +25,7 @@ use Rattle.header_feed.specs.declared.Feeding.{Feeding}
 use Rattle.header_feed.specs.declared.Grows.{Grows}
 use Rattle.header_feed.specs.Due.{header_with, decided, used, start_in}
 use Rattle.header_prefix.specs.declared.Prefix as before
-use Rattle.header_prefix.specs.declared.PrefixRead.{PrefixRead}
-use Rattle.header_prefix.specs.Answer.{prefix_is, answer as prefix_answer}
+use Rattle.header_prefix.specs.Answer.{prefix_is, prefix_answer}
 use Rattle.header_feed.specs.Feeds.{outcome, progress, so_far, After, TakesPart, Stays, FeedsAs, Feeds, cut_short, Ends}
 use Rattle.header_feed.specs.Steps.{BytesHeld, HeadTaken, TakesHead, PrefixWhole, RestTaken, TakesText, ReadsWhole}
 use Rattle.header_feed.proofs.Prefixes.{Whole, given_whole, given_stays}
@@ -258,21 +258,21 @@ module _ (head : List ℕ) (taken : ℕ) (part text : List ℕ) (l : Lent) (long
   pub part_short : r.taken < 8 → (s : Feeding) → s ≡ after r.head r.taken r.used Fed.More → TakesPart head taken part text l s text l
   part_short k s i = subst (λ (z : Feeding). TakesPart head taken part text l z text l) (sym i) (takes_short head taken part text l r heads k)
 
-  module _ (x : PrefixRead) (a : prefix_answer x ≡ prefix (take (min r.taken (start_in r.head)) r.head)) where
+  module _ (x : Result before.Prefix Refusal) (a : prefix_answer x ≡ prefix (take (min r.taken (start_in r.head)) r.head)) where
     so : prefix_answer x ≡ prefix (so_far head taken text ++ take r.used part)
     so = a ∙ held_prefix head text (so_far head taken text ++ take r.used part) r.head r.taken heads.held
 
-    pub part_three : (f : Refusal) (b : Bool) → x ≡ PrefixRead.Refused f → b ≡ eqb (number_of f) 3 → b ≡ true → (s : Feeding) → s ≡ after r.head r.taken r.used Fed.More → TakesPart head taken part text l s text l
+    pub part_three : (f : Refusal) (b : Bool) → x ≡ Err f → b ≡ eqb (number_of f) 3 → b ≡ true → (s : Feeding) → s ≡ after r.head r.taken r.used Fed.More → TakesPart head taken part text l s text l
     part_three f b e n t s i =
         subst (λ (z : Feeding). TakesPart head taken part text l z text l) (sym i)
         (takes_three head taken part text l r heads (is_three x (prefix (so_far head taken text ++ take r.used part)) f b so e n t))
 
-    pub part_refused : 8 ≤ r.taken → (f : Refusal) (b : Bool) → x ≡ PrefixRead.Refused f → b ≡ eqb (number_of f) 3 → b ≡ false → (s : Feeding) → s ≡ after r.head r.taken r.used (Fed.Refused f) → TakesPart head taken part text l s text l
+    pub part_refused : 8 ≤ r.taken → (f : Refusal) (b : Bool) → x ≡ Err f → b ≡ eqb (number_of f) 3 → b ≡ false → (s : Feeding) → s ≡ after r.head r.taken r.used (Fed.Refused f) → TakesPart head taken part text l s text l
     part_refused eight f b e n t s i =
         subst (λ (z : Feeding). TakesPart head taken part text l z text l) (sym i)
         (takes_refused head taken part text l r heads f eight (is_refused x (prefix (so_far head taken text ++ take r.used part)) f so e) (no_three x f b n t))
 
-    module _ (p : before.Prefix) (e : x ≡ PrefixRead.Read p) where
+    module _ (p : before.Prefix) (e : x ≡ Ok p) where
       given : prefix (so_far head taken text ++ take r.used part) ≡ gives (prefix_is p)
       given = is_given x (prefix (so_far head taken text ++ take r.used part)) p so e
 

@@ -1,4 +1,4 @@
--- What the loop of `copy` keeps: the first i bytes are copied.
+-- What a loop that copies keeps: the first i bytes are copied. (npy_codes copies a head so.)
 use Prim.Native.Nat.{ℕ, ◌+◌, ◌<◌, ◌≤◌}
 use native.Mathlib.Omega.{arith}
 use native.Mathlib.Numerals.{add-one}

@@ -1,4 +1,6 @@
 -- A text that is complete, as `header::read_text` answers it, is what is said of its header; and the head's bytes as `grow` stores them.
+use Rattle.refusal.specs.Answers.{answer}
+use Rattle.std.specs.Prelude.{Err, Ok, Result}
 use Prim.Native.Nat.{ℕ, ◌+◌, ◌-◌, ◌≤◌, min}
 use native.Mathlib.Omega.{arith}
 use mathlib.Core.Path.{◌≡◌, refl, ap, sym, ◌∙◌}
@@ -19,11 +21,9 @@ use Rattle.record.specs.Header as header
 use Rattle.judge.specs.Judged.{reading}
 use Rattle.header_prefix.specs.declared.Version.{Version}
 use Rattle.header_prefix.specs.declared.Prefix as before
-use Rattle.header_prefix.specs.declared.PrefixRead.{PrefixRead}
-use Rattle.header_prefix.specs.Answer.{version_is, prefix_is, answer as prefix_answer}
+use Rattle.header_prefix.specs.Answer.{version_is, prefix_is, prefix_answer}
 use Rattle.header.specs.declared.RecordInfo.{RecordInfo}
-use Rattle.header.specs.declared.TextRead.{TextRead}
-use Rattle.header.specs.Reads.{HeaderInfo, header_info, info_of, text_answer, ReadsText}
+use Rattle.header.specs.Reads.{HeaderInfo, header_info, info_of, ReadsText}
 use Rattle.header_feed.specs.declared.Fed.{Fed}
 use Rattle.header_feed.specs.Feeds.{outcome, progress}
 use Rattle.header_feed.specs.Steps.{Grown, ReadsWhole}
@@ -64,7 +64,7 @@ module _ (v : Version) (text : List ℕ) (l l' : Lent) where
   holding_each (gives r) = refl
   holding_each (refused n) = refl
 
-  reads_by : (x : TextRead) (f : Fed) → ReadsText text l x l' → progress f ≡ outcome (each (info_after p) (text_answer x)) → ReadsWhole (version_is v) text l f l'
+  reads_by : (x : Result RecordInfo Refusal) (f : Fed) → ReadsText text l x l' → progress f ≡ outcome (each (info_after p) (answer x)) → ReadsWhole (version_is v) text l f l'
   reads_by x f h e =
       let o = header.text_by reading text l in
       let z = record_then (header.record_in reading text) in
@@ -73,11 +73,11 @@ module _ (v : Version) (text : List ℕ) (l l' : Lent) where
         after = h.after ∙ sym (holding_each o) ∙ ap (λ (u : Outcome header.Header). afterwards header.holding_header u l) (sym z);
       }
 
-  pub reads_given : (x : TextRead) (i : RecordInfo) (start : ℕ) → ReadsText text l x l' → x ≡ TextRead.Read i → start ≡ text_start (version_is v)
+  pub reads_given : (x : Result RecordInfo Refusal) (i : RecordInfo) (start : ℕ) → ReadsText text l x l' → x ≡ Ok i → start ≡ text_start (version_is v)
       → ReadsWhole (version_is v) text l (Fed.Read (record { version = v; info = i; start = record { 0 = start + length text } })) l'
   reads_given x i start h e at = reads_by x _ h (rw (e, at))
 
-  pub reads_refused : (x : TextRead) (r : Refusal) → ReadsText text l x l' → x ≡ TextRead.Refused r → ReadsWhole (version_is v) text l (Fed.Refused r) l'
+  pub reads_refused : (x : Result RecordInfo Refusal) (r : Refusal) → ReadsText text l x l' → x ≡ Err r → ReadsWhole (version_is v) text l (Fed.Refused r) l'
   reads_refused x r h e = reads_by x _ h (rw e)
 
 -- ---- `grow`
@@ -99,21 +99,21 @@ grown_some head had upto part from n y e f =
     record { head_is = g ∙ ap (paste head had (drop from part)) m; taken_is = ap (λ (k : ℕ). had + k) m; used_is = ap (λ (k : ℕ). from + k) m }
 
 -- ---- the answers of `prefix_in`, and of `is_incomplete`
-module _ (x : PrefixRead) where
-  pub read_no_three : (p : before.Prefix) → x ≡ PrefixRead.Read p → prefix_answer x ≡ refused 3 → ⊥
+module _ (x : Result before.Prefix Refusal) where
+  pub read_no_three : (p : before.Prefix) → x ≡ Ok p → prefix_answer x ≡ refused 3 → ⊥
   read_no_three p e q = let z : ◌≡◌ {A = ℕ} 0 1 = cc (ap prefix_answer e) in omega arith
 
   pub no_three : (r : Refusal) (b : Bool) → b ≡ eqb (number_of r) 3 → b ≡ false → number_of r ≡ 3 → ⊥
   no_three r b f n = eqb-false (number_of r) 3 (sym f ∙ n)
 
-  pub other_no_three : (r : Refusal) (b : Bool) → x ≡ PrefixRead.Refused r → b ≡ eqb (number_of r) 3 → b ≡ false → prefix_answer x ≡ refused 3 → ⊥
+  pub other_no_three : (r : Refusal) (b : Bool) → x ≡ Err r → b ≡ eqb (number_of r) 3 → b ≡ false → prefix_answer x ≡ refused 3 → ⊥
   other_no_three r b e f n q = let z : number_of r ≡ 3 = cc (ap prefix_answer e) in no_three r b f n z
 
-  pub is_three : (o : Outcome Prefix) (r : Refusal) (b : Bool) → prefix_answer x ≡ o → x ≡ PrefixRead.Refused r → b ≡ eqb (number_of r) 3 → b ≡ true → refused 3 ≡ o
+  pub is_three : (o : Outcome Prefix) (r : Refusal) (b : Bool) → prefix_answer x ≡ o → x ≡ Err r → b ≡ eqb (number_of r) 3 → b ≡ true → refused 3 ≡ o
   is_three o r b a e f t = ap refused (sym (eqb-true (number_of r) 3 (sym f ∙ t))) ∙ sym (ap prefix_answer e) ∙ a
 
-  pub is_refused : (o : Outcome Prefix) (r : Refusal) → prefix_answer x ≡ o → x ≡ PrefixRead.Refused r → refused (number_of r) ≡ o
+  pub is_refused : (o : Outcome Prefix) (r : Refusal) → prefix_answer x ≡ o → x ≡ Err r → refused (number_of r) ≡ o
   is_refused o r a e = sym (ap prefix_answer e) ∙ a
 
-  pub is_given : (o : Outcome Prefix) (p : before.Prefix) → prefix_answer x ≡ o → x ≡ PrefixRead.Read p → o ≡ gives (prefix_is p)
+  pub is_given : (o : Outcome Prefix) (p : before.Prefix) → prefix_answer x ≡ o → x ≡ Ok p → o ≡ gives (prefix_is p)
   is_given o p a e = sym a ∙ ap prefix_answer e

@@ -6,15 +6,15 @@ ghost use Rattle.std.specs.Prelude.{◌≡◌, ◌+◌, ◌-◌, ◌^◌, ◌≤
 ghost use Rattle.std.proofs.Math.Seq.{paste};
 ghost use Rattle.refusal.specs.Numbers.{number_of};
 ghost use Rattle.record.specs.Prefix.{prefix};
-ghost use Rattle.header_prefix.specs.Answer.{version_is, prefix_is, answer};
+ghost use Rattle.header_prefix.specs.Answer.{version_is, prefix_is, prefix_answer};
 ghost use Rattle.header.specs.Reads.{lent};
 ghost use Rattle.header_feed.specs.Due.{start_in};
 ghost use Rattle.header_feed.specs.Feeds.{fresh_feeder, Feeds, TakesPart, cut_short, Ends};
 ghost use Rattle.header_feed.specs.Steps.{Grown, TakesHead, PrefixWhole, TakesText, ReadsWhole};
 
 use counts::Bytes;
-use header::{Header, TextRead};
-use header_prefix::{Prefix, PrefixRead, Version, text_start};
+use header::Header;
+use header_prefix::{Prefix, Version, text_start};
 use refusal::Refusal;
 
 // How many bytes come before the text at most.
@@ -23,7 +23,7 @@ pub const HEAD: usize = 12;
 // How many bytes the magic and the version have.
 const FIRST: usize = 8;
 
-// What a feeder says: need more; the header; or a refusal, 36 or one of the whole-slice reader's.
+// What a feeder says: need more; the header; or a refusal, 36 or one of the whole-slice reader's. (Three cases with names of their own: an `Option` of a `Result` would say none of them.)
 #[derive(Clone, Copy)]
 pub enum Fed {
     More,
@@ -78,11 +78,8 @@ pub fn feed(
 ) -> Feeding
     ensures { Feeds f part.now text.old (lent table.old names.old shape.old) result text.new (lent table.new names.new shape.new) }
 {
-    let said = f.said;
-    let head = f.head;
-    let taken = f.taken;
-    match said {
-        Fed::More => take_part(head, taken, part, text, table, names, shape),
+    match f.said {
+        Fed::More => take_part(f.head, f.taken, part, text, table, names, shape),
         Fed::Read(_) => Feeding { feeder: f, used: 0 },
         Fed::Refused(_) => Feeding { feeder: f, used: 0 },
     }
@@ -92,14 +89,10 @@ pub fn feed(
 pub fn end(f: Feeder) -> Feeder
     ensures { Ends f result }
 {
-    let said = f.said;
-    let head = f.head;
-    let taken = f.taken;
-    match said {
+    match f.said {
         Fed::More => Feeder {
-            head,
-            taken,
-            said: Fed::Refused(cut_short(taken)),
+            said: Fed::Refused(cut_short(f.taken)),
+            ..f
         },
         Fed::Read(_) => f,
         Fed::Refused(_) => f,
@@ -138,8 +131,8 @@ fn take_part(
         return after(bytes, got, used, Fed::More);
     }
     match prefix_in(bytes, got) {
-        PrefixRead::Read(p) => take_text(bytes, p, got, part, used, text, table, names, shape),
-        PrefixRead::Refused(why) => {
+        Ok(p) => take_text(bytes, p, got, part, used, text, table, names, shape),
+        Err(why) => {
             if is_incomplete(why) {
                 after(bytes, got, used, Fed::More)
             } else {
@@ -154,7 +147,7 @@ fn held(head: [u8; HEAD], taken: usize, buffer: usize) -> usize
     requires { buffer < 2 ^ 63 }
     ensures { result ≡ min taken (start_in head + buffer) }
 {
-    least(taken, start_in(head) + buffer)
+    taken.min(start_in(head) + buffer)
 }
 
 // Where the text starts: 10 for (1,0), else 12.
@@ -169,10 +162,10 @@ fn start_in(head: [u8; HEAD]) -> usize
 }
 
 // The prefix of a head of which so many bytes were taken.
-fn prefix_in(head: [u8; HEAD], got: usize) -> PrefixRead
-    ensures { answer result ≡ prefix (take (min got (start_in head)) head) }
+fn prefix_in(head: [u8; HEAD], got: usize) -> Result<Prefix, Refusal>
+    ensures { prefix_answer result ≡ prefix (take (min got (start_in head)) head) }
 {
-    let n = least(got, start_in(head));
+    let n = got.min(start_in(head));
     header_prefix::read(&head[..n])
 }
 
@@ -194,8 +187,8 @@ fn fill_head(head: [u8; HEAD], had: usize, part: &[u8]) -> Grows
         return a;
     }
     match prefix_in(bytes, first) {
-        PrefixRead::Read(_) => a,
-        PrefixRead::Refused(why) => {
+        Ok(_) => a,
+        Err(why) => {
             if is_incomplete(why) {
                 grow(bytes, first, start_in(bytes), part, a.used)
             } else {
@@ -218,7 +211,7 @@ fn grow(head: [u8; HEAD], had: usize, upto: usize, part: &[u8], used: usize) -> 
         };
     }
     let rest = &part[used..];
-    let n = least(upto - had, rest.len());
+    let n = (upto - had).min(rest.len());
     let mut bytes = head;
     copy(&mut bytes, had, rest, n);
     Grows {
@@ -251,7 +244,7 @@ fn take_text(
     let start = text_start(version);
     let stored = got - start;
     let rest = &part[used..];
-    let n = least(less(length, stored), rest.len());
+    let n = length.saturating_sub(stored).min(rest.len());
     copy(text, stored, rest, n);
     if stored + n < length {
         return after(head, got + n, used + n, Fed::More);
@@ -271,12 +264,12 @@ fn read_whole(
     ensures { ReadsWhole (version_is version) text.now (lent table.old names.old shape.old) result (lent table.new names.new shape.new) }
 {
     match header::read_text(text, table, names, shape) {
-        TextRead::Read(info) => Fed::Read(Header {
+        Ok(info) => Fed::Read(Header {
             version,
             info,
             start: Bytes((text_start(version) + text.len()) as u64),
         }),
-        TextRead::Refused(why) => Fed::Refused(why),
+        Err(why) => Fed::Refused(why),
     }
 }
 
@@ -290,27 +283,10 @@ fn after(head: [u8; HEAD], taken: usize, used: usize, said: Fed) -> Feeding
     }
 }
 
-fn least(a: usize, b: usize) -> usize
-    ensures { result ≡ min a b }
-{
-    if a < b { a } else { b }
-}
-
-// The difference, or 0.
-fn less(a: usize, b: usize) -> usize
-    ensures { result ≡ a - b }
-{
-    if b < a { a - b } else { 0 }
-}
-
 // Stores the first n bytes of `from` in `out`, from `at` on.
 fn copy(out: &mut [u8], at: usize, from: &[u8], n: usize)
     requires { (at + n ≤ length out.old) × (n ≤ length from.now) }
     ensures { out.new ≡ paste out.old at from.now n }
 {
-    let mut i: usize = 0;
-    while i < n {
-        out[at + i] = from[i];
-        i += 1;
-    }
+    out[at..at + n].copy_from_slice(&from[..n]);
 }

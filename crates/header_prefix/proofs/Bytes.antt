@@ -1,35 +1,21 @@
 -- The six bytes of magic, the two of the version and the length field, as the code tests them, and the order of 1 to 4.
+use Rattle.std.specs.Prelude.{None, Some, Option}
 use Prim.Native.Nat.{ℕ, ◌-◌, ◌<◌, ◌≤◌}
 use native.Mathlib.Omega.{arith}
 use mathlib.Core.Path.{◌≡◌, refl, ap, ◌∙◌}
-use mathlib.Core.List.{List, [], ◌∷◌}
-use mathlib.Core.Bool.{true, false, ◌&&◌, and-false}
-use lib.Dec.{eqb}
+use mathlib.Core.List.{List}
+use mathlib.Core.Bool.{true, false}
 use lib.ListN.{length, get_or, take, drop}
-use borrow.Author.Tests.{lt-ltb, le-ltb, ne_eqb}
+use borrow.Author.Tests.{lt-ltb, le-ltb}
 use Rattle.counts.specs.Outcome.{gives, refused, then}
 use Rattle.counts.specs.Lists.{same}
 use Rattle.counts.specs.Number.{number}
-use Rattle.counts.specs.declared.Number.{Number}
-use Rattle.counts.specs.declared.Number.TheVariants.{Is, Over}
 use Rattle.counts.proofs.Fits.{number_is_back, number_over_back}
 use Rattle.type_letters.specs.declared.Endianness.TheVariants.{Little}
 use Rattle.number_bytes.specs.Numbers.{little, in_order}
 use Rattle.record.specs.Prefix.{Version, version_of, length_width, text_start, one_zero, two_zero, three_zero, magic, most_text, length_read, prefix}
 
 -- ---- 1
-pub magic_by :
-    (f : List ℕ) → 6 ≤ length f
-    → (((((eqb (get_or f 5 0) 0x59 && eqb (get_or f 4 0) 0x50) && eqb (get_or f 3 0) 0x4D) && eqb (get_or f 2 0) 0x55) && eqb (get_or f 1 0) 0x4E) && eqb (get_or f 0 0) 0x93)
-    ≡ same (take 6 f) magic
-magic_by [] h = absurd (omega (arith, h))
-magic_by (a ∷ []) h = absurd (omega (arith, h))
-magic_by (a ∷ b ∷ []) h = absurd (omega (arith, h))
-magic_by (a ∷ b ∷ c ∷ []) h = absurd (omega (arith, h))
-magic_by (a ∷ b ∷ c ∷ d ∷ []) h = absurd (omega (arith, h))
-magic_by (a ∷ b ∷ c ∷ d ∷ e ∷ []) h = absurd (omega (arith, h))
-magic_by (a ∷ b ∷ c ∷ d ∷ e ∷ x ∷ f) h = refl
-
 pub short_is_1 : (f : List ℕ) → length f < 8 → prefix f ≡ refused 1
 unfolding prefix
 short_is_1 f h = rw (lt-ltb (length f) 8 h) refl
@@ -58,22 +44,6 @@ module _ (v : Version) (f : List ℕ) where
   pub length_given : text_start v ≤ length f → field_length ≤ most_text → length_read v f ≡ gives (record { version = v; text_length = field_length })
   length_given le h = rw (le-ltb (length f) (text_start v) le, le-ltb most_text field_length h) refl
 
--- ---- the version's two bytes
-pub version_minor : (a b : ℕ) → (b ≡ 0 → ⊥) → version_of a b ≡ refused 2
-version_minor a b h = rw (ne_eqb b 0 h, and-false (eqb a 1), and-false (eqb a 2), and-false (eqb a 3)) refl
-
-pub version_one : (a b : ℕ) → a ≡ 1 → b ≡ 0 → version_of a b ≡ gives one_zero
-version_one a b ha hb = rw (ha, hb) refl
-
-pub version_two : (a b : ℕ) → a ≡ 2 → b ≡ 0 → version_of a b ≡ gives two_zero
-version_two a b ha hb = rw (ha, hb) refl
-
-pub version_three : (a b : ℕ) → a ≡ 3 → b ≡ 0 → version_of a b ≡ gives three_zero
-version_three a b ha hb = rw (ha, hb) refl
-
-pub version_major : (a b : ℕ) → (a ≡ 1 → ⊥) → (a ≡ 2 → ⊥) → (a ≡ 3 → ⊥) → version_of a b ≡ refused 2
-version_major a b h1 h2 h3 = rw (ne_eqb a 1 h1, ne_eqb a 2 h2, ne_eqb a 3 h3) refl
-
 -- ---- the length field
 pub width_few : (v : Version) → length_width v ≤ 4
 width_few one_zero = omega arith
@@ -85,17 +55,17 @@ width_of one_zero = refl
 width_of two_zero = refl
 width_of three_zero = refl
 
-pub field_number : (v : Version) (f : List ℕ) (start : ℕ) (r : Number) → start ≡ text_start v → r ≡ number (in_order Little (take (start - 8) (drop 8 f))) → r ≡ number (field_length v f)
+pub field_number : (v : Version) (f : List ℕ) (start : ℕ) (r : Option ℕ) → start ≡ text_start v → r ≡ number (in_order Little (take (start - 8) (drop 8 f))) → r ≡ number (field_length v f)
 unfolding in_order
 field_number v f start r hs h = h ∙ ap (λ w. number (little (take w (drop 8 f)))) (ap (λ x. x - 8) hs ∙ width_of v)
 
-pub over_is_4 : (v : Version) (f : List ℕ) → text_start v ≤ length f → number (field_length v f) ≡ Over → length_read v f ≡ refused 4
+pub over_is_4 : (v : Version) (f : List ℕ) → text_start v ≤ length f → number (field_length v f) ≡ None → length_read v f ≡ refused 4
 over_is_4 v f le h = let o = number_over_back (field_length v f) h in long_is_4 v f le (omega (arith, o))
 
-pub is_long_4 : (v : Version) (f : List ℕ) (n : ℕ) → text_start v ≤ length f → number (field_length v f) ≡ Is n → most_text < n → length_read v f ≡ refused 4
+pub is_long_4 : (v : Version) (f : List ℕ) (n : ℕ) → text_start v ≤ length f → number (field_length v f) ≡ Some n → most_text < n → length_read v f ≡ refused 4
 is_long_4 v f n le h lt = let o = number_is_back (field_length v f) n h in long_is_4 v f le (omega (arith, o.0))
 
-pub is_length : (v : Version) (f : List ℕ) (n : ℕ) → text_start v ≤ length f → number (field_length v f) ≡ Is n → n ≤ most_text → length_read v f ≡ gives (record { version = v; text_length = n })
+pub is_length : (v : Version) (f : List ℕ) (n : ℕ) → text_start v ≤ length f → number (field_length v f) ≡ Some n → n ≤ most_text → length_read v f ≡ gives (record { version = v; text_length = n })
 is_length v f n le h lt =
     let o = number_is_back (field_length v f) n h in
     length_given v f le (omega (arith, o.0)) ∙ ap (λ m. gives (record { version = v; text_length = m })) o.0

@@ -1,4 +1,7 @@
 -- No second outcome satisfies a statement of this crate's public functions; and the length of a text that was not refused is at most what document 01 allows.
+use Rattle.refusal.specs.declared.Refusal.{Refusal}
+use Rattle.header_prefix.specs.declared.Prefix.{Prefix}
+use Rattle.std.specs.Prelude.{Err, Ok, Result}
 use Prim.Native.Nat.{ℕ, ◌≤◌}
 use mathlib.Core.Path.{◌≡◌, refl, sym, ap, ◌∙◌}
 use mathlib.Core.List.{List}
@@ -16,8 +19,7 @@ use Rattle.refusal.proofs.Answers.{answer_for, answer_one}
 use Rattle.record.specs.Prefix as before
 use Rattle.number_bytes.specs.Numbers.{little}
 use Rattle.header_prefix.specs.declared.Version.{Version}
-use Rattle.header_prefix.specs.declared.PrefixRead.{PrefixRead}
-use Rattle.header_prefix.specs.Answer.{version_is, answer}
+use Rattle.header_prefix.specs.Answer.{version_is, prefix_answer}
 
 -- a version can be found again from what it means
 pub version_back : before.Version → Version
@@ -34,15 +36,15 @@ version_back_lem Version.ThreeZero = refl
 pub version_apart : (v w : Version) → version_is v ≡ version_is w → v ≡ w
 version_apart v w e = sym (version_back_lem v) ∙ ap version_back e ∙ version_back_lem w
 
-abbrev read_for : before.Prefix → PrefixRead
-read_for p = PrefixRead.Read (record { version = version_back p.version; length = p.text_length })
+abbrev read_for : before.Prefix → Result Prefix Refusal
+read_for p = Ok (record { version = version_back p.version; length = p.text_length })
 
-read_same : (r : PrefixRead) → answer_for read_for PrefixRead.Refused (answer r) ≡ r
-read_same (PrefixRead.Read p) = ap (λ (v : Version). PrefixRead.Read (record { version = v; length = p.length })) (version_back_lem p.version)
-read_same (PrefixRead.Refused why) = ap PrefixRead.Refused (refusal_back why)
+read_same : (r : Result Prefix Refusal) → answer_for read_for Err (prefix_answer r) ≡ r
+read_same (Ok p) = ap (λ (v : Version). Ok (record { version = v; length = p.length })) (version_back_lem p.version)
+read_same (Err why) = ap Err (refusal_back why)
 
-pub read_one : (file : List ℕ) → OneOutcome {A = PrefixRead} (λ r. answer r ≡ before.prefix file)
-read_one file = answer_one answer read_for PrefixRead.Refused read_same (before.prefix file)
+pub read_one : (file : List ℕ) → OneOutcome {A = Result Prefix Refusal} (λ r. prefix_answer r ≡ before.prefix file)
+read_one file = answer_one prefix_answer read_for Err read_same (before.prefix file)
 
 pub major_one : (v : Version) → OneOutcome {A = ℕ} (λ r. r ≡ before.major (version_is v))
 major_one v = by_equation (before.major (version_is v))

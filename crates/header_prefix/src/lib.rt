@@ -2,24 +2,23 @@
 // header and header_feed; write_padding, list_record and npy_codes use its `Version`.
 #![tactic(auto)]
 
-ghost use Rattle.std.specs.Prelude.{◌≡◌, ◌≤◌, length, take};
+ghost use Rattle.std.specs.Prelude.{◌≡◌, take};
 ghost use Rattle.counts.specs.Lists.{same};
 ghost use Rattle.record.specs.Prefix.{major, length_width, text_start, version_of, magic, length_read, prefix};
-ghost use Rattle.header_prefix.specs.Answer.{version_is, version_answer, answer};
+ghost use Rattle.header_prefix.specs.Answer.{version_is, version_answer, prefix_answer};
 
-use counts::Number;
 use refusal::Refusal;
 use type_letters::Endianness;
 
 // The most bytes that a text may have: a longer one is refused with 4.
 pub const MOST_TEXT: u64 = 131072;
 
-// The versions (1,0), (2,0) and (3,0).
+// The versions (1,0), (2,0) and (3,0), each with its first byte.
 #[derive(Clone, Copy)]
 pub enum Version {
-    OneZero,
-    TwoZero,
-    ThreeZero,
+    OneZero = 1,
+    TwoZero = 2,
+    ThreeZero = 3,
 }
 
 impl Version {
@@ -27,11 +26,7 @@ impl Version {
     pub fn major(self) -> u8
         ensures { result ≡ major (version_is self) }
     {
-        match self {
-            Version::OneZero => 1,
-            Version::TwoZero => 2,
-            Version::ThreeZero => 3,
-        }
+        self as u8
     }
 
     // How many bytes the length field has.
@@ -40,8 +35,7 @@ impl Version {
     {
         match self {
             Version::OneZero => 2,
-            Version::TwoZero => 4,
-            Version::ThreeZero => 4,
+            Version::TwoZero | Version::ThreeZero => 4,
         }
     }
 }
@@ -53,32 +47,15 @@ pub struct Prefix {
     pub length: usize,
 }
 
-#[derive(Clone, Copy)]
-pub enum PrefixRead {
-    Read(Prefix),
-    Refused(Refusal),
-}
-
-// A version that is known, or any other: 2.
-#[derive(Clone, Copy)]
-enum VersionRead {
-    Is(Version),
-    Other,
-}
-
 // The version and the text's length that a file begins with.
-pub fn read(file: &[u8]) -> PrefixRead
-    ensures { answer result ≡ prefix file.now }
+pub fn read(file: &[u8]) -> Result<Prefix, Refusal>
+    ensures { prefix_answer result ≡ prefix file.now }
 {
-    if file.len() < 8 {
-        return PrefixRead::Refused(Refusal::NotNpy);
+    if file.len() < 8 || !is_magic(file) {
+        return Err(Refusal::NotNpy);
     }
-    if !is_magic(file) {
-        return PrefixRead::Refused(Refusal::NotNpy);
-    }
-    let v = version_of(file[6], file[7]);
-    let VersionRead::Is(version) = v else {
-        return PrefixRead::Refused(Refusal::OtherVersion);
+    let Some(version) = version_of(file[6], file[7]) else {
+        return Err(Refusal::OtherVersion);
     };
     text_length(version, file)
 }
@@ -92,50 +69,40 @@ pub fn text_start(version: Version) -> usize
 
 // Whether a file begins with the six bytes 93 and `NUMPY`.
 fn is_magic(file: &[u8]) -> bool
-    requires { 6 ≤ length file.now }
     ensures { result ≡ same (take 6 file.now) magic }
 {
-    (file[5] == b'Y')
-        & (file[4] == b'P')
-        & (file[3] == b'M')
-        & (file[2] == b'U')
-        & (file[1] == b'N')
-        & (file[0] == 0x93)
+    file.starts_with(b"\x93NUMPY")
 }
 
 // The version of its two bytes.
-fn version_of(major: u8, minor: u8) -> VersionRead
+fn version_of(major: u8, minor: u8) -> Option<Version>
     ensures { version_answer result ≡ version_of major minor }
 {
-    if minor != 0 {
-        return VersionRead::Other;
-    }
-    match major {
-        1 => VersionRead::Is(Version::OneZero),
-        2 => VersionRead::Is(Version::TwoZero),
-        3 => VersionRead::Is(Version::ThreeZero),
-        _ => VersionRead::Other,
+    match (major, minor) {
+        (1, 0) => Some(Version::OneZero),
+        (2, 0) => Some(Version::TwoZero),
+        (3, 0) => Some(Version::ThreeZero),
+        _ => None,
     }
 }
 
 // The version, and the length that its field has: 3 where the field is not all there, 4 where the length is over MOST_TEXT.
-fn text_length(version: Version, file: &[u8]) -> PrefixRead
-    ensures { answer result ≡ length_read (version_is version) file.now }
+fn text_length(version: Version, file: &[u8]) -> Result<Prefix, Refusal>
+    ensures { prefix_answer result ≡ length_read (version_is version) file.now }
 {
     let start = text_start(version);
     if file.len() < start {
-        return PrefixRead::Refused(Refusal::Incomplete);
+        return Err(Refusal::Incomplete);
     }
-    let n = number_bytes::read(&file[8..start], Endianness::Little);
-    let Number::Is(length) = n else {
+    let Some(length) = number_bytes::read(&file[8..start], Endianness::Little) else {
         // not reached: the length field has at most four bytes
-        return PrefixRead::Refused(Refusal::LongText);
+        return Err(Refusal::LongText);
     };
     if MOST_TEXT < length {
-        return PrefixRead::Refused(Refusal::LongText);
+        return Err(Refusal::LongText);
     }
-    PrefixRead::Read(Prefix {
-        version: version,
+    Ok(Prefix {
+        version,
         length: length as usize,
     })
 }

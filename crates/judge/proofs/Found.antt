@@ -1,4 +1,6 @@
 -- What is found for the keys `shape` and `descr`: from the verdict on a value to the answer for its key, and from the answer to the value that counts.
+use Rattle.refusal.specs.Answers.{answer}
+use Rattle.std.specs.Prelude.{Err, Ok, Result}
 use Prim.Native.Nat.{ℕ}
 use mathlib.Core.Path.{◌≡◌, refl, sym, ap, subst, ◌∙◌}
 use mathlib.Core.List.{List}
@@ -19,25 +21,19 @@ use Rattle.literal_tokens.specs.Node.{Node}
 use Rattle.literal_bytes.specs.Got.{Got, got}
 use Rattle.literal.specs.Forget.{forget}
 use Rattle.literal.specs.Literal.{value}
-use Rattle.shape_verdict.specs.Answer.{outlined}
 use Rattle.shape_verdict.specs.Outline.{outline_of}
 use Rattle.shape_verdict.specs.declared.Outline.{Outline}
-use Rattle.shape_verdict.specs.declared.ShapeVerdict.{ShapeVerdict}
-use Rattle.judge_limits.specs.declared.Limit.{Limit}
-use Rattle.judge_limits.specs.Answer.{limit_answer, rank_limit}
+use Rattle.judge_limits.specs.Answer.{rank_limit}
 use Rattle.shape_text.specs.Answer.{value_or, dimensions_at, JudgesShape}
 use Rattle.shape_text.specs.declared.ShapeJudged.{ShapeJudged}
 use Rattle.descr_totals.specs.Totals.{totals_of}
-use Rattle.descr_totals.specs.Verdict.{verdict}
 use Rattle.descr_totals.specs.declared.Totals.{Totals}
 use Rattle.descr_field.specs.declared.DescrJudged.{DescrJudged}
 use Rattle.descr.specs.Judges.{JudgesAt}
 use Rattle.judge.specs.declared.Shape.{Shape}
 use Rattle.judge.specs.declared.Descr.{Descr}
-use Rattle.judge.specs.declared.keys.ShapeFound.{ShapeFound}
-use Rattle.judge.specs.declared.keys.DescrFound.{DescrFound}
 use Rattle.judge.specs.Pairs.{node_for}
-use Rattle.judge.specs.Found.{shape_answer, descr_answer, placed_shape, placed_descr, ranked_at, FoundIs, ShapeFoundIs, DescrFoundIs}
+use Rattle.judge.specs.Found.{placed_shape, placed_descr, ranked_at, FoundIs, ShapeFoundIs, DescrFoundIs}
 use Rattle.judge.specs.Judged.{inside, Counts, ShapeOf, DescrOf}
 
 -- ---- the answer for a key
@@ -64,22 +60,22 @@ ranked_each at (gives ds) = go (over_dimensions ds)
 ranked_each at (refused n) = refl
 
 -- 13 where the limit is broken
-pub shape_by_lem : (at : ℕ) (v : ShapeVerdict) (o : Outline) (x y : Limit) → v ≡ ShapeVerdict.Good o → limit_answer x ≡ rank_limit o → x ≡ y
-    → each {A = Unit} (λ u. placed_shape at o) (limit_answer y) ≡ then (outlined v) (ranked_at at)
-shape_by_lem at v o x y hv hx e = ap (each {A = Unit} (λ u. placed_shape at o)) (matched limit_answer hx e) ∙ ap (λ (z : ShapeVerdict). then (outlined z) (ranked_at at)) (sym hv)
+pub shape_by_lem : (at : ℕ) (v : Result Outline Refusal) (o : Outline) (x y : Result Unit Refusal) → v ≡ Ok o → answer x ≡ rank_limit o → x ≡ y
+    → each {A = Unit} (λ u. placed_shape at o) (answer y) ≡ then (answer v) (ranked_at at)
+shape_by_lem at v o x y hv hx e = ap (each {A = Unit} (λ u. placed_shape at o)) (matched answer hx e) ∙ ap (λ (z : Result Outline Refusal). then (answer z) (ranked_at at)) (sym hv)
 
 -- by the verdict on the value at the position
 module _ (k : ℕ) (s : List ℕ) (at : ℕ) where
-  pub shape_here : (j : ShapeJudged) (x : ShapeFound) → JudgesShape (value k s at) j → shape_answer x ≡ then (outlined j.verdict) (ranked_at at)
+  pub shape_here : (j : ShapeJudged) (x : Result Shape Refusal) → JudgesShape (value k s at) j → answer x ≡ then (answer j.verdict) (ranked_at at)
       → (n : Node) (e : ℕ) → value k s at ≡ got n e → ShapeFoundIs k s x (gives n)
   shape_here j x hj hx n e h =
-      found_here shape_of (λ at ds. placed_shape at (outline_of ds)) k s at n e (shape_answer x) h
+      found_here shape_of (λ at ds. placed_shape at (outline_of ds)) k s at n e (answer x) h
       (hx ∙ ap (λ (y : Outcome Outline). then y (ranked_at at)) (hj.says ∙ ap (λ (g : Got Node). each outline_of (dimensions_at g)) h) ∙ ranked_each at (sub_shape (forget n)))
 
-  pub descr_here : (j : DescrJudged) (x : DescrFound) → JudgesAt (value k s at) j → descr_answer x ≡ each (placed_descr at) (verdict j.verdict)
+  pub descr_here : (j : DescrJudged) (x : Result Descr Refusal) → JudgesAt (value k s at) j → answer x ≡ each (placed_descr at) (answer j.verdict)
       → (n : Node) (e : ℕ) → value k s at ≡ got n e → DescrFoundIs k s x (gives n)
   descr_here j x hj hx n e h =
-      found_here descr_of (λ at d. placed_descr at (totals_of d)) k s at n e (descr_answer x) h
+      found_here descr_of (λ at d. placed_descr at (totals_of d)) k s at n e (answer x) h
       (hx ∙ ap (λ (y : Outcome Totals). each (placed_descr at) y) (hj.says ∙ ap (λ (g : Got Node). then (value_or 14 g) (λ v. each totals_of (descr_of v))) h) ∙ each_each totals_of (placed_descr at) (descr_of (forget n)))
 
 -- ---- the value that counts in the dict at a position
@@ -106,21 +102,21 @@ module _ (text : List ℕ) (at : ℕ) where
       let u = unless_back (over_dimensions t.0) 13 (gives t.0) s t.2 in
       (t.1 ∙ u.1, subst (λ (x : List ℕ). over_dimensions x ≡ false) (gives_apart u.1) u.0)
 
-  module _ (x : ShapeFound) (f : ShapeFoundIs inside text x (node_for key_shape (value most_open text at))) where
-    pub shape_is : (p : Shape) → x ≡ ShapeFound.Is p → (s : List ℕ) × (key_at key_shape shape_of ≡ gives s) × ShapeOf text at p s
+  module _ (x : Result Shape Refusal) (f : ShapeFoundIs inside text x (node_for key_shape (value most_open text at))) where
+    pub shape_is : (p : Shape) → x ≡ Ok p → (s : List ℕ) × (key_at key_shape shape_of ≡ gives s) × ShapeOf text at p s
     shape_is p h =
-        let r = found_is key_shape shape_of (λ at ds. placed_shape at (outline_of ds)) (shape_answer x) f p (ap shape_answer h) in
+        let r = found_is key_shape shape_of (λ at ds. placed_shape at (outline_of ds)) (answer x) f p (ap answer h) in
         let q = few (forget r.2.node) r.0 r.3 in
         (r.0, r.1, subst (λ (y : Shape). ShapeOf text at y r.0) r.4 (record { counts = r.2; is = q.0; few = q.1; outlined = refl }))
 
-    pub shape_refused : (why : Refusal) → x ≡ ShapeFound.Refused why → key_at key_shape shape_of ≡ refused (number_of why)
-    shape_refused why h = found_refused key_shape shape_of (λ at ds. placed_shape at (outline_of ds)) (shape_answer x) f (number_of why) (ap shape_answer h)
+    pub shape_refused : (why : Refusal) → x ≡ Err why → key_at key_shape shape_of ≡ refused (number_of why)
+    shape_refused why h = found_refused key_shape shape_of (λ at ds. placed_shape at (outline_of ds)) (answer x) f (number_of why) (ap answer h)
 
-  module _ (x : DescrFound) (f : DescrFoundIs inside text x (node_for key_descr (value most_open text at))) where
-    pub descr_is : (q : Descr) → x ≡ DescrFound.Is q → (d : Dtype) × (key_at key_descr descr_of ≡ gives d) × DescrOf text at q d
+  module _ (x : Result Descr Refusal) (f : DescrFoundIs inside text x (node_for key_descr (value most_open text at))) where
+    pub descr_is : (q : Descr) → x ≡ Ok q → (d : Dtype) × (key_at key_descr descr_of ≡ gives d) × DescrOf text at q d
     descr_is q h =
-        let r = found_is key_descr descr_of (λ at d. placed_descr at (totals_of d)) (descr_answer x) f q (ap descr_answer h) in
+        let r = found_is key_descr descr_of (λ at d. placed_descr at (totals_of d)) (answer x) f q (ap answer h) in
         (r.0, r.1, subst (λ (y : Descr). DescrOf text at y r.0) r.4 (record { counts = r.2; is = r.3; totalled = refl }))
 
-    pub descr_refused : (why : Refusal) → x ≡ DescrFound.Refused why → key_at key_descr descr_of ≡ refused (number_of why)
-    descr_refused why h = found_refused key_descr descr_of (λ at d. placed_descr at (totals_of d)) (descr_answer x) f (number_of why) (ap descr_answer h)
+    pub descr_refused : (why : Refusal) → x ≡ Err why → key_at key_descr descr_of ≡ refused (number_of why)
+    descr_refused why h = found_refused key_descr descr_of (λ at d. placed_descr at (totals_of d)) (answer x) f (number_of why) (ap answer h)

@@ -1,4 +1,5 @@
 -- No second outcome satisfies the statement of `judge`: the text determines the record, the record what is kept of its parts, and a value that counts its own place.
+use Rattle.std.specs.Prelude.{Err, Ok}
 use Prim.Native.Nat.{ℕ}
 use mathlib.Core.Path.{◌≡◌, sym, ap, ◌∙◌}
 use mathlib.Core.List.{List}
@@ -19,7 +20,6 @@ use Rattle.descr_totals.specs.declared.Totals.{Totals}
 use Rattle.judge.specs.declared.Shape.{Shape}
 use Rattle.judge.specs.declared.Descr.{Descr}
 use Rattle.judge.specs.declared.FoundRecord.{FoundRecord}
-use Rattle.judge.specs.declared.Judged.{Judged}
 use Rattle.judge.specs.Judged.{reading, inside, Counts, ShapeOf, DescrOf, PlanOf, JudgedIs}
 
 module _ (text : List ℕ) (at : ℕ) where
@@ -49,12 +49,12 @@ module _ (text : List ℕ) (at : ℕ) where
       (descr_one r.dtype p.descr q.descr a.typed b.typed)
 
   judged_one : (o : Outcome Record) → OneOutcome (λ x. JudgedIs text at x o)
-  judged_one (gives r) (Judged.Fits p) (Judged.Fits q) a b = ap Judged.Fits (plan_one r p q a b)
-  judged_one (gives r) (Judged.Fits p) (Judged.Refused g) a b = absurd b
-  judged_one (gives r) (Judged.Refused f) y a b = absurd a
-  judged_one (refused n) (Judged.Fits p) y a b = absurd a
-  judged_one (refused n) (Judged.Refused f) (Judged.Fits q) a b = absurd b
-  judged_one (refused n) (Judged.Refused f) (Judged.Refused g) a b = ap Judged.Refused (number_apart f g (a ∙ sym b))
+  judged_one (gives r) (Ok p) (Ok q) a b = ap Ok (plan_one r p q a b)
+  judged_one (gives r) (Ok p) (Err g) a b = absurd b
+  judged_one (gives r) (Err f) y a b = absurd a
+  judged_one (refused n) (Ok p) y a b = absurd a
+  judged_one (refused n) (Err f) (Ok q) a b = absurd b
+  judged_one (refused n) (Err f) (Err g) a b = ap Err (number_apart f g (a ∙ sym b))
 
 pub judge_one : (text : List ℕ) → OneOutcome (λ x. JudgedIs text (skip text 0) x (record_in reading text))
 judge_one text = judged_one text (skip text 0) (record_in reading text)

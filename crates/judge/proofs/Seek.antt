@@ -1,5 +1,10 @@
 -- The walk over the pairs of a dict. What it keeps: the keys are all strings if those that were met and those that are left are, and the value that counts
 -- for a key is the one found so far, or one that is left. Then the dict around the pairs.
+use Rattle.refusal.specs.Answers.{answer}
+use Rattle.judge.specs.declared.Shape.{Shape}
+use Rattle.judge.specs.declared.Descr.{Descr}
+use Rattle.dtype.specs.declared.Order.{Order}
+use Rattle.std.specs.Prelude.{Err, Result}
 use Prim.Native.Nat.{ℕ, suc, ◌+◌}
 use native.Mathlib.Omega.{arith}
 use mathlib.Core.Path.{◌≡◌, refl, sym, ap, subst, ◌∙◌}
@@ -36,21 +41,16 @@ use Rattle.shape_text.proofs.Goes.{Goes, goes_end}
 use Rattle.shape_text.specs.Answer.{JudgesShape}
 use Rattle.shape_text.specs.declared.ShapeJudged.{ShapeJudged}
 use Rattle.shape_verdict.specs.Outline.{outline_of}
-use Rattle.shape_verdict.specs.Answer.{outlined}
 use Rattle.descr_totals.specs.Totals.{totals_of}
-use Rattle.descr_totals.specs.Verdict.{verdict}
 use Rattle.descr_field.specs.declared.DescrJudged.{DescrJudged}
 use Rattle.descr.specs.Judges.{JudgesAt}
 use Rattle.judge_names.specs.declared.Name as name
 use Rattle.judge_names.specs.declared.Name.{Name}
-use Rattle.judge_names.specs.declared.Declared.{Declared}
 use Rattle.judge_names.specs.Answer.{OrderIs, key_of, WordAt}
 use Rattle.judge_names.specs.contracts.Name.{the_type as the_name}
-use Rattle.judge.specs.declared.keys.DescrFound.{DescrFound}
-use Rattle.judge.specs.declared.keys.ShapeFound.{ShapeFound}
 use Rattle.judge.specs.declared.keys.Walked.{Walked}
 use Rattle.judge.specs.Pairs.{is_key, last_in, node_for, keyed, keyed_at}
-use Rattle.judge.specs.Found.{shape_answer, descr_answer, placed_shape, placed_descr, ranked_at, DescrFoundIs, ShapeFoundIs}
+use Rattle.judge.specs.Found.{placed_shape, placed_descr, ranked_at, DescrFoundIs, ShapeFoundIs}
 use Rattle.judge.specs.Keys.{KeysAt, NameAt, Takes, OrderTaken, WalkedOf}
 use Rattle.judge.proofs.Nodes.{items_in}
 use Rattle.judge.proofs.Braces.{NoCurly, dict_at, no_braces}
@@ -106,9 +106,9 @@ module _ {F : Type 0} (Is : F → Outcome Node → Type 0) (w : List ℕ) where
 -- ---- one more pair
 -- what is found for the three keys
 pub record Three : Type 0 where
-  pub descr : DescrFound
-  pub order : Declared
-  pub shape : ShapeFound
+  pub descr : Result Descr Refusal
+  pub order : Result Order Refusal
+  pub shape : Result Shape Refusal
 
 -- what is found after a pair of this name, whose value is v
 pub record PairOf (k : ℕ) (s : List ℕ) (v : Node) (name : Name) (was r : Three) : Type 0 where
@@ -122,14 +122,14 @@ pub record PairIs (k : ℕ) (s : List ℕ) (at : ℕ) (name : Name) (was : Three
   pub found : (v : Node) (e : ℕ) → value k s at ≡ got v e → PairOf k s v name was r
 
 -- the order, by the name
-pub order_here : (s : List ℕ) (at : ℕ) (n : Name) (was x : Declared) → n ≡ name.Name.Order → WordAt s at x → OrderTaken s at n was x
+pub order_here : (s : List ℕ) (at : ℕ) (n : Name) (was x : Result Order Refusal) → n ≡ name.Name.Order → WordAt s at x → OrderTaken s at n was x
 order_here s at n was x z h = λ k v e g. subst (λ (m : Name). Takes (is_the key_order (key_of m)) (OrderIs x (gives v)) (x ≡ was)) (sym z) (h k v e g)
 
 -- what the arm of the other names knows
 abbrev pub NoOrder : Name → Type 0
 NoOrder n = OneOf (0 ∷ 2 ∷ 3 ∷ 4 ∷ []) (tag_of the_name n)
 
-pub order_kept : (s : List ℕ) (at : ℕ) (n : Name) (was : Declared) → NoOrder n → OrderTaken s at n was was
+pub order_kept : (s : List ℕ) (at : ℕ) (n : Name) (was : Result Order Refusal) → NoOrder n → OrderTaken s at n was was
 order_kept s at name.Name.Descr was o = λ k v e g. refl
 order_kept s at name.Name.Order was o = absurd (miss (0 ∷ 2 ∷ 3 ∷ 4 ∷ []) 1 tt o)
 order_kept s at name.Name.Shape was o = λ k v e g. refl
@@ -141,7 +141,7 @@ abbrev pub Else : Name → Type 0
 Else n = OneOf (1 ∷ 3 ∷ 4 ∷ []) (tag_of the_name n)
 
 -- the pair, by its name, after one that left d, w and h; o is the order then
-module _ (k : ℕ) (s : List ℕ) (at : ℕ) (n : Name) (d : DescrFound) (w o : Declared) (h : ShapeFound) (ho : OrderTaken s at n w o) where
+module _ (k : ℕ) (s : List ℕ) (at : ℕ) (n : Name) (d : Result Descr Refusal) (w o : Result Order Refusal) (h : Result Shape Refusal) (ho : OrderTaken s at n w o) where
   abbrev was : Three
   was = record { descr = d; order = w; shape = h }
 
@@ -151,21 +151,21 @@ module _ (k : ℕ) (s : List ℕ) (at : ℕ) (n : Name) (d : DescrFound) (w o : 
   named_as : (m : Name) → n ≡ m → (end : Parsed) (r : Three) → PairIs k s at m was end r → PairIs k s at n was end r
   named_as m z end r h = subst (λ (x : Name). PairIs k s at x was end r) (sym z) h
 
-  pub pair_descr : n ≡ name.Name.Descr → (j : DescrJudged) (x : DescrFound) → JudgesAt (value k s at) j → descr_answer x ≡ each (placed_descr at) (verdict j.verdict)
+  pub pair_descr : n ≡ name.Name.Descr → (j : DescrJudged) (x : Result Descr Refusal) → JudgesAt (value k s at) j → answer x ≡ each (placed_descr at) (answer j.verdict)
       → PairIs k s at n was j.ended (record { descr = x; order = o; shape = h })
   pair_descr z j x hj hx =
       named_as name.Name.Descr z j.ended _ (record { ended = hj.ends; found = λ v e g. record { of_descr = descr_here k s at j x hj hx v e g; of_order = order_as name.Name.Descr z v e g; of_shape = refl } })
 
-  pub pair_shape : n ≡ name.Name.Shape → (j : ShapeJudged) (x : ShapeFound) → JudgesShape (value k s at) j → shape_answer x ≡ then (outlined j.verdict) (ranked_at at)
+  pub pair_shape : n ≡ name.Name.Shape → (j : ShapeJudged) (x : Result Shape Refusal) → JudgesShape (value k s at) j → answer x ≡ then (answer j.verdict) (ranked_at at)
       → PairIs k s at n was j.ended (record { descr = d; order = o; shape = x })
   pair_shape z j x hj hx =
       named_as name.Name.Shape z j.ended _ (record { ended = hj.ends; found = λ v e g. record { of_descr = refl; of_order = order_as name.Name.Shape z v e g; of_shape = shape_here k s at j x hj hx v e g } })
 
   -- where what was found and how the value ended have other names
-  pub pair_as : {x y : DescrFound} {p q : ShapeFound} {u v : Parsed} → x ≡ y → p ≡ q → u ≡ v → PairIs k s at n was v (record { descr = y; order = o; shape = q }) → PairIs k s at n was u (record { descr = x; order = o; shape = p })
+  pub pair_as : {x y : Result Descr Refusal} {p q : Result Shape Refusal} {u v : Parsed} → x ≡ y → p ≡ q → u ≡ v → PairIs k s at n was v (record { descr = y; order = o; shape = q }) → PairIs k s at n was u (record { descr = x; order = o; shape = p })
   pair_as {x} {y} {p} {q} {u} {v} hx hp hu h =
-      subst (λ (z : DescrFound). PairIs k s at n was u (record { descr = z; order = o; shape = p })) (sym hx)
-      (subst (λ (z : ShapeFound). PairIs k s at n was u (record { descr = y; order = o; shape = z })) (sym hp)
+      subst (λ (z : Result Descr Refusal). PairIs k s at n was u (record { descr = z; order = o; shape = p })) (sym hx)
+      (subst (λ (z : Result Shape Refusal). PairIs k s at n was u (record { descr = y; order = o; shape = z })) (sym hp)
       (subst (λ (z : Parsed). PairIs k s at n was z (record { descr = y; order = o; shape = q })) (sym hu) h))
 
   -- nothing but an order
@@ -187,19 +187,19 @@ module _ (k : ℕ) (s : List ℕ) where
     pub order : Counts OrderIs key_order x.order ps us
     pub shape : Counts (ShapeFoundIs k s) key_shape x.shape ps us
 
-  no_descr : DescrFoundIs k s (DescrFound.Refused Refusal.NoKey) (refused 9)
+  no_descr : DescrFoundIs k s (Err Refusal.NoKey) (refused 9)
   no_descr = found_none descr_of (λ at d. placed_descr at (totals_of d)) k s
 
-  no_shape : ShapeFoundIs k s (ShapeFound.Refused Refusal.NoKey) (refused 9)
+  no_shape : ShapeFoundIs k s (Err Refusal.NoKey) (refused 9)
   no_shape = found_none shape_of (λ at ds. placed_shape at (outline_of ds)) k s
 
-  pub seen_start : (ps : List Pair) → Seen true (record { descr = DescrFound.Refused Refusal.NoKey; order = Declared.Refused Refusal.NoKey; shape = ShapeFound.Refused Refusal.NoKey }) ps ps
+  pub seen_start : (ps : List Pair) → Seen true (record { descr = Err Refusal.NoKey; order = Err Refusal.NoKey; shape = Err Refusal.NoKey }) ps ps
   seen_start ps =
       record {
         strings = refl;
-        descr = counts_start (DescrFoundIs k s) key_descr (DescrFound.Refused Refusal.NoKey) no_descr ps;
-        order = counts_start OrderIs key_order (Declared.Refused Refusal.NoKey) refl ps;
-        shape = counts_start (ShapeFoundIs k s) key_shape (ShapeFound.Refused Refusal.NoKey) no_shape ps;
+        descr = counts_start (DescrFoundIs k s) key_descr (Err Refusal.NoKey) no_descr ps;
+        order = counts_start OrderIs key_order (Err Refusal.NoKey) refl ps;
+        shape = counts_start (ShapeFoundIs k s) key_shape (Err Refusal.NoKey) no_shape ps;
       }
 
   pub seen_more : (b b' : Bool) (x y : Three) (end : Parsed) (name : Name) (p q at : ℕ) (u : Pair) (ps us : List Pair) → pair_by (value k s) s p ≡ got u q → Ends at ≡ pos (key_by (value k s) s p)
@@ -271,14 +271,14 @@ module _ (k : ℕ) (s : List ℕ) (at : ℕ) (c : ValueKind) (hk : c ≡ kind_of
       go (deep p) hg hw = absurd (let z : ◌≡◌ {A = ℕ} 0 1 = cc in omega arith)
 
   -- another value has no keys
-  pub no_dict : NoCurly c → (r : Walked) → r.strings ≡ false → r.descr ≡ DescrFound.Refused Refusal.NoKey → r.order ≡ Declared.Refused Refusal.NoKey → r.shape ≡ ShapeFound.Refused Refusal.NoKey
+  pub no_dict : NoCurly c → (r : Walked) → r.strings ≡ false → r.descr ≡ Err Refusal.NoKey → r.order ≡ Err Refusal.NoKey → r.shape ≡ Err Refusal.NoKey
       → (n : Node) (e : ℕ) → value (suc k) s at ≡ got n e → KeysOfGot r (value (suc k) s at)
   no_dict z r hb hd ho hs n e h =
       let none : (w : List ℕ) → refused 9 ≡ node_for w (got n e) = λ w. sym (ap (λ (x : Outcome NodePairs). then x (last_in w (refused 9))) (no_braces (suc k) s at e n h 9 c hk z)) in
       subst (KeysOfGot r) (sym h)
       (record {
         of_strings = hb ∙ sym (ap keyed (items_in 8 n) ∙ ap (λ (x : Outcome NodePairs). keyed (each forget_pairs x)) (no_braces (suc k) s at e n h 8 c hk z));
-        of_descr = subst (DescrFoundIs k s r.descr) (none key_descr) (subst (λ (x : DescrFound). DescrFoundIs k s x (refused 9)) (sym hd) (no_descr k s));
-        of_order = subst (OrderIs r.order) (none key_order) (subst (λ (x : Declared). OrderIs x (refused 9)) (sym ho) refl);
-        of_shape = subst (ShapeFoundIs k s r.shape) (none key_shape) (subst (λ (x : ShapeFound). ShapeFoundIs k s x (refused 9)) (sym hs) (no_shape k s));
+        of_descr = subst (DescrFoundIs k s r.descr) (none key_descr) (subst (λ (x : Result Descr Refusal). DescrFoundIs k s x (refused 9)) (sym hd) (no_descr k s));
+        of_order = subst (OrderIs r.order) (none key_order) (subst (λ (x : Result Order Refusal). OrderIs x (refused 9)) (sym ho) refl);
+        of_shape = subst (ShapeFoundIs k s r.shape) (none key_shape) (subst (λ (x : Result Shape Refusal). ShapeFoundIs k s x (refused 9)) (sym hs) (no_shape k s));
       })

@@ -1,5 +1,8 @@
 -- The order of judgement, 5 to 22: the whole text, its value, the three keys one after the other, and the limits. Each part that was read is followed by the next, and the first
 -- that was refused decides.
+use Rattle.refusal.specs.Answers.{answer}
+use Rattle.judge.specs.declared.FoundRecord.{FoundRecord}
+use Rattle.std.specs.Prelude.{Err, Ok, Result}
 use Prim.Native.Nat.{ℕ}
 use native.Mathlib.Omega.{arith}
 use mathlib.Core.Path.{◌≡◌, refl, sym, ap, subst, ◌∙◌}
@@ -33,10 +36,8 @@ use Rattle.literal_bytes.specs.declared.Parsed as parsed
 use Rattle.literal.proofs.Meaning.{literal_means}
 use Rattle.literal.proofs.Steps.{alone_at_lem, literal_is}
 use Rattle.shape_text.specs.Answer.{value_or}
-use Rattle.judge_names.specs.declared.Declared.{Declared}
-use Rattle.judge_names.specs.Answer.{ordered, OrderIs}
+use Rattle.judge_names.specs.Answer.{OrderIs}
 use Rattle.judge.specs.Pairs.{node_for, keyed, keyed_at}
-use Rattle.judge.specs.declared.Judged.{Judged}
 use Rattle.judge.specs.Judged.{reading, JudgedIs}
 use Rattle.judge.proofs.Nodes.{node_value}
 use Rattle.judge.proofs.Found.{key_at}
@@ -117,12 +118,12 @@ module _ (text : List ℕ) (at : ℕ) where
     record_order : (x : Outcome Order) → key_at text at key_order declared_order ≡ x → record_at ≡ then x after_order
     record_order x h = keyed_at_lem (value most_open text at) all_strings ∙ ap (λ (y : Outcome Order). then y after_order) (key_is key_order declared_order ∙ h)
 
-    pub no_order : (x : Declared) (why : Refusal) → OrderIs x (node_for key_order (value most_open text at)) → x ≡ Declared.Refused why → record_at ≡ refused (number_of why)
-    no_order x why hx e = record_order (refused (number_of why)) (sym hx ∙ ap ordered e)
+    pub no_order : (x : Result Order Refusal) (why : Refusal) → OrderIs x (node_for key_order (value most_open text at)) → x ≡ Err why → record_at ≡ refused (number_of why)
+    no_order x why hx e = record_order (refused (number_of why)) (sym hx ∙ ap answer e)
 
-    module _ (x : Declared) (o : Order) (hx : OrderIs x (node_for key_order (value most_open text at))) (e : x ≡ Declared.Is o) where
+    module _ (x : Result Order Refusal) (o : Order) (hx : OrderIs x (node_for key_order (value most_open text at))) (e : x ≡ Ok o) where
       record_shape : (y : Outcome (List ℕ)) → key_at text at key_shape shape_of ≡ y → record_at ≡ then y (after_shape o)
-      record_shape y h = record_order (gives o) (sym hx ∙ ap ordered e) ∙ ap (λ (z : Outcome (List ℕ)). then z (after_shape o)) (key_is key_shape shape_of ∙ h)
+      record_shape y h = record_order (gives o) (sym hx ∙ ap answer e) ∙ ap (λ (z : Outcome (List ℕ)). then z (after_shape o)) (key_is key_shape shape_of ∙ h)
 
       pub no_shape : (n : ℕ) → key_at text at key_shape shape_of ≡ refused n → record_at ≡ refused n
       no_shape n h = record_shape (refused n) h
@@ -192,5 +193,5 @@ module _ (s : List ℕ) (well : gives tt ≡ utf8 s) where
   unfolding literal_of
   value_got at p h e = got_by (value most_open s at) p (h ∙ ap (λ (x : ℕ). pos (alone s (value most_open s x))) (sym e))
 
-  pub value_judged : (at : ℕ) (r : Judged) (p : ℕ) → parsed.Parsed.Value p ≡ pos (literal_of s) → at ≡ skip s 0 → JudgedIs s at r (record_at s at) → JudgedIs s (skip s 0) r (record_in reading s)
+  pub value_judged : (at : ℕ) (r : Result FoundRecord Refusal) (p : ℕ) → parsed.Parsed.Value p ≡ pos (literal_of s) → at ≡ skip s 0 → JudgedIs s at r (record_at s at) → JudgedIs s (skip s 0) r (record_in reading s)
   value_judged at r p h e k = subst (JudgedIs s (skip s 0) r) (sym (value_record p h)) (subst (λ (x : ℕ). JudgedIs s x r (record_at s x)) e k)

@@ -1,7 +1,8 @@
 -- What is found for the keys `shape` and `descr`: the value and its place, or why it is refused, 9 where the key is missing.
-use Rattle.std.specs.Prelude.{ℕ, ◌≡◌, List}
-use Rattle.counts.specs.Outcome.{Outcome, gives, refused, then, each}
-use Rattle.refusal.specs.Numbers.{number_of}
+use Rattle.refusal.specs.Answers.{answer}
+use Rattle.refusal.specs.declared.Refusal.{Refusal}
+use Rattle.std.specs.Prelude.{ℕ, ◌≡◌, List, Result}
+use Rattle.counts.specs.Outcome.{Outcome, gives, then, each}
 use Rattle.literal_grammar.specs.Value.{Value}
 use Rattle.record.specs.Dimensions.{shape_of}
 use Rattle.record.specs.Descr.{descr_of}
@@ -16,16 +17,6 @@ use Rattle.descr_totals.specs.declared.Totals.{Totals}
 use Rattle.judge_limits.specs.Answer.{rank_limit}
 use Rattle.judge.specs.declared.Shape.{Shape}
 use Rattle.judge.specs.declared.Descr.{Descr}
-use Rattle.judge.specs.declared.keys.ShapeFound.{ShapeFound}
-use Rattle.judge.specs.declared.keys.DescrFound.{DescrFound}
-
-abbrev pub shape_answer : ShapeFound → Outcome Shape
-shape_answer (ShapeFound.Is p) = gives p
-shape_answer (ShapeFound.Refused why) = refused (number_of why)
-
-abbrev pub descr_answer : DescrFound → Outcome Descr
-descr_answer (DescrFound.Is p) = gives p
-descr_answer (DescrFound.Refused why) = refused (number_of why)
 
 -- what is kept of a shape and of a dtype at a place
 abbrev pub placed_shape : ℕ → Outline → Shape
@@ -44,8 +35,8 @@ pub record FoundIs {A B : Type 0} (of : Value → Outcome A) (kept : ℕ → A �
   pub there : (n : Node) → o ≡ gives n → (e : ℕ) × (value k s place ≡ got n e)
   pub says : answer ≡ each (kept place) (then o (λ n. of (forget n)))
 
-abbrev pub ShapeFoundIs : ℕ → List ℕ → ShapeFound → Outcome Node → Type 0
-ShapeFoundIs k s f o = FoundIs shape_of (λ at ds. placed_shape at (outline_of ds)) k s (shape_answer f) o
+abbrev pub ShapeFoundIs : ℕ → List ℕ → Result Shape Refusal → Outcome Node → Type 0
+ShapeFoundIs k s f o = FoundIs shape_of (λ at ds. placed_shape at (outline_of ds)) k s (answer f) o
 
-abbrev pub DescrFoundIs : ℕ → List ℕ → DescrFound → Outcome Node → Type 0
-DescrFoundIs k s f o = FoundIs descr_of (λ at d. placed_descr at (totals_of d)) k s (descr_answer f) o
+abbrev pub DescrFoundIs : ℕ → List ℕ → Result Descr Refusal → Outcome Node → Type 0
+DescrFoundIs k s f o = FoundIs descr_of (λ at d. placed_descr at (totals_of d)) k s (answer f) o

@@ -1,6 +1,7 @@
 -- What an answer of `judge` means: document 01's number, or the record, of which the answer gives the places of its parts in the text. The record of a text is `record_in` of
 -- crate record, with the literal's own reading.
-use Rattle.std.specs.Prelude.{ℕ, ◌-◌, ◌≡◌, List, false}
+use Rattle.refusal.specs.declared.Refusal.{Refusal}
+use Rattle.std.specs.Prelude.{ℕ, ◌-◌, ◌≡◌, List, false, Err, Ok, Result}
 use Rattle.counts.specs.Outcome.{Outcome, gives, refused}
 use Rattle.refusal.specs.Numbers.{number_of}
 use Rattle.dtype.specs.Dtype.{Dtype}
@@ -21,7 +22,6 @@ use Rattle.descr_totals.specs.Totals.{totals_of}
 use Rattle.judge.specs.declared.Shape.{Shape}
 use Rattle.judge.specs.declared.Descr.{Descr}
 use Rattle.judge.specs.declared.FoundRecord.{FoundRecord}
-use Rattle.judge.specs.declared.Judged.{Judged}
 
 -- the literal's own reading; it keeps the promise of crate literal_grammar (proofs/Top.antt)
 abbrev pub reading : Reading
@@ -58,8 +58,8 @@ pub record PlanOf (text : List ℕ) (at : ℕ) (p : FoundRecord) (r : Record) : 
   pub within : limited r ≡ gives r
 
 -- the answer for a text whose value begins at `at`: the plan of the record, or the refusal's own number
-abbrev pub JudgedIs : (text : List ℕ) (at : ℕ) → Judged → Outcome Record → Type 0
-JudgedIs text at (Judged.Fits p) (gives r) = PlanOf text at p r
-JudgedIs text at (Judged.Fits p) (refused n) = ⊥
-JudgedIs text at (Judged.Refused f) (gives r) = ⊥
-JudgedIs text at (Judged.Refused f) (refused n) = number_of f ≡ n
+abbrev pub JudgedIs : (text : List ℕ) (at : ℕ) → Result FoundRecord Refusal → Outcome Record → Type 0
+JudgedIs text at (Ok p) (gives r) = PlanOf text at p r
+JudgedIs text at (Ok p) (refused n) = ⊥
+JudgedIs text at (Err f) (gives r) = ⊥
+JudgedIs text at (Err f) (refused n) = number_of f ≡ n

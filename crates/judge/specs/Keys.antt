@@ -1,7 +1,10 @@
 -- The statements of the walk over a header's dict, and of the judgement by its keys. Document 01, "The refusal numbers", the order of reading: "8; `fortran_order` (9, 10);
 -- `shape` (9, 11 or 12 at the first bad member, 13); `descr` (9; ..); then 13 for sub-shapes, 20, 21, 22". What a name and a declared order mean is crate judge_names'. No public
 -- function's statement has these.
-use Rattle.std.specs.Prelude.{ℕ, ◌≡◌, List, Bool, true, false}
+use Rattle.judge.specs.declared.FoundRecord.{FoundRecord}
+use Rattle.refusal.specs.declared.Refusal.{Refusal}
+use Rattle.dtype.specs.declared.Order.{Order}
+use Rattle.std.specs.Prelude.{ℕ, ◌≡◌, List, Bool, true, false, Result}
 use Rattle.counts.specs.Outcome.{Outcome, gives, refused, then}
 use Rattle.record.specs.Parts.{string_or}
 use Rattle.record.specs.Dict.{key_order, key_shape, key_descr, is_the, all_strings}
@@ -14,11 +17,9 @@ use Rattle.literal_grammar.specs.Value.{most_open}
 use Rattle.literal.specs.Literal.{value}
 use Rattle.shape_text.specs.Answer.{value_or}
 use Rattle.judge_names.specs.declared.Name.{Name}
-use Rattle.judge_names.specs.declared.Declared.{Declared}
 use Rattle.judge_names.specs.Answer.{key_of, NameIs, OrderIs}
 use Rattle.judge.specs.declared.keys.Key.{Key}
 use Rattle.judge.specs.declared.keys.Walked.{Walked}
-use Rattle.judge.specs.declared.Judged.{Judged}
 use Rattle.judge.specs.Pairs.{last_in, node_for, keyed_at}
 use Rattle.judge.specs.Found.{ShapeFoundIs, DescrFoundIs}
 use Rattle.judge.specs.Judged.{inside, JudgedIs}
@@ -59,9 +60,9 @@ Takes true A B = A
 Takes false A B = B
 
 -- the order after one more pair of this name, whichever value is at the position
-abbrev pub OrderTaken : List ℕ → ℕ → Name → Declared → Declared → Type 0
+abbrev pub OrderTaken : List ℕ → ℕ → Name → Result Order Refusal → Result Order Refusal → Type 0
 OrderTaken s at name was r = (k : ℕ) (n : Node) (e : ℕ) → value k s at ≡ got n e → Takes (is_the key_order (key_of name)) (OrderIs r (gives n)) (r ≡ was)
 
 -- the record by the keys, whichever text they were found in
-abbrev pub KeysOf : Walked → Judged → Type 0
+abbrev pub KeysOf : Walked → Result FoundRecord Refusal → Type 0
 KeysOf x r = (text : List ℕ) (at : ℕ) → KeysIn text at x → JudgedIs text at r (then (value_or 8 (value most_open text at)) record_of_value)

@@ -1,49 +1,33 @@
 // The walk over the dict of a header's text: how it ends, whether its keys are all strings (8), and the verdicts on the values of the three keys that count (document 01, "The
 // record"). Called by `judge`.
+ghost use Rattle.refusal.specs.Answers.{answer};
 ghost use Rattle.std.specs.Prelude.{◌≡◌};
 ghost use Rattle.counts.specs.Outcome.{then, each};
 ghost use Rattle.literal.specs.Brackets.{list_by, pair_by};
 ghost use Rattle.literal.specs.Literal.{value as value_of};
-ghost use Rattle.shape_verdict.specs.Answer.{outlined};
-ghost use Rattle.descr_totals.specs.Verdict.{verdict};
-ghost use Rattle.judge.specs.Found.{shape_answer, descr_answer, ranked_at, placed_descr};
+ghost use Rattle.judge.specs.Found.{ranked_at, placed_descr};
 ghost use Rattle.judge.specs.Keys.{KeyIs, OrderTaken, WalkedOf, WalksKeys};
 
 use crate::{Descr, Shape};
 use descr_field::{DescrJudged, string_at};
-use descr_totals::DescrVerdict;
-use judge_limits::{Limit, ranked};
-use judge_names::{Declared, Name, all_strings, key_of, name_at, word_at};
+use dtype::Order;
+use judge_limits::ranked;
+use judge_names::{Name, all_strings, key_of, name_at, word_at};
 use literal::value;
 use literal_bytes::{Gap, Parsed, ValueKind, colon_at, ended, gap_at, kind_at, then_at};
 use literal_grammar::MOST_OPEN;
 use literal_tokens::scan_at;
 use refusal::Refusal;
 use shape_text::ShapeJudged;
-use shape_verdict::ShapeVerdict;
-
-// The shape of the value of `shape`; or 9, 11, 12, 13.
-#[derive(Clone, Copy)]
-pub enum ShapeFound {
-    Is(Shape),
-    Refused(Refusal),
-}
-
-// The dtype of the value of `descr`; or 9, 11, 12, 14 to 19.
-#[derive(Clone, Copy)]
-pub enum DescrFound {
-    Is(Descr),
-    Refused(Refusal),
-}
 
 // How a value ended, whether it is a dict whose keys are all strings, and what was found for the three keys.
 #[derive(Clone, Copy)]
 pub struct Walked {
     pub ended: Parsed,
     pub strings: bool,
-    pub descr: DescrFound,
-    pub order: Declared,
-    pub shape: ShapeFound,
+    pub descr: Result<Descr, Refusal>,
+    pub order: Result<Order, Refusal>,
+    pub shape: Result<Shape, Refusal>,
 }
 
 // What a key is, and where its value begins or the fault before that.
@@ -62,9 +46,9 @@ pub(crate) fn keys(text: &[u8], at: usize) -> Walked
         return Walked {
             ended: value(text, at, MOST_OPEN),
             strings: false,
-            descr: DescrFound::Refused(Refusal::NoKey),
-            order: Declared::Refused(Refusal::NoKey),
-            shape: ShapeFound::Refused(Refusal::NoKey),
+            descr: Err(Refusal::NoKey),
+            order: Err(Refusal::NoKey),
+            shape: Err(Refusal::NoKey),
         };
     };
     keys_from(text, at + 1, MOST_OPEN - 1)
@@ -77,9 +61,9 @@ fn keys_from(text: &[u8], from: usize, room: usize) -> Walked
 {
     let mut g = gap_at(text, from, b'}');
     let mut strings = true;
-    let mut descr = DescrFound::Refused(Refusal::NoKey);
-    let mut order = Declared::Refused(Refusal::NoKey);
-    let mut shape = ShapeFound::Refused(Refusal::NoKey);
+    let mut descr = Err(Refusal::NoKey);
+    let mut order = Err(Refusal::NoKey);
+    let mut shape = Err(Refusal::NoKey);
     loop {
         let Gap::Item(p) = g else {
             return walk_end(ended(g), strings, descr, order, shape);
@@ -116,9 +100,9 @@ fn keys_from(text: &[u8], from: usize, room: usize) -> Walked
 fn walk_end(
     ended: Parsed,
     strings: bool,
-    descr: DescrFound,
-    order: Declared,
-    shape: ShapeFound,
+    descr: Result<Descr, Refusal>,
+    order: Result<Order, Refusal>,
+    shape: Result<Shape, Refusal>,
 ) -> Walked
     ensures { result ≡ record { ended = ended; strings = strings; descr = descr; order = order; shape = shape } }
 {
@@ -132,32 +116,29 @@ fn walk_end(
 }
 
 // The dtype of the value at `at`, by the verdict on it.
-fn descr_found(at: usize, judged: DescrJudged) -> DescrFound
-    ensures { descr_answer result ≡ each (placed_descr at) (verdict judged.verdict) }
+fn descr_found(at: usize, judged: DescrJudged) -> Result<Descr, Refusal>
+    ensures { answer result ≡ each (placed_descr at) (answer judged.verdict) }
 {
-    let verdict = judged.verdict;
-    match verdict {
-        DescrVerdict::Fits(totals) => DescrFound::Is(Descr { at, totals }),
-        DescrVerdict::Refused(why) => DescrFound::Refused(why),
-    }
+    let totals = judged.verdict?;
+    Ok(Descr { at, totals })
 }
 
 // The shape of the value at `at`, by the verdict on it: 13 where it has over 32 dimensions.
-fn shape_found(at: usize, judged: ShapeJudged) -> ShapeFound
-    ensures { shape_answer result ≡ then (outlined judged.verdict) (ranked_at at) }
+fn shape_found(at: usize, judged: ShapeJudged) -> Result<Shape, Refusal>
+    ensures { answer result ≡ then (answer judged.verdict) (ranked_at at) }
 {
-    let verdict = judged.verdict;
-    match verdict {
-        ShapeVerdict::Good(outline) => match ranked(outline) {
-            Limit::Kept => ShapeFound::Is(Shape { at, outline }),
-            Limit::Refused(why) => ShapeFound::Refused(why),
-        },
-        ShapeVerdict::Refused(why) => ShapeFound::Refused(why),
-    }
+    let outline = judged.verdict?;
+    ranked(outline)?;
+    Ok(Shape { at, outline })
 }
 
 // The order that is declared after a pair of this name, whose value is at `at`.
-fn order_at(text: &[u8], at: usize, name: Name, was: Declared) -> Declared
+fn order_at(
+    text: &[u8],
+    at: usize,
+    name: Name,
+    was: Result<Order, Refusal>,
+) -> Result<Order, Refusal>
     ensures { OrderTaken text.now at name was result }
 {
     match name {

@@ -1,18 +1,11 @@
 -- The limits, by what the reader keeps of a shape (crate shape_verdict) and of a dtype (crate descr_totals): 13 of a shape; 13 for sub-shapes, 20, 21, 22, in this order. That
 -- these are the limits of the record is `rank_says` and `limits_say` in proofs/Tests.antt.
 use Rattle.std.specs.Prelude.{◌||◌, ◌&&◌, not, ltb}
-use Rattle.counts.specs.Outcome.{Outcome, gives, refused, unless}
-use Rattle.refusal.specs.Numbers.{number_of}
+use Rattle.counts.specs.Outcome.{Outcome, gives, unless}
 use Rattle.dtype.specs.declared.Order.{Order}
 use Rattle.shape_verdict.specs.declared.Outline.{Outline}
 use Rattle.shape_verdict.specs.Outline.{over_in}
 use Rattle.descr_totals.specs.declared.Totals.{Totals}
-use Rattle.judge_limits.specs.declared.Limit.{Limit}
-
--- the limits are kept, or the number of the first that is not
-abbrev pub limit_answer : Limit → Outcome Unit
-limit_answer Limit.Kept = gives tt
-limit_answer (Limit.Refused why) = refused (number_of why)
 
 -- 13, "over 32 dimensions in a shape": of the shape itself, once it has been read
 abbrev pub rank_limit : Outline → Outcome Unit

@@ -2,8 +2,9 @@
 // read too. Called by judge.
 #![tactic(auto)]
 
+ghost use Rattle.refusal.specs.Answers.{answer};
 ghost use Rattle.std.specs.Prelude.{◌≡◌};
-ghost use Rattle.judge_limits.specs.Answer.{limit_answer, rank_limit, limits_of};
+ghost use Rattle.judge_limits.specs.Answer.{rank_limit, limits_of};
 
 use descr_totals::Totals;
 use dtype::{MOST_DIMENSIONS, Order};
@@ -14,38 +15,31 @@ const MOST_ENTRIES: u64 = dtype::MOST_ENTRIES as u64;
 
 const MOST_NAMES: u64 = dtype::MOST_NAMES as u64;
 
-// Every limit is kept; or 13, 20, 21, 22.
-#[derive(Clone, Copy)]
-pub enum Limit {
-    Kept,
-    Refused(Refusal),
-}
-
 // 13 where a shape of this outline has over 32 dimensions.
-pub fn ranked(outline: Outline) -> Limit
-    ensures { limit_answer result ≡ rank_limit outline }
+pub fn ranked(outline: Outline) -> Result<(), Refusal>
+    ensures { answer result ≡ rank_limit outline }
 {
     if MOST_DIMENSIONS < outline.rank {
-        return Limit::Refused(Refusal::Dimensions);
+        return Err(Refusal::Dimensions);
     }
-    Limit::Kept
+    Ok(())
 }
 
 // The first limit that a record with a shape of this outline and a dtype of these totals breaks. 13 for the shape itself is `ranked`, and comes before the dtype is read.
-pub fn within(order: Order, outline: Outline, totals: Totals) -> Limit
-    ensures { limit_answer result ≡ limits_of order outline totals }
+pub fn within(order: Order, outline: Outline, totals: Totals) -> Result<(), Refusal>
+    ensures { answer result ≡ limits_of order outline totals }
 {
     if totals.over_levels {
-        return Limit::Refused(Refusal::Dimensions);
+        return Err(Refusal::Dimensions);
     }
     if (MOST_ENTRIES < totals.entries) | (MOST_NAMES < totals.names) {
-        return Limit::Refused(Refusal::Entries);
+        return Err(Refusal::Entries);
     }
     if !totals.object & totals.over {
-        return Limit::Refused(Refusal::Size);
+        return Err(Refusal::Size);
     }
     if shape_verdict::over(outline, order) {
-        return Limit::Refused(Refusal::Shape);
+        return Err(Refusal::Shape);
     }
-    Limit::Kept
+    Ok(())
 }

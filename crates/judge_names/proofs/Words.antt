@@ -1,4 +1,5 @@
 -- The order that a value declares, by the kind of its first byte.
+use Rattle.std.specs.Prelude.{Err}
 use Prim.Native.Nat.{ℕ}
 use mathlib.Core.Path.{◌≡◌, refl, sym, ap, ◌∙◌}
 use mathlib.Core.List.{List, [], ◌∷◌}
@@ -17,14 +18,13 @@ use Rattle.literal.specs.Forget.{forget}
 use Rattle.literal.specs.Literal.{value}
 use Rattle.literal.proofs.View.{view, View}
 use Rattle.refusal.specs.declared.Refusal.{Refusal}
-use Rattle.judge_names.specs.declared.Declared.{Declared}
 use Rattle.judge_names.specs.Answer.{word_of}
 
 -- what the arm of the other kinds knows
 abbrev pub NoWord : ValueKind → Type 0
 NoWord c = OneOf (0 ∷ 1 ∷ 2 ∷ 3 ∷ 4 ∷ 5 ∷ 8 ∷ 9 ∷ []) (tag_of the_type c)
 
-pub no_word : (c : ValueKind) → NoWord c → Declared.Refused Refusal.NotBoolean ≡ word_of c
+pub no_word : (c : ValueKind) → NoWord c → Err Refusal.NotBoolean ≡ word_of c
 no_word Square o = refl
 no_word Round o = refl
 no_word Curly o = refl

@@ -1,8 +1,8 @@
 -- What a name and a declared order mean. Refusal 8: "not a dict, or a key not a string". Refusal 9: "key missing". Refusal 10: "`fortran_order` not boolean".
-use Rattle.std.specs.Prelude.{ℕ, ◌≡◌, List, []}
+use Rattle.refusal.specs.Answers.{answer}
+use Rattle.std.specs.Prelude.{ℕ, ◌≡◌, List, [], Err, Ok, Result}
 use Rattle.counts.specs.Outcome.{Outcome, gives, refused, then, given}
 use Rattle.refusal.specs.declared.Refusal.{Refusal}
-use Rattle.refusal.specs.Numbers.{number_of}
 use Rattle.dtype.specs.declared.Order.{Order}
 use Rattle.dtype.specs.declared.Order.TheVariants.{C, Fortran}
 use Rattle.record.specs.FromValue.{declared_order}
@@ -15,7 +15,6 @@ use Rattle.literal.specs.Forget.{forget}
 use Rattle.literal.specs.Literal.{value}
 use Rattle.judge_names.specs.declared.Name as name
 use Rattle.judge_names.specs.declared.Name.{Name}
-use Rattle.judge_names.specs.declared.Declared.{Declared}
 
 -- a key of this name; the empty one is taken for all strings that are none of the three
 abbrev pub key_of : Name → Outcome (List ℕ)
@@ -32,28 +31,23 @@ pub record NameIs (r : Name) (key : Outcome (List ℕ)) : Type 0 where
   pub of_order : is_the key_order key ≡ is_the key_order (key_of r)
   pub of_shape : is_the key_shape key ≡ is_the key_shape (key_of r)
 
--- the declared order, or 9, 10
-abbrev pub ordered : Declared → Outcome Order
-ordered (Declared.Is o) = gives o
-ordered (Declared.Refused why) = refused (number_of why)
-
 -- the order that the value of a key declares, or the key is missing
-abbrev pub OrderIs : Declared → Outcome Node → Type 0
-OrderIs x o = ordered x ≡ then o (λ n. declared_order (forget n))
+abbrev pub OrderIs : Result Order Refusal → Outcome Node → Type 0
+OrderIs x o = answer x ≡ then o (λ n. declared_order (forget n))
 
 -- the order that the value at a position declares, whichever value is there
-abbrev pub WordAt : List ℕ → ℕ → Declared → Type 0
+abbrev pub WordAt : List ℕ → ℕ → Result Order Refusal → Type 0
 WordAt s at r = (k : ℕ) (n : Node) (e : ℕ) → value k s at ≡ got n e → OrderIs r (gives n)
 
 -- the order by the kind of a value's first byte, also where there is no value
-abbrev pub word_of : ValueKind → Declared
-word_of TrueWord = Declared.Is Fortran
-word_of FalseWord = Declared.Is C
-word_of Square = Declared.Refused Refusal.NotBoolean
-word_of Round = Declared.Refused Refusal.NotBoolean
-word_of Curly = Declared.Refused Refusal.NotBoolean
-word_of Quote = Declared.Refused Refusal.NotBoolean
-word_of Minus = Declared.Refused Refusal.NotBoolean
-word_of Digit = Declared.Refused Refusal.NotBoolean
-word_of NoneWord = Declared.Refused Refusal.NotBoolean
-word_of Other = Declared.Refused Refusal.NotBoolean
+abbrev pub word_of : ValueKind → Result Order Refusal
+word_of TrueWord = Ok Fortran
+word_of FalseWord = Ok C
+word_of Square = Err Refusal.NotBoolean
+word_of Round = Err Refusal.NotBoolean
+word_of Curly = Err Refusal.NotBoolean
+word_of Quote = Err Refusal.NotBoolean
+word_of Minus = Err Refusal.NotBoolean
+word_of Digit = Err Refusal.NotBoolean
+word_of NoneWord = Err Refusal.NotBoolean
+word_of Other = Err Refusal.NotBoolean

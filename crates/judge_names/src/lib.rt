@@ -4,7 +4,6 @@
 
 ghost use Rattle.std.specs.Prelude.{◌≡◌, ◌&&◌};
 ghost use Rattle.counts.specs.Outcome.{gives, given};
-ghost use Rattle.counts.specs.Lists.{same};
 ghost use Rattle.literal_escapes.specs.Strings.{spelled};
 ghost use Rattle.literal_bytes.specs.Text.{byte_at, kind_of};
 ghost use Rattle.judge_names.specs.Answer.{key_of, NameIs, WordAt, word_of};
@@ -24,43 +23,20 @@ pub enum Name {
     NoString,
 }
 
-// The declared order; or 9, 10.
-#[derive(Clone, Copy)]
-pub enum Declared {
-    Is(Order),
-    Refused(Refusal),
-}
-
 // The name of a key that is a string of these bytes.
 pub fn key_of(name: &[u8]) -> Name
     ensures { NameIs result (gives name.now) }
 {
-    if same_bytes(name, b"descr") {
+    if name == b"descr".as_slice() {
         return Name::Descr;
     }
-    if same_bytes(name, b"fortran_order") {
+    if name == b"fortran_order".as_slice() {
         return Name::Order;
     }
-    if same_bytes(name, b"shape") {
+    if name == b"shape".as_slice() {
         return Name::Shape;
     }
     Name::Extra
-}
-
-// Whether two texts are the same. No difference ends the walk early, so that the compiler takes many bytes at a time.
-fn same_bytes(a: &[u8], b: &[u8]) -> bool
-    ensures { result ≡ same a.now b.now }
-{
-    if a.len() != b.len() {
-        return false;
-    }
-    let mut i: usize = 0;
-    let mut alike = true;
-    while i < a.len() {
-        alike = alike & (a[i] == b[i]);
-        i += 1;
-    }
-    alike
 }
 
 // The length of `fortran_order`, the longest of the three.
@@ -82,31 +58,17 @@ pub fn name_at(text: &[u8], from: usize, quote: u8) -> Name
 pub fn all_strings(strings: bool, name: Name) -> bool
     ensures { result ≡ strings && given (key_of name) }
 {
-    strings & is_string(name)
-}
-
-// Whether a key of this name is a string.
-fn is_string(name: Name) -> bool
-    ensures { result ≡ given (key_of name) }
-{
-    match name {
-        Name::Descr => true,
-        Name::Order => true,
-        Name::Shape => true,
-        Name::Extra => true,
-        Name::NoString => false,
-    }
+    strings & !matches!(name, Name::NoString)
 }
 
 // The order that the value at `at` declares, by its first byte; or 10.
-pub fn word_at(text: &[u8], at: usize) -> Declared
+pub fn word_at(text: &[u8], at: usize) -> Result<Order, Refusal>
     ensures word_at { WordAt text.now at result }
     ensures value { result ≡ word_of (kind_of (byte_at text.now at)) }
 {
-    let k = kind_at(text, at);
-    match k {
-        ValueKind::TrueWord => Declared::Is(Order::Fortran),
-        ValueKind::FalseWord => Declared::Is(Order::C),
+    match kind_at(text, at) {
+        ValueKind::TrueWord => Ok(Order::Fortran),
+        ValueKind::FalseWord => Ok(Order::C),
         ValueKind::Square
         | ValueKind::Round
         | ValueKind::Curly
@@ -114,6 +76,6 @@ pub fn word_at(text: &[u8], at: usize) -> Declared
         | ValueKind::Minus
         | ValueKind::Digit
         | ValueKind::NoneWord
-        | ValueKind::Other => Declared::Refused(Refusal::NotBoolean),
+        | ValueKind::Other => Err(Refusal::NotBoolean),
     }
 }

@@ -1,5 +1,7 @@
 -- THE FIRST 65,537 BYTES OF A FILE GIVE ITS REPORT, AND 131,072 BYTES ARE ENOUGH FOR IT. A header that was read has at most 512 entries and 16,384 name bytes, the room that
 -- there was for them; a refusal's line is a word and a number.
+use Rattle.header.specs.declared.Header as declared
+use Rattle.std.specs.Prelude.{Err, Ok, Result}
 use Prim.Native.Nat.{ℕ, suc, ◌+◌, ◌*◌, ◌/◌, ◌^◌, ◌<◌, ◌≤◌}
 use native.Mathlib.Omega.{arith}
 use mathlib.Core.Path.{◌≡◌, refl, sym, ap, subst, ◌∙◌}
@@ -20,7 +22,6 @@ use Rattle.counts.proofs.Holds.{Holds, then_holds, then_any, unless_holds, holds
 use Rattle.counts.proofs.Owes.{roomed_whole}
 use Rattle.counts.proofs.Sides.{lt_or_ge}
 use Rattle.refusal.specs.declared.Refusal.{Refusal}
-use Rattle.refusal.specs.declared.BytesAnswer.{BytesAnswer}
 use Rattle.refusal.specs.Answers.{bytes_answer}
 use Rattle.decimal.proofs.Lengths.{printed_u64}
 use Rattle.dtype.specs.Record.{entry_width}
@@ -33,7 +34,6 @@ use Rattle.record.proofs.RoundTrips.{read_readable}
 use Rattle.list_text.proofs.Lengths.{listing_length}
 use Rattle.judge.specs.Judged.{reading}
 use Rattle.judge.proofs.Top.{reading_keeps}
-use Rattle.header.specs.declared.HeaderRead.{HeaderRead}
 use Rattle.header.specs.Reads.{after_prefix, held_into}
 use Rattle.list_file.specs.Report.{held_most, fresh, text_for, report_of, Reports}
 use Rattle.list_file.specs.Said.{said_text, WritesSaid}
@@ -142,18 +142,18 @@ report_fits file =
     omega (arith, held_fits longer (take held_most file) fresh (omega (arith, length-take held_most file)), fresh_entries, fresh_names)
 
 -- ---- with that room the text is written
-module _ (file room : List ℕ) (r : BytesAnswer) (room' : List ℕ) (enough : text_room ≤ length room) (w : Reports file room r room') where
+module _ (file room : List ℕ) (r : Result Bytes Refusal) (room' : List ℕ) (enough : text_room ≤ length room) (w : Reports file room r room') where
   fits : roomed 28 room (report_of file) ≡ gives (report_of file)
   fits = roomed_whole 28 room (report_of file) (omega (arith, report_fits file, enough))
 
   whole : bytes_answer r ≡ gives (length (report_of file))
   whole = w.answered ∙ ap (each length) fits
 
-  pub report_written : (n : Bytes) → r ≡ BytesAnswer.Is n → WritesReport file room n room'
+  pub report_written : (n : Bytes) → r ≡ Ok n → WritesReport file room n room'
   report_written n e =
       record { answered = gives_apart (sym (ap bytes_answer e) ∙ whole); after = w.room_after ∙ ap (λ (o : Outcome (List ℕ)). afterwards at_front o room) fits }
 
-  pub never_refused : (why : Refusal) → r ≡ BytesAnswer.Refused why → ⊥
+  pub never_refused : (why : Refusal) → r ≡ Err why → ⊥
   never_refused why e = refused_gives (sym (ap bytes_answer e) ∙ whole)
 
 -- ---- as many bytes as are returned are in the room
@@ -162,7 +162,7 @@ report_inside file room n room' w =
     let text = report_of file in
     omega (arith, w.answered, ap length w.after, length-append text (drop (length text) room))
 
-pub said_inside : (r : HeaderRead) (l : Lent) (room : List ℕ) (x : BytesAnswer) (room' : List ℕ) (n : Bytes) → WritesSaid r l room x room' → x ≡ BytesAnswer.Is n → n.0 ≤ length room'
+pub said_inside : (r : Result declared.Header Refusal) (l : Lent) (room : List ℕ) (x : Result Bytes Refusal) (room' : List ℕ) (n : Bytes) → WritesSaid r l room x room' → x ≡ Ok n → n.0 ≤ length room'
 said_inside r l room x room' n w e = go (said_text r l room) (sym (ap bytes_answer e) ∙ w.answered) w.room_after
   where
     go : (o : Outcome (List ℕ)) → gives n.0 ≡ each length o → room' ≡ afterwards at_front o room → n.0 ≤ length room'

@@ -1,11 +1,12 @@
 -- Document 01, "What the collector buys": "A small program reads a file on standard input and lists its record. It starts from a fresh table of 512 empty entries. It holds the
 -- file's first 65,536 bytes and 16,384 name bytes; a longer file whose header ends past those gets 23 right after 4; too many name bytes get 23 last. .. A refusal prints
 -- `refused` and the number." How a header is read from the bytes that are held is Header.antt of record, its listing Listing.antt of list_text.
-use Rattle.std.specs.Prelude.{ℕ, ◌*◌, List, [], ◌∷◌, ltb, length, take, replicate}
+use Rattle.refusal.specs.declared.Refusal.{Refusal}
+use Rattle.counts.specs.declared.Bytes.{Bytes}
+use Rattle.std.specs.Prelude.{ℕ, ◌*◌, List, [], ◌∷◌, ltb, length, take, replicate, Result}
 use Rattle.counts.specs.Outcome.{Outcome, gives, refused}
 use Rattle.counts.specs.Owes.{roomed, Owes}
 use Rattle.decimal.specs.Decimal.{printed}
-use Rattle.refusal.specs.declared.BytesAnswer.{BytesAnswer}
 use Rattle.refusal.specs.Answers.{bytes_answer}
 use Rattle.dtype.specs.Record.{entry_width}
 use Rattle.record.specs.Rooms.{Lent}
@@ -35,8 +36,8 @@ unfoldable pub report_of : (file : List ℕ) → List ℕ
 report_of file = text_for (held_into (ltb held_most (length file)) (take held_most file) fresh)
 
 -- the contract of writing a text, and of the report of a file: the text, or 28
-abbrev pub WritesText : (text room : List ℕ) → BytesAnswer → (room' : List ℕ) → Type 0
+abbrev pub WritesText : (text room : List ℕ) → Result Bytes Refusal → (room' : List ℕ) → Type 0
 WritesText text room x room' = Owes (roomed 28 room text) room (bytes_answer x) room'
 
-abbrev pub Reports : (file room : List ℕ) → BytesAnswer → (room' : List ℕ) → Type 0
+abbrev pub Reports : (file room : List ℕ) → Result Bytes Refusal → (room' : List ℕ) → Type 0
 Reports file room x room' = WritesText (report_of file) room x room'

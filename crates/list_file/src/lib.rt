@@ -11,9 +11,9 @@ ghost use Rattle.list_file.specs.Said.{ListsHeader, WritesSaid};
 ghost use Rattle.list_file.specs.Enough.{WritesReport};
 
 use counts::Bytes;
-use dtype::{MOST_DIMENSIONS, TABLE};
-use header::{Header, HeaderRead};
-use refusal::{BytesAnswer, Refusal};
+use dtype::{GivenRecord, MOST_DIMENSIONS, TABLE};
+use header::Header;
+use refusal::Refusal;
 
 // How many of a file's first bytes the program holds.
 pub const HELD: usize = 65536;
@@ -28,7 +28,7 @@ pub const ROOM: usize = 131072;
 pub fn report_whole(file: &[u8], out: &mut [u8; ROOM]) -> Bytes
     ensures { WritesReport file.now out.old result out.new }
 {
-    let BytesAnswer::Is(written) = report(file, out) else {
+    let Ok(written) = report(file, out) else {
         // not reached: no text is longer than the room
         return Bytes(0);
     };
@@ -36,7 +36,7 @@ pub fn report_whole(file: &[u8], out: &mut [u8; ROOM]) -> Bytes
 }
 
 // The same with any room, or 28.
-pub fn report(file: &[u8], out: &mut [u8]) -> BytesAnswer
+pub fn report(file: &[u8], out: &mut [u8]) -> Result<Bytes, Refusal>
     ensures { Reports file.now out.old result out.new }
 {
     let mut table = [0u64; TABLE];
@@ -50,17 +50,17 @@ pub fn report(file: &[u8], out: &mut [u8]) -> BytesAnswer
 // Puts the text for what a reading says of a header at the front of `out` and returns its length: the listing of the record at the fronts of the rooms that it was read to, or the line
 // of its refusal; or 28. Where the rooms are not as the reading left them, it refuses as `list_record::list` does.
 pub fn put_read(
-    said: HeaderRead,
+    said: Result<Header, Refusal>,
     table: &[u64],
     names: &[u8],
     shape: &[u64],
     out: &mut [u8],
-) -> BytesAnswer
+) -> Result<Bytes, Refusal>
     ensures { WritesSaid said (lent table.now names.now shape.now) out.old result out.new }
 {
     match said {
-        HeaderRead::Read(h) => list_header(h, table, names, shape, out),
-        HeaderRead::Refused(why) => put_refused(why, out),
+        Ok(h) => list_header(h, table, names, shape, out),
+        Err(why) => put_refused(why, out),
     }
 }
 
@@ -68,43 +68,40 @@ pub fn put_read(
 fn held_part(file: &[u8]) -> &[u8]
     ensures { result.now ≡ take held_most file.now }
 {
-    if HELD < file.len() {
-        return &file[..HELD];
-    }
-    file
+    &file[..file.len().min(HELD)]
 }
 
 // Puts the listing of a header that was read to the rooms.
-fn list_header(h: Header, table: &[u64], names: &[u8], shape: &[u64], out: &mut [u8]) -> BytesAnswer
+fn list_header(
+    h: Header,
+    table: &[u64],
+    names: &[u8],
+    shape: &[u64],
+    out: &mut [u8],
+) -> Result<Bytes, Refusal>
     ensures { ListsHeader h (lent table.now names.now shape.now) out.old result out.new }
 {
-    let info = h.info;
-    let version = h.version;
-    let start = h.start;
-    let order = info.order;
-    list_record::list(
-        version,
-        start,
-        read_back::table_of(table, info.entries),
-        read_back::names_of(names, info.names),
-        read_back::shape_of(shape, info.rank),
-        order,
-        out,
-    )
+    let given = GivenRecord {
+        table: read_back::table_of(table, h.info.entries),
+        names: read_back::names_of(names, h.info.names),
+        shape: read_back::shape_of(shape, h.info.rank),
+        order: h.info.order,
+    };
+    list_record::list(h.version, h.start, given, out)
 }
 
 // Puts `refused` and the number: the text is measured on a scratch byte, and put where there is room.
-fn put_refused(why: Refusal, out: &mut [u8]) -> BytesAnswer
+fn put_refused(why: Refusal, out: &mut [u8]) -> Result<Bytes, Refusal>
     ensures { WritesText (refused_line (number_of why) []) out.old result out.new }
 {
     let number = why.number() as u64;
     let mut scratch = [0u8; 1];
     let n = put_line(&mut scratch, number);
     if out.len() < n {
-        return BytesAnswer::Refused(Refusal::OutputRoom);
+        return Err(Refusal::OutputRoom);
     }
     put_line(out, number);
-    BytesAnswer::Is(Bytes(n as u64))
+    Ok(Bytes(n as u64))
 }
 
 // Puts the line of a refusal at the front, as far as there is room, and returns its length.

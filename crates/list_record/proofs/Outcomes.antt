@@ -1,14 +1,16 @@
 -- No second outcome satisfies the statement of `list`: an outcome is the answer and what the room then holds.
+use Rattle.refusal.specs.declared.Refusal.{Refusal}
+use Rattle.counts.specs.declared.Bytes.{Bytes}
+use Rattle.std.specs.Prelude.{Result}
 use Prim.Native.Nat.{ℕ}
 use mathlib.Core.List.{List}
 use Rattle.counts.specs.OneOutcome.{OneOutcome}
 use Rattle.counts.proofs.Owes.{owes_one}
-use Rattle.refusal.specs.declared.BytesAnswer.{BytesAnswer}
 use Rattle.refusal.specs.Answers.{bytes_answer}
 use Rattle.refusal.proofs.Answers.{bytes_one}
 use Rattle.dtype.specs.declared.Order.{Order}
 use Rattle.record.specs.Prefix.{Version}
 use Rattle.list_record.specs.Answer.{listed, Lists}
 
-pub list_one : (v : Version) (start : ℕ) (t ns s : List ℕ) (o : Order) (room : List ℕ) → OneOutcome {A = BytesAnswer × List ℕ} (λ r. Lists v start t ns s o room r.0 r.1)
+pub list_one : (v : Version) (start : ℕ) (t ns s : List ℕ) (o : Order) (room : List ℕ) → OneOutcome {A = Result Bytes Refusal × List ℕ} (λ r. Lists v start t ns s o room r.0 r.1)
 list_one v start t ns s o room = owes_one bytes_answer bytes_one (listed v start t ns s o room) room

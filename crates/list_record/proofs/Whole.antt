@@ -1,4 +1,6 @@
 -- What listing answers and what the room then holds: of a record that was checked, and of a caller's record. And a line of a word and numbers.
+use Rattle.counts.specs.declared.Bytes.{Bytes}
+use Rattle.std.specs.Prelude.{Err, Ok, Result}
 use Prim.Native.Nat.{ℕ, ◌^◌, ◌-◌, ◌<◌, ◌≤◌}
 use mathlib.Core.Path.{◌≡◌, refl, sym, ap}
 use mathlib.Core.List.{List, [], ◌∷◌, ◌++◌}
@@ -8,7 +10,6 @@ use Rattle.counts.specs.Owes.{roomed}
 use Rattle.counts.proofs.Owes.{owes_refused, owes_same}
 use Rattle.counts.proofs.Apart.{each_none}
 use Rattle.refusal.specs.declared.Refusal.{Refusal}
-use Rattle.refusal.specs.declared.BytesAnswer.{BytesAnswer}
 use Rattle.refusal.specs.Numbers.{number_of}
 use Rattle.decimal.specs.Decimal.{printed}
 use Rattle.emit.specs.Emits.{Emits}
@@ -26,10 +27,10 @@ use Rattle.list_record.specs.Answer.{ListsOne, Lists}
 
 -- ---- a record that was checked
 module _ (v : Version) (start : ℕ) (r : Record) (scratch mid : List ℕ) (n : ℕ) (room : List ℕ) (fits : n < 2 ^ 64) (short : length room < 2 ^ 64 - 1) (measured : Emits (listing v start r) scratch 0 mid n) where
-  pub one_28 : length room < n → ListsOne v start r room (BytesAnswer.Refused Refusal.OutputRoom) room
+  pub one_28 : length room < n → ListsOne v start r room (Err Refusal.OutputRoom) room
   one_28 lt = written_short (listing v start r) scratch mid n room fits short measured lt
 
-  pub one_written : (out : List ℕ) (q : ℕ) → n ≤ length room → Emits (listing v start r) room 0 out q → ListsOne v start r room (BytesAnswer.Is (record { 0 = n })) out
+  pub one_written : (out : List ℕ) (q : ℕ) → n ≤ length room → Emits (listing v start r) room 0 out q → ListsOne v start r room (Ok (record { 0 = n })) out
   one_written out q le h = written_whole (listing v start r) scratch mid n room fits short measured out q le h
 
 -- ---- a line of a word and numbers
@@ -49,8 +50,8 @@ pub refused_by_check : (t ns s : List ℕ) (o : Order) (n : ℕ) → refused n �
 refused_by_check t ns s o n e = each_none summary (checked_record t ns s o) n (sym e)
 
 module _ (v : Version) (start : ℕ) (t ns s : List ℕ) (o : Order) (room : List ℕ) where
-  pub lists_one : (r : Record) (x : BytesAnswer) (room' : List ℕ) → checked_record t ns s o ≡ gives r → ListsOne v start r room x room' → Lists v start t ns s o room x room'
+  pub lists_one : (r : Record) (x : Result Bytes Refusal) (room' : List ℕ) → checked_record t ns s o ≡ gives r → ListsOne v start r room x room' → Lists v start t ns s o room x room'
   lists_one r x room' e h = owes_same _ _ room _ _ (sym (ap (λ (y : Outcome Record). then y (λ z. roomed 28 room (listing v start z []))) e)) h
 
-  pub lists_refused : (f : Refusal) → checked_record t ns s o ≡ refused (number_of f) → Lists v start t ns s o room (BytesAnswer.Refused f) room
+  pub lists_refused : (f : Refusal) → checked_record t ns s o ≡ refused (number_of f) → Lists v start t ns s o room (Err f) room
   lists_refused f e = owes_same _ _ room _ _ (sym (ap (λ (y : Outcome Record). then y (λ z. roomed 28 room (listing v start z []))) e)) (owes_refused (number_of f) room)

@@ -1,7 +1,7 @@
 // Puts the listing of a caller's record to lent room (document 01, "What the collector buys"); its text is list_text's `listing`. list_file calls it, and the C interface.
 #![tactic(auto)]
 
-ghost use Rattle.std.specs.Prelude.{◌≡◌, ◌∷◌, ◌++◌, ◌+◌, ◌/◌, ◌≤◌, min, length};
+ghost use Rattle.std.specs.Prelude.{◌≡◌, ◌∷◌, ◌++◌, ◌/◌, length};
 ghost use Rattle.emit.specs.Emits.{Emits};
 ghost use Rattle.dtype.specs.Dtype.{Dtype};
 ghost use Rattle.dtype.specs.Agrees.{entry_at};
@@ -15,69 +15,45 @@ ghost use Rattle.list_text.specs.Listing.{spaced_numbers, order_line, strides_li
 ghost use Rattle.list_text.specs.Strided.{Strided};
 ghost use Rattle.list_record.specs.Answer.{ListsOne, Lists};
 
-use check_record::{Checked, ItemSize};
 use counts::{Bytes, Items};
-use dtype::{ARRAY, Entry, Order, PLAIN, RECORD};
+use dtype::{ARRAY, Entry, GivenRecord, Order, PLAIN, RECORD};
 use emit::{put, put_bytes, put_count};
 use header_prefix::Version;
-use refusal::{BytesAnswer, Refusal};
-use table_entry::EntryType;
+use refusal::Refusal;
 use write_pieces::{put_between, put_numbers};
 
 // Puts the listing of a record, its version and its data start at the front of `out` and returns its length; or 27, 13, 20, 21, 22, 28.
 pub fn list(
     version: Version,
     start: Bytes,
-    table: &[u64],
-    names: &[u8],
-    shape: &[u64],
-    order: Order,
+    given: GivenRecord<'_>,
     out: &mut [u8],
-) -> BytesAnswer
-    ensures { Lists (version_is version) start.0 table.now names.now shape.now order out.old result out.new }
+) -> Result<Bytes, Refusal>
+    ensures { Lists (version_is version) start.0 given.entry.table.now given.entry.names.now given.entry.shape.now given.entry.order out.old result out.new }
 {
-    match check_record::check(table, names, shape, order) {
-        Checked::Accepted(found) => {
-            let size = found.size;
-            let count = found.count;
-            list_checked(version, start, table, names, shape, order, size, count, out)
-        }
-        Checked::Refused(why) => BytesAnswer::Refused(why),
-    }
+    let found = check_record::check(given)?;
+    list_checked(version, start, given, found.size, found.count, out)
 }
 
 // The same for a record that was checked: the text is measured on a scratch byte, and put where there is room.
 fn list_checked(
     version: Version,
     start: Bytes,
-    table: &[u64],
-    names: &[u8],
-    shape: &[u64],
-    order: Order,
-    size: ItemSize,
+    given: GivenRecord<'_>,
+    size: Option<Bytes>,
     count: Items,
     out: &mut [u8],
-) -> BytesAnswer
-    requires { (d : Dtype) × Accepted table.now names.now shape.now order d size count }
-    ensures { (d : Dtype) → Accepted table.now names.now shape.now order d size count → ListsOne (version_is version) start.0 (made d shape.now order) out.old result out.new }
+) -> Result<Bytes, Refusal>
+    requires { (d : Dtype) × Accepted given.table.now given.names.now given.shape.now given.order d size count }
+    ensures { (d : Dtype) → Accepted given.entry.table.now given.entry.names.now given.entry.shape.now given.entry.order d size count → ListsOne (version_is version) start.0 (made d given.entry.shape.now given.entry.order) out.old result out.new }
 {
     let mut scratch = [0u8; 1];
-    let n = put_all(
-        &mut scratch,
-        version,
-        start,
-        table,
-        names,
-        shape,
-        order,
-        size,
-        count,
-    );
+    let n = put_all(&mut scratch, version, start, given, size, count);
     if out.len() < n {
-        return BytesAnswer::Refused(Refusal::OutputRoom);
+        return Err(Refusal::OutputRoom);
     }
-    put_all(out, version, start, table, names, shape, order, size, count);
-    BytesAnswer::Is(Bytes(n as u64))
+    put_all(out, version, start, given, size, count);
+    Ok(Bytes(n as u64))
 }
 
 // Puts the whole listing at the front of `out`, as far as there is room, and returns its length.
@@ -85,24 +61,21 @@ fn put_all(
     out: &mut [u8],
     version: Version,
     start: Bytes,
-    table: &[u64],
-    names: &[u8],
-    shape: &[u64],
-    order: Order,
-    size: ItemSize,
+    given: GivenRecord<'_>,
+    size: Option<Bytes>,
     count: Items,
 ) -> usize
-    requires { (d : Dtype) × Accepted table.now names.now shape.now order d size count }
-    ensures { (d : Dtype) → Accepted table.now names.now shape.now order d size count → Emits (listing (version_is version) start.0 (made d shape.now order)) out.old 0 out.new result }
+    requires { (d : Dtype) × Accepted given.table.now given.names.now given.shape.now given.order d size count }
+    ensures { (d : Dtype) → Accepted given.entry.table.now given.entry.names.now given.entry.shape.now given.entry.order d size count → Emits (listing (version_is version) start.0 (made d given.entry.shape.now given.entry.order)) out.old 0 out.new result }
 {
     let after_version = put_between(out, 0, b"version ", version.major() as u64, b".0\n");
-    let after_order = put_order(out, after_version, order);
-    let after_shape = put_row(out, after_order, b"shape", shape);
-    let after_strides = put_strides(out, after_shape, order, shape);
+    let after_order = put_order(out, after_version, given.order);
+    let after_shape = put_row(out, after_order, b"shape", given.shape);
+    let after_strides = put_strides(out, after_shape, given.order, given.shape);
     let after_count = put_between(out, after_strides, b"count ", count.0, b"\n");
     let after_item = put_size(out, after_count, size);
     let after_data = put_between(out, after_item, b"data ", start.0, b"\n");
-    put_entries(out, after_data, table, names)
+    put_entries(out, after_data, given.table, given.names)
 }
 
 // Puts the line of the order.
@@ -130,15 +103,15 @@ fn put_strides(out: &mut [u8], at: usize, order: Order, shape: &[u64]) -> usize
     ensures { Emits (strides_line (shapes.strides order shape.now)) out.old at out.new result }
 {
     let mut strides = [0u64; dtype::MOST_DIMENSIONS];
-    shape::strides(shape, order, &mut strides);
+    let _ = shape::strides(shape, order, &mut strides);
     put_row(out, at, b"strides", &strides[..shape.len()])
 }
 
 // Puts the line of the item size.
-fn put_size(out: &mut [u8], at: usize, size: ItemSize) -> usize
+fn put_size(out: &mut [u8], at: usize, size: Option<Bytes>) -> usize
     ensures { Emits (item_line size) out.old at out.new result }
 {
-    let ItemSize::Sized(n) = size else {
+    let Some(n) = size else {
         return put_bytes(out, at, b"item none\n");
     };
     put_between(out, at, b"item ", n.0, b"\n")
@@ -148,30 +121,15 @@ fn put_size(out: &mut [u8], at: usize, size: ItemSize) -> usize
 fn put_entries(out: &mut [u8], at: usize, table: &[u64], names: &[u8]) -> usize
     ensures { Emits (entry_lines (length table.now / entry_width) 0 table.now names.now) out.old at out.new result }
 {
-    let n = table.len() / dtype::ENTRY;
     let mut p = at;
     let mut start: usize = 0;
-    let mut e: usize = 0;
-    while e < n {
+    for e in 0..table.len() / dtype::ENTRY {
         let entry = table_entry::entry_at(table, e);
-        let end = past(start, entry.name, names.len());
+        let end = start.saturating_add(entry.name as usize).min(names.len());
         p = put_entry(out, p, table, e, &names[start..end]);
         start = end;
-        e += 1;
     }
     p
-}
-
-// The place `len` after the start, or the limit where that is further.
-fn past(start: usize, len: u64, limit: usize) -> usize
-    requires { start ≤ limit }
-    ensures { result ≡ min (start + len) limit }
-{
-    if len < (limit - start) as u64 {
-        start + len as usize
-    } else {
-        limit
-    }
 }
 
 // Puts the line of entry e.
@@ -208,7 +166,7 @@ fn put_kind(out: &mut [u8], at: usize, entry: Entry) -> usize
 fn put_type(out: &mut [u8], at: usize, entry: Entry) -> usize
     ensures { Emits (type_text_in (type_of entry)) out.old at out.new result }
 {
-    let EntryType::Type(t) = table_entry::type_of(entry) else {
+    let Some(t) = table_entry::type_of(entry) else {
         // not reached by `list`: in a checked table every plain entry has a type
         return at;
     };
@@ -219,11 +177,7 @@ fn put_type(out: &mut [u8], at: usize, entry: Entry) -> usize
 fn is_field(table: &[u64], e: usize, parent: u64) -> bool
     ensures { parent ≡ (entry_at table.now e).parent → result ≡ is_field table.now e }
 {
-    if e == 0 {
-        return false;
-    }
-    let above = table_entry::entry_at(table, parent as usize);
-    above.kind == RECORD
+    e != 0 && table_entry::entry_at(table, parent as usize).kind == RECORD
 }
 
 // Puts a space and a field's name in its quotes; nothing for an entry that is no field.

@@ -1,5 +1,7 @@
 -- HOW LONG A LISTING IS: at most 1,476 bytes before the table, 78 for each entry, and two for each byte of a name. Every number is below 2^64 and so has at most 20 digits.
 -- By induction over the dtype that the table lists.
+use Rattle.std.specs.Prelude.{None, Some, Option}
+use Rattle.counts.specs.declared.Bytes.{Bytes}
 use Prim.Native.Nat.{ℕ, zero, suc, ◌+◌, ◌*◌, ◌^◌, ◌<◌, ◌≤◌}
 use native.Mathlib.Omega.{arith}
 use mathlib.Core.Path.{◌≡◌, refl, ap}
@@ -33,7 +35,6 @@ use Rattle.record.specs.Prefix.{Version, one_zero, two_zero, three_zero, major}
 use Rattle.record.specs.Sound.{Small}
 use Rattle.record.proofs.Sound.{Good, AllGood, Sound}
 use Rattle.check_record.specs.Answer.{item_size}
-use Rattle.check_record.specs.declared.ItemSize.TheVariants.{Sized, Unsized}
 use Rattle.table_entry.specs.EntryType.{type_of}
 use Rattle.table_entry.proofs.Types.{type_of_back}
 use Rattle.list_text.specs.Listing.{spaced_numbers, version_line, order_line, shape_line, strides_line, count_line, item_line, data_line, parent_text, type_text_in, kind_text, is_field, name_text, entry_line, entry_lines, listing}
@@ -149,7 +150,7 @@ order_length Fortran x = omega arith
 item_length : (d : Dtype) (x : List ℕ) → over_size d ≡ false → length (item_line (item_size d) x) ≤ 26 + length x
 item_length d x h = go (has_object d) h
   where
-    go : (b : Bool) → (not b && some_over d) ≡ false → length (item_line (cond b Unsized (Sized (record { 0 = size_of d }))) x) ≤ 26 + length x
+    go : (b : Bool) → (not b && some_over d) ≡ false → length (item_line (cond {A = Option Bytes} b None (Some (record { 0 = size_of d }))) x) ≤ 26 + length x
     go true h = omega arith
     go false h = omega (arith, printed_u64 (size_of d) (10 ∷ x) (size_fits d h))
 

@@ -19,9 +19,6 @@ module _ (ns : List ℕ) (start m : ℕ) (inside : start ≤ length ns) (end : �
   pub past_inside : end ≤ length ns
   past_inside = omega (arith, e)
 
-  pub past_ahead : start ≤ end
-  past_ahead = omega (arith, e)
-
   -- what comes after it
   drop_past : drop end ns ≡ drop (start + m) ns
   drop_past = go (length ns - (start + m)) refl
@@ -61,18 +58,6 @@ pub record Going (n : ℕ) (t ns old : List ℕ) (at : ℕ) (out : List ℕ) (p 
   pub stored : (x : List ℕ) → sets out p (entry_lines (n - e) e t ns x) ≡ sets old at (entry_lines n 0 t ns x)
   pub after : (x : List ℕ) → capped (p + length (entry_lines (n - e) e t ns x)) ≡ capped (at + length (entry_lines n 0 t ns x))
 
-pub going_start : (n : ℕ) (t ns old : List ℕ) (at : ℕ) → Going n t ns old at old at 0 0
-going_start n t ns old at =
-    let z : n - 0 ≡ n = omega arith in
-    record {
-      below = omega arith;
-      same = refl;
-      inside = omega arith;
-      named = refl;
-      stored = λ x. ap (λ (k : ℕ). sets old at (entry_lines k 0 t ns x)) z;
-      after = λ x. ap (λ (k : ℕ). capped (at + length (entry_lines k 0 t ns x))) z;
-    }
-
 pub going_more :
     (n : ℕ) (t ns old : List ℕ) (at : ℕ) (out : List ℕ) (p start e : ℕ) (entry : Entry) (end : ℕ) (out' : List ℕ) (p' : ℕ)
     → Going n t ns old at out p start e → e < n → entry ≡ entry_at t e → end ≡ min (start + entry.name) (length ns)
@@ -90,14 +75,3 @@ going_more n t ns old at out p start e entry end out' p' g lt he hend h =
       stored = λ x. rw (add-one e) (written.stored (entry_lines (n - suc e) (suc e) t ns x) ∙ ap (λ (k : ℕ). sets out p (entry_lines k e t ns x)) (sym one) ∙ g.stored x);
       after = λ x. rw (add-one e) (written.after (entry_lines (n - suc e) (suc e) t ns x) ∙ ap (λ (k : ℕ). capped (p + length (entry_lines k e t ns x))) (sym one) ∙ g.after x);
     }
-
-pub going_end : (n : ℕ) (t ns old : List ℕ) (at : ℕ) (out : List ℕ) (p start e : ℕ) → Going n t ns old at out p start e → n ≤ e → Emits (entry_lines n 0 t ns) old at out p
-going_end n t ns old at out p start e g ge =
-    let z : n - e ≡ 0 = omega arith in
-    record {
-      stored = λ x. ap (λ (k : ℕ). sets out p (entry_lines k e t ns x)) (sym z) ∙ g.stored x;
-      after = λ x. ap (λ (k : ℕ). capped (p + length (entry_lines k e t ns x))) (sym z) ∙ g.after x;
-    }
-
-pub lines_known : (k k' : ℕ) (t ns old : List ℕ) (at : ℕ) (out : List ℕ) (p : ℕ) → k ≡ k' → Emits (entry_lines k 0 t ns) old at out p → Emits (entry_lines k' 0 t ns) old at out p
-lines_known k k' t ns old at out p e h = subst (λ (y : ℕ). Emits (entry_lines y 0 t ns) old at out p) e h

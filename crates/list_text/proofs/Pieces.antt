@@ -1,4 +1,6 @@
 -- The pieces of a line joined, and the cases of its parts: parent, kind, type, name.
+use Rattle.counts.specs.declared.Bytes.{Bytes}
+use Rattle.std.specs.Prelude.{None, Some, Option}
 use Prim.Native.Nat.{ℕ, zero, suc}
 use native.Mathlib.Omega.{arith}
 use mathlib.Core.Path.{◌≡◌, refl, sym, ap, subst, ◌∙◌}
@@ -16,11 +18,9 @@ use Rattle.type_str.specs.declared.TypeStr.{TypeStr}
 use Rattle.dtype.specs.declared.Entry.{Entry}
 use Rattle.dtype.specs.declared.Order.{Order}
 use Rattle.record.specs.Prefix.{Version, major}
-use Rattle.check_record.specs.declared.ItemSize.{ItemSize}
 use Rattle.dtype.specs.Agrees.{entry_at}
 use Rattle.table_entry.specs.Answer.{type_answer}
 use Rattle.table_entry.specs.EntryType.{type_of}
-use Rattle.table_entry.specs.declared.EntryType.{EntryType}
 use Rattle.list_text.specs.Listing.{version_line, order_line, item_line, parent_text, type_text_in, kind_text, is_field, name_text, entry_line}
 
 -- three pieces in turn
@@ -56,10 +56,10 @@ module _ (entry : Entry) (old : List ℕ) (at : ℕ) (mid : List ℕ) (p : ℕ) 
   kind_record (suc (suc k)) n m a b = emits_then (λ x. (114 ∷ 101 ∷ 99 ∷ 111 ∷ 114 ∷ 100 ∷ 32 ∷ []) ++ x) (printed entry.number) old at mid p out q a b
 
 -- ---- the type
-pub type_given : (r : EntryType) (o : Outcome TypeStr) (t : TypeStr) (old : List ℕ) (at : ℕ) (out : List ℕ) (p : ℕ) → type_answer r ≡ o → r ≡ EntryType.Type t → Emits (type_text t) old at out p → Emits (type_text_in o) old at out p
+pub type_given : (r : Option TypeStr) (o : Outcome TypeStr) (t : TypeStr) (old : List ℕ) (at : ℕ) (out : List ℕ) (p : ℕ) → type_answer r ≡ o → r ≡ Some t → Emits (type_text t) old at out p → Emits (type_text_in o) old at out p
 type_given r o t old at out p h e k = subst (λ (y : Outcome TypeStr). Emits (type_text_in y) old at out p) (sym (ap type_answer e) ∙ h) k
 
-pub type_none : (r : EntryType) (o : Outcome TypeStr) (old : List ℕ) (at : ℕ) → type_answer r ≡ o → r ≡ EntryType.NoType → Emits (type_text_in o) old at old at
+pub type_none : (r : Option TypeStr) (o : Outcome TypeStr) (old : List ℕ) (at : ℕ) → type_answer r ≡ o → r ≡ None → Emits (type_text_in o) old at old at
 type_none r o old at h e = subst (λ (y : Outcome TypeStr). Emits (type_text_in y) old at old at) (sym (ap type_answer e) ∙ h) (emits_none old at)
 
 -- ---- the name
@@ -104,8 +104,8 @@ module _ (old : List ℕ) (at : ℕ) (out : List ℕ) (p : ℕ) where
   pub order_known : (o o' : Order) → o ≡ o' → Emits (order_line o') old at out p → Emits (order_line o) old at out p
   order_known o o' e h = subst (λ (y : Order). Emits (order_line y) old at out p) (sym e) h
 
-  pub size_known : (s s' : ItemSize) → s ≡ s' → Emits (item_line s') old at out p → Emits (item_line s) old at out p
-  size_known s s' e h = subst (λ (y : ItemSize). Emits (item_line y) old at out p) (sym e) h
+  pub size_known : (s s' : Option Bytes) → s ≡ s' → Emits (item_line s') old at out p → Emits (item_line s) old at out p
+  size_known s s' e h = subst (λ (y : Option Bytes). Emits (item_line y) old at out p) (sym e) h
 
   pub version_known : (v : Version) (n : ℕ) → n ≡ major v → Emits (λ x. (118 ∷ 101 ∷ 114 ∷ 115 ∷ 105 ∷ 111 ∷ 110 ∷ 32 ∷ []) ++ printed n (46 ∷ 48 ∷ 10 ∷ x)) old at out p → Emits (version_line v) old at out p
   version_known v n e h = subst (λ (y : ℕ). Emits (λ x. (118 ∷ 101 ∷ 114 ∷ 115 ∷ 105 ∷ 111 ∷ 110 ∷ 32 ∷ []) ++ printed y (46 ∷ 48 ∷ 10 ∷ x)) old at out p) e h

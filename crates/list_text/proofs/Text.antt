@@ -1,4 +1,7 @@
 -- The text of a record that was checked: its strides, and its lines in turn.
+use Rattle.refusal.specs.declared.Refusal.{Refusal}
+use Rattle.counts.specs.declared.Bytes.{Bytes}
+use Rattle.std.specs.Prelude.{Option, Result}
 use Prim.Native.Nat.{ℕ, ◌/◌}
 use native.Mathlib.Omega.{arith}
 use mathlib.Core.Path.{◌≡◌, refl, sym, ap, subst, ◌∙◌}
@@ -20,19 +23,17 @@ use Rattle.dtype.proofs.Strides.{strides_length}
 use Rattle.dtype.proofs.Seen.{table_length, or_left}
 use Rattle.counts.specs.Lists.{at_front}
 use Rattle.shape.specs.Count.{strides_count, WritesStrides}
-use Rattle.refusal.specs.declared.ItemsAnswer.{ItemsAnswer}
 use Rattle.record.specs.Prefix.{Version}
 use Rattle.check_record.specs.Answer.{item_size}
 use Rattle.check_record.specs.Valid.{made}
 use Rattle.check_record.proofs.Accepts.{limits_of_lem}
-use Rattle.check_record.specs.declared.ItemSize.{ItemSize}
 use Rattle.place.specs.Walk.{Accepted}
 use Rattle.list_text.specs.Listing.{version_line, order_line, shape_line, strides_line, count_line, item_line, data_line, entry_lines, listing}
 use Rattle.list_text.specs.Strided.{Strided}
 use Rattle.list_text.proofs.Pieces.{three}
 
 -- ---- the strides
-module _ (o : Order) (s zeros : List ℕ) (r : ItemsAnswer) (out : List ℕ) (long : length zeros ≡ 32) (st : Strided o s) (w : WritesStrides o s zeros r out) where
+module _ (o : Order) (s zeros : List ℕ) (r : Result Items Refusal) (out : List ℕ) (long : length zeros ≡ 32) (st : Strided o s) (w : WritesStrides o s zeros r out) where
   strides_there : strides_count o s (length zeros) ≡ gives (product s)
   unfolding strides_count
   strides_there = rw (st.fits, le-ltb (length zeros) (length s) (omega (arith, long, st.few))) refl
@@ -50,7 +51,7 @@ pub strides_known : (s s' old : List ℕ) (at : ℕ) (out : List ℕ) (p : ℕ) 
 strides_known s s' old at out p e h = subst (λ (y : List ℕ). Emits (strides_line y) old at out p) e h
 
 -- ---- the whole, of a record that was checked
-module _ (t ns s : List ℕ) (o : Order) (d : Dtype) (size : ItemSize) (count : Items) (a : Accepted t ns s o d size count) where
+module _ (t ns s : List ℕ) (o : Order) (d : Dtype) (size : Option Bytes) (count : Items) (a : Accepted t ns s o d size count) where
   pub strided : Strided o s
   strided =
       record {
@@ -70,7 +71,7 @@ module _ (t ns s : List ℕ) (o : Order) (d : Dtype) (size : ItemSize) (count : 
   unfolding listing
   text_there v start x =
       ap (λ (n : ℕ). version_line v (order_line o (shape_line s (strides_line (strides o s) (count_line n (item_line size (data_line start (entry_lines (length t / entry_width) 0 t ns x)))))))) a.count_is
-      ∙ ap (λ (z : ItemSize). version_line v (order_line o (shape_line s (strides_line (strides o s) (count_line (product s) (item_line z (data_line start (entry_lines (length t / entry_width) 0 t ns x)))))))) a.size_is
+      ∙ ap (λ (z : Option Bytes). version_line v (order_line o (shape_line s (strides_line (strides o s) (count_line (product s) (item_line z (data_line start (entry_lines (length t / entry_width) 0 t ns x)))))))) a.size_is
       ∙ ap (λ (k : ℕ). version_line v (order_line o (shape_line s (strides_line (strides o s) (count_line (product s) (item_line (item_size d) (data_line start (entry_lines k 0 t ns x)))))))) entries_there
       ∙ ap (λ (u : List ℕ). version_line v (order_line o (shape_line s (strides_line (strides o s) (count_line (product s) (item_line (item_size d) (data_line start (entry_lines (entries_of d) 0 u ns x)))))))) a.valid.table_is
       ∙ ap (λ (u : List ℕ). version_line v (order_line o (shape_line s (strides_line (strides o s) (count_line (product s) (item_line (item_size d) (data_line start (entry_lines (entries_of d) 0 (table d) u x)))))))) a.valid.names_are

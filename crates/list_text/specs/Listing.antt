@@ -1,7 +1,8 @@
 -- Document 01, "What the collector buys": "Numbers stand one space apart. .. A rank 0 shape and its strides print their word alone, and the item size under an `O`
 -- prints `none`. Each table line gives number, parent, kind (`plain` and type string, `array` and length, `record` and field count), and a field's name
 -- quoted as the writer quotes it." Each text comes before whatever follows.
-use Rattle.std.specs.Prelude.{ℕ, zero, suc, List, [], ◌∷◌, Bool, true, false, ◌&&◌, not, eqb}
+use Rattle.counts.specs.declared.Bytes.{Bytes}
+use Rattle.std.specs.Prelude.{ℕ, zero, suc, List, [], ◌∷◌, Bool, true, false, ◌&&◌, not, eqb, None, Some, Option}
 use Rattle.counts.specs.Outcome.{Outcome, gives, refused}
 use Rattle.decimal.specs.Decimal.{printed}
 use Rattle.literal_grammar.specs.Print.{quote, print}
@@ -18,8 +19,6 @@ use Rattle.dtype.specs.Seen.{name_at}
 use Rattle.record.specs.Prefix.{Version, major}
 use Rattle.check_record.specs.Answer.{item_size}
 use Rattle.table_entry.specs.EntryType.{type_of}
-use Rattle.check_record.specs.declared.ItemSize.{ItemSize}
-use Rattle.check_record.specs.declared.ItemSize.TheVariants.{Sized, Unsized}
 
 -- numbers, each after a space
 abbrev pub spaced_numbers : List ℕ → List ℕ → List ℕ
@@ -49,9 +48,9 @@ abbrev pub count_line : ℕ → List ℕ → List ℕ
 count_line n x = 99 ∷ 111 ∷ 117 ∷ 110 ∷ 116 ∷ 32 ∷ printed n (10 ∷ x)
 
 -- `item 4`, `item none`
-abbrev pub item_line : ItemSize → List ℕ → List ℕ
-item_line (Sized n) x = 105 ∷ 116 ∷ 101 ∷ 109 ∷ 32 ∷ printed n.0 (10 ∷ x)
-item_line Unsized x = 105 ∷ 116 ∷ 101 ∷ 109 ∷ 32 ∷ 110 ∷ 111 ∷ 110 ∷ 101 ∷ 10 ∷ x
+abbrev pub item_line : Option Bytes → List ℕ → List ℕ
+item_line (Some n) x = 105 ∷ 116 ∷ 101 ∷ 109 ∷ 32 ∷ printed n.0 (10 ∷ x)
+item_line None x = 105 ∷ 116 ∷ 101 ∷ 109 ∷ 32 ∷ 110 ∷ 111 ∷ 110 ∷ 101 ∷ 10 ∷ x
 
 -- `data 80`
 abbrev pub data_line : ℕ → List ℕ → List ℕ

@@ -6,7 +6,7 @@ use mathlib.Core.Bool.{Bool}
 use Rattle.counts.specs.OneOutcome.{OneOutcome}
 use Rattle.counts.proofs.OneOutcome.{by_equation}
 use Rattle.literal_grammar.specs.Bytes.{is_quote}
-use Rattle.literal_bytes.specs.Text.{byte_at, kind_of, skip}
+use Rattle.literal_bytes.specs.Text.{byte_at, kind_of, past, skip}
 use Rattle.literal_bytes.specs.declared.ValueKind.{ValueKind}
 use Rattle.literal_bytes.specs.declared.Parsed.{Parsed}
 use Rattle.literal_bytes.specs.Gaps.{gap_at, then_at, need_at, colon_at, ended_at}
@@ -24,6 +24,12 @@ quote_at_one text at = by_equation (is_quote (byte_at text at))
 
 pub kind_at_one : (text : List ℕ) (at : ℕ) → OneOutcome {A = ValueKind} (λ r. r ≡ kind_of (byte_at text at))
 kind_at_one text at = by_equation (kind_of (byte_at text at))
+
+pub past_one : (test : ℕ → Bool) (text : List ℕ) (from : ℕ) → OneOutcome {A = ℕ} (λ r. r ≡ past test text from)
+past_one test text from = by_equation (past test text from)
+
+pub past_far_one : (test : ℕ → Bool) (text : List ℕ) (from : ℕ) → OneOutcome {A = ℕ} (λ r. r ≡ past test text from)
+past_far_one test text from = past_one test text from
 
 pub blanks_one : (text : List ℕ) (from : ℕ) → OneOutcome {A = ℕ} (λ r. r ≡ skip text from)
 blanks_one text from = by_equation (skip text from)

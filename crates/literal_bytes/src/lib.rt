@@ -2,16 +2,17 @@
 // Called by every crate that walks header text: literal, descr, shape_text, judge and their parts. Positions are indices of the text; `close` is the closing bracket.
 #![tactic(auto)]
 
-ghost use Rattle.std.specs.Prelude.{◌≡◌};
+ghost use Rattle.std.specs.Prelude.{◌≡◌, ℕ, Bool, ◌<◌};
+ghost use Rattle.std.proofs.Common.{rules};
 ghost use Rattle.literal_grammar.specs.Bytes.{is_blank, is_quote, is_open, is_break};
 ghost use Rattle.decimal.specs.Decimal.{is_digit};
-ghost use Rattle.literal_bytes.specs.Text.{byte_at, kind_of, skip, all_pass, block_at};
+ghost use Rattle.literal_bytes.specs.Text.{byte_at, kind_of, skip, past, all_pass, block_at};
 ghost use Rattle.literal_bytes.specs.ByClass.{word_kind, bracket_kind};
 ghost use Rattle.literal_bytes.specs.Gaps.{gap_at, comma_space_item_at, shut_at, then_at, need_at, colon_at, ended_at};
 
 use literal_classes::{BRACKET, DIGIT, QUOTE, SIGN, WORD_LETTER, class_of};
 
-// What `peek` returns past the end of a text.
+// What `peek` returns past the end of a text: a number above all bytes and no `Option`, so that one comparison decides.
 pub const PAST: u16 = 256;
 
 // Bytes as `peek` returns them.
@@ -33,7 +34,7 @@ const SINGLE_QUOTE: u16 = b'\'' as u16;
 
 const DOUBLE_QUOTE: u16 = b'"' as u16;
 
-// A value that ends before the position; or refusal 6 or 7 at the position.
+// A value that ends before the position; or refusal 6 or 7 at the position. (Three cases, each with a position: as a `Result` the two refusals would need an enum of their own inside it.)
 #[derive(Clone, Copy)]
 pub enum Parsed {
     Value(usize),
@@ -71,10 +72,7 @@ pub fn peek(text: &[u8], at: usize) -> u16
 pub fn is_blank(b: u8) -> bool
     ensures { result ≡ is_blank b }
 {
-    if b' ' < b {
-        return false;
-    }
-    (b == b' ') | (b == b'\t') | (b == b'\n') | (b == b'\r')
+    b <= b' ' && ((b == b' ') | (b == b'\t') | (b == b'\n') | (b == b'\r'))
 }
 
 pub fn is_digit(b: u16) -> bool
@@ -147,8 +145,7 @@ fn kind_of(b: u16) -> ValueKind
 fn kind_by_class(b: u8) -> ValueKind
     ensures { result ≡ kind_of b }
 {
-    let class = class_of(b);
-    match class {
+    match class_of(b) {
         DIGIT => ValueKind::Digit,
         WORD_LETTER => word_kind(b),
         QUOTE => ValueKind::Quote,
@@ -165,79 +162,103 @@ pub fn kind_at(text: &[u8], at: usize) -> ValueKind
     kind_of(peek(text, at))
 }
 
-// Whether each byte of a block is a blank, in one pass without an early end, so that the compiler can take the whole block at a time.
-fn all_blank(block: &[u8]) -> bool
-    ensures { result ≡ all_pass is_blank block.now }
-{
-    let mut blank = true;
-    let mut i: usize = 0;
-    while i < block.len() {
-        let b = block[i];
-        blank = blank & ((b == b' ') | (b == b'\t') | (b == b'\n') | (b == b'\r'));
-        i += 1;
-    }
-    blank
+// A test of bytes. `past` and `past_far` find where a run of bytes that pass ends.
+pub trait Test: Copy {
+    ghost passes: { Self → ℕ → Bool };
+
+    ghost BLOCK: { ℕ };
+
+    // In a long run the bytes are tried this many at a time.
+    const BLOCK: usize;
+
+    fn passes(self, b: u8) -> bool
+        ensures { result ≡ passes self b };
+
+    // The same without a branch, for the bytes of a block.
+    fn passes_in_block(self, b: u8) -> bool
+        ensures { result ≡ passes self b };
+
+    ghost some: { 0 < BLOCK };
 }
 
-// Whether the n bytes from `at` on are blanks.
-fn blank_block(text: &[u8], at: usize, n: usize) -> bool
-    ensures { result ≡ block_at is_blank n text.now at }
+// Whether each byte of a block passes, in one pass without an early end, so that the compiler can take the whole block at a time.
+fn all_pass<T: Test>(block: &[u8], test: T) -> bool
+    ensures { result ≡ all_pass (T.passes test) block.now }
 {
-    if text.len() < n {
-        return false;
+    let mut all = true;
+    for b in block {
+        all &= test.passes_in_block(*b);
     }
-    if text.len() - n < at {
-        return false;
-    }
-    all_blank(&text[at..at + n])
+    all
 }
 
-// The first position from `from` on that is no blank, byte by byte.
-fn blanks_rest(text: &[u8], from: usize) -> usize
-    ensures { result ≡ skip text.now from }
+// Whether the text has a block from `at` on, and each byte of it passes.
+fn block_at<T: Test>(text: &[u8], at: usize, test: T) -> bool
+    ensures { result ≡ block_at (T.passes test) T.BLOCK text.now at }
 {
-    let mut at = from;
-    while at < text.len() {
-        if !is_blank(text[at]) {
+    if text.len() < T::BLOCK || text.len() - T::BLOCK < at {
+        return false;
+    }
+    all_pass(&text[at..at + T::BLOCK], test)
+}
+
+// The first position from `from` on whose byte fails, or the end, byte by byte.
+pub fn past<T: Test>(text: &[u8], from: usize, test: T) -> usize
+    ensures { result ≡ past (T.passes test) text.now from }
+{
+    for at in from..text.len() {
+        if !test.passes(text[at]) {
             return at;
         }
-        at += 1;
     }
-    at
+    from.max(text.len())
 }
 
-// Blanks are tried this many at a time.
-const BLOCK: usize = 16;
-
-// The same in blocks, for many blanks.
-fn blanks_far(text: &[u8], from: usize) -> usize
-    ensures { result ≡ skip text.now from }
+// The same in blocks, for a long run.
+pub fn past_far<T: Test>(text: &[u8], from: usize, test: T) -> usize
+    ensures { result ≡ past (T.passes test) text.now from }
 {
     let mut at = from;
-    while blank_block(text, at, BLOCK) {
-        at += BLOCK;
+    while block_at(text, at, test) {
+        at += T::BLOCK;
     }
-    blanks_rest(text, at)
+    past(text, at, test)
+}
+
+// The test of blanks.
+#[derive(Clone, Copy)]
+struct Blank;
+
+impl Test for Blank {
+    ghost passes = { λ _ b. is_blank b };
+
+    ghost BLOCK = { 16 };
+
+    const BLOCK: usize = 16;
+
+    fn passes(self, b: u8) -> bool {
+        is_blank(b)
+    }
+
+    fn passes_in_block(self, b: u8) -> bool {
+        (b == b' ') | (b == b'\t') | (b == b'\n') | (b == b'\r')
+    }
+
+    ghost some = { Prim.search rules };
 }
 
 // The first position from `from` on that is no blank. Mostly there are none or one, so blocks are tried only after two.
 pub fn blanks(text: &[u8], from: usize) -> usize
     ensures { result ≡ skip text.now from }
 {
-    if text.len() <= from {
-        return from;
-    }
-    if !is_blank(text[from]) {
+    if text.len() <= from || !is_blank(text[from]) {
         return from;
     }
     let next = from + 1;
-    if text.len() <= next {
+    if text.len() <= next || !is_blank(text[next]) {
         return next;
     }
-    if !is_blank(text[next]) {
-        return next;
-    }
-    blanks_far(text, next + 1)
+    past_far(text, next + 1, Blank)
 }
 
 // What follows where an item may begin: the closing bracket, which ends before the position; an item that begins there; or a fault there.
@@ -264,10 +285,7 @@ pub fn gap_at(text: &[u8], at: usize, close: u8) -> Gap
 fn comma_space_item(text: &[u8], at: usize, close: u8) -> bool
     ensures { result ≡ comma_space_item_at text.now at close }
 {
-    if text.len() < 3 {
-        return false;
-    }
-    if text.len() - 3 < at {
+    if text.len() < 3 || text.len() - 3 < at {
         return false;
     }
     let b = text[at + 2];
@@ -293,10 +311,7 @@ fn then_any(text: &[u8], at: usize, close: u8) -> Gap
 fn shut_at(text: &[u8], at: usize, close: u8) -> bool
     ensures { result ≡ shut_at text.now at close }
 {
-    if text.len() <= at {
-        return false;
-    }
-    (text[at] == close) & (b' ' < close)
+    at < text.len() && (text[at] == close) & (b' ' < close)
 }
 
 // What follows an item that ends before `at`. Mostly the bracket closes at once, or a comma and one space come before the next item, so these are tested first.
@@ -341,8 +356,7 @@ pub fn ended(g: Gap) -> Parsed
 {
     match g {
         Gap::Shut(e) => Parsed::Value(e),
-        Gap::Item(p) => Parsed::Fault(p),
-        Gap::Stray(p) => Parsed::Fault(p),
+        Gap::Item(p) | Gap::Stray(p) => Parsed::Fault(p),
     }
 }
 

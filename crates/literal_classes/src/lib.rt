@@ -6,7 +6,7 @@ ghost use Rattle.std.specs.Prelude.{◌≡◌};
 ghost use Rattle.literal_classes.specs.Classes.{class_of};
 ghost use Rattle.literal_classes.specs.Table.{row_of};
 
-// The classes, in the order of the request.
+// The classes, in the order of the request. They are constants and no enum: a class is read as a digit of the table, and the proof compares the table with the numbers at every byte.
 pub const BLANK: u8 = 0;
 
 pub const DIGIT: u8 = 1;
@@ -27,26 +27,18 @@ pub const BACKSLASH: u8 = 8;
 
 pub const OTHER: u8 = 9;
 
-// A row of the table: the classes of sixteen bytes, from left to right, one hexadecimal digit each. An array of 256 constants would be stored on the stack at every look.
+// A row of the table: the classes of sixteen bytes, from left to right, one hexadecimal digit each; all sixteen are of the class `OTHER` in a row with no arm of its own. An array of 256 constants would be stored on the stack at every look.
 fn row(r: u8) -> u64
     ensures { result ≡ row_of r }
 {
     match r {
         0 => 0x9999_9999_9009_9099,
-        1 => 0x9999_9999_9999_9999,
         2 => 0x0939_9993_4499_6599,
         3 => 0x1111_1111_1179_9999,
         4 => 0x9222_2222_2222_2222,
         5 => 0x2222_2222_2224_8492,
         6 => 0x9222_2222_2222_2222,
         7 => 0x2222_2222_2224_9499,
-        8 => 0x9999_9999_9999_9999,
-        9 => 0x9999_9999_9999_9999,
-        10 => 0x9999_9999_9999_9999,
-        11 => 0x9999_9999_9999_9999,
-        12 => 0x9999_9999_9999_9999,
-        13 => 0x9999_9999_9999_9999,
-        14 => 0x9999_9999_9999_9999,
         _ => 0x9999_9999_9999_9999,
     }
 }

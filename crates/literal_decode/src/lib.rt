@@ -2,7 +2,7 @@
 // `from` is the position after the opening quote `quote`.
 #![tactic(auto)]
 
-ghost use Rattle.std.specs.Prelude.{◌≡◌, cond, ltb, set};
+ghost use Rattle.std.specs.Prelude.{◌≡◌, set};
 ghost use Rattle.std.proofs.lemmas.List.Edits.{sets};
 ghost use Rattle.literal_escapes.specs.Strings.{end_by, spelled, scanned};
 
@@ -19,33 +19,22 @@ fn put(out: &mut [u8], at: usize, b: u8)
     }
 }
 
-// The lesser of two numbers.
-fn least(a: usize, b: usize) -> usize
-    ensures { result ≡ cond (ltb a b) a b }
-{
-    if a < b { a } else { b }
-}
-
-// Stores a run of bytes, as many as have room. Their number is known before the first store, so that the compiler can take many bytes at a time.
+// Stores a run of bytes, as many as have room.
 fn put_some(out: &mut [u8], from: usize, run: &[u8])
     ensures { out.new ≡ sets out.old from run.now }
 {
     if out.len() <= from {
         return;
     }
-    let fit = least(run.len(), out.len() - from);
-    let mut i: usize = 0;
-    while i < fit {
-        out[from + i] = run[i];
-        i += 1;
-    }
+    let fit = run.len().min(out.len() - from);
+    out[from..from + fit].copy_from_slice(&run[..fit]);
 }
 
 // The same, for runs that are mostly empty, as between two escapes.
 fn put_run(out: &mut [u8], from: usize, run: &[u8])
     ensures { out.new ≡ sets out.old from run.now }
 {
-    if 0 < run.len() {
+    if !run.is_empty() {
         put_some(out, from, run);
     }
 }

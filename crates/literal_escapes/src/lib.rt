@@ -29,10 +29,7 @@ pub struct Scan {
 fn is_escape(b: u8) -> bool
     ensures { result ≡ is_escape b }
 {
-    match b {
-        b'\\' | b'\'' | b'"' | b'n' | b'r' | b't' => true,
-        _ => false,
-    }
+    matches!(b, b'\\' | b'\'' | b'"' | b'n' | b'r' | b't')
 }
 
 // The byte that an escape means, given the byte after its backslash.
@@ -66,19 +63,10 @@ fn escape_at(text: &[u8], at: usize) -> Piece
 pub fn escape_here(text: &[u8], at: usize, quote: u8) -> bool
     ensures { result ≡ escape_here quote text.now at }
 {
-    if quote == b'\\' {
+    if quote == b'\\' || text.len() < 2 || text.len() - 2 < at {
         return false;
     }
-    if text.len() < 2 {
-        return false;
-    }
-    if text.len() - 2 < at {
-        return false;
-    }
-    if text[at] != b'\\' {
-        return false;
-    }
-    is_escape(text[at + 1])
+    text[at] == b'\\' && is_escape(text[at + 1])
 }
 
 // The piece at a position; the end of the text is a fault. Of the blanks LF and CR are faults.
@@ -92,8 +80,7 @@ pub fn piece_at(text: &[u8], at: usize, quote: u8) -> Piece
     if b == quote {
         return Piece::Close(at + 1);
     }
-    let class = class_of(b);
-    match class {
+    match class_of(b) {
         BACKSLASH => escape_at(text, at + 1),
         BLANK => {
             if is_break(b) {

@@ -2,76 +2,40 @@
 // Called by literal_tokens and literal_decode. `quote` is the string's quote.
 #![tactic(auto)]
 
-ghost use Rattle.std.specs.Prelude.{◌≡◌, cond, ◌&&◌, eqb, ltb, length};
-ghost use Rattle.literal_bytes.specs.Text.{byte_at, run, past, all_pass, block_at};
+ghost use Rattle.std.specs.Prelude.{◌≡◌, ◌&&◌, eqb, ltb, length};
+ghost use Rattle.std.proofs.Common.{rules};
+ghost use Rattle.literal_bytes.specs.Text.{byte_at, run, past};
 ghost use Rattle.literal_bytes.specs.Plain.{is_plain};
 ghost use Rattle.literal_runs.specs.Low.{is_low, is_high};
 
-use literal_bytes::is_break;
+use literal_bytes::{Test, is_break, past, past_far};
 
-// Whether a byte is plain. Nearly every byte is above CR, where two tests are enough.
-fn is_plain(b: u8, quote: u8) -> bool
-    ensures { result ≡ is_plain quote b }
-{
-    if b'\r' < b {
-        return (b != quote) & (b != b'\\');
-    }
-    !((b == quote) | is_break(b))
+// The test of plain bytes, in a string with this quote.
+#[derive(Clone, Copy)]
+struct Plain {
+    quote: u8,
 }
 
-// Whether each byte of a block is plain, in one pass without an early end, so that the compiler can take the whole block at a time.
-fn all_plain(block: &[u8], quote: u8) -> bool
-    ensures { result ≡ all_pass (is_plain quote) block.now }
-{
-    let mut plain = true;
-    let mut i: usize = 0;
-    while i < block.len() {
-        let b = block[i];
-        plain = plain & (b != quote) & (b != b'\\') & (b != b'\n') & (b != b'\r');
-        i += 1;
-    }
-    plain
-}
+impl Test for Plain {
+    ghost passes = { λ p b. is_plain p.quote b };
 
-// Whether the n bytes from `at` on are plain.
-fn plain_block(text: &[u8], at: usize, n: usize, quote: u8) -> bool
-    ensures { result ≡ block_at (is_plain quote) n text.now at }
-{
-    if text.len() < n {
-        return false;
-    }
-    if text.len() - n < at {
-        return false;
-    }
-    all_plain(&text[at..at + n], quote)
-}
+    ghost BLOCK = { 32 };
 
-// The first position from `from` on that is not plain, byte by byte.
-fn plain_rest(text: &[u8], from: usize, quote: u8) -> usize
-    ensures { result ≡ past (is_plain quote) text.now from }
-{
-    let mut at = from;
-    while at < text.len() {
-        if !is_plain(text[at], quote) {
-            return at;
+    const BLOCK: usize = 32;
+
+    // Nearly every byte is above CR, where two tests are enough.
+    fn passes(self, b: u8) -> bool {
+        if b'\r' < b {
+            return b != self.quote && b != b'\\';
         }
-        at += 1;
+        !((b == self.quote) | is_break(b))
     }
-    at
-}
 
-// A long run is tried this many bytes at a time.
-const LONG_BLOCK: usize = 32;
-
-// The same in blocks, for a long run.
-fn plain_far(text: &[u8], from: usize, quote: u8) -> usize
-    ensures { result ≡ past (is_plain quote) text.now from }
-{
-    let mut at = from;
-    while plain_block(text, at, LONG_BLOCK, quote) {
-        at += LONG_BLOCK;
+    fn passes_in_block(self, b: u8) -> bool {
+        (b != self.quote) & (b != b'\\') & (b != b'\n') & (b != b'\r')
     }
-    plain_rest(text, at, quote)
+
+    ghost some = { Prim.search rules };
 }
 
 // Whether a byte is below `(` or a backslash; any other byte is plain in a string in `'` or `"`.
@@ -82,34 +46,18 @@ fn is_low(b: u8) -> bool
 }
 
 // A string's first bytes are looked at together: this many.
-const FIRST: u8 = 16;
+const FIRST: usize = 16;
 
-// The same as a length.
-const FIRST_BLOCK: usize = FIRST as usize;
-
-// The place i if the byte there is low, else 16.
-fn low_place(b: u8, i: u8) -> u8
-    ensures { result ≡ cond (is_low b) i 16 }
-{
-    if is_low(b) { i } else { FIRST }
-}
-
-fn lesser(a: u8, b: u8) -> u8
-    ensures { result ≡ cond (ltb a b) a b }
-{
-    if a < b { a } else { b }
-}
-
-// The place of the first low byte of a block of 16, or 16 if none is, in one pass without an early end, so that the compiler can take the whole block at a time.
-fn first_low(block: &[u8]) -> u8
+// The place of the first low byte of a block of 16, or 16 if none is: from the last byte to the first in one pass without an early end, so that no byte needs a branch.
+fn first_low(block: &[u8]) -> usize
     requires { length block.now ≡ 16 }
     ensures { result ≡ run is_high block.now }
 {
-    let mut first: u8 = FIRST;
-    let mut i: u8 = 0;
-    while i < FIRST {
-        first = lesser(first, low_place(block[i as usize], i));
-        i += 1;
+    let mut first = FIRST;
+    for i in (0..FIRST).rev() {
+        if is_low(block[i]) {
+            first = i;
+        }
     }
     first
 }
@@ -118,30 +66,22 @@ fn first_low(block: &[u8]) -> u8
 pub fn byte_is(text: &[u8], at: usize, b: u8) -> bool
     ensures { result ≡ (ltb at (length text.now) && eqb (byte_at text.now at) b) }
 {
-    if text.len() <= at {
-        return false;
-    }
-    text[at] == b
+    at < text.len() && text[at] == b
 }
 
 // The first position from `from` on that is not plain, or the end. Most runs end at the quote within 16 bytes.
 pub fn plain_any(text: &[u8], from: usize, quote: u8) -> usize
     ensures { result ≡ past (is_plain quote) text.now from }
 {
-    if b'\'' < quote {
-        return plain_rest(text, from, quote);
+    let plain = Plain { quote };
+    if b'\'' < quote || text.len() < FIRST || text.len() - FIRST < from {
+        return past(text, from, plain);
     }
-    if text.len() < FIRST_BLOCK {
-        return plain_rest(text, from, quote);
-    }
-    if text.len() - FIRST_BLOCK < from {
-        return plain_rest(text, from, quote);
-    }
-    let at = from + first_low(&text[from..from + FIRST_BLOCK]) as usize;
+    let at = from + first_low(&text[from..from + FIRST]);
     if byte_is(text, at, quote) {
         return at;
     }
-    plain_far(text, at, quote)
+    past_far(text, at, plain)
 }
 
 // The same, for a string in which an escape was met if `escape` is set: then runs are mostly short.
@@ -149,7 +89,7 @@ pub fn plain_to(text: &[u8], from: usize, quote: u8, escape: bool) -> usize
     ensures { result ≡ past (is_plain quote) text.now from }
 {
     if escape {
-        plain_rest(text, from, quote)
+        past(text, from, Plain { quote })
     } else {
         plain_any(text, from, quote)
     }

@@ -1,4 +1,5 @@
 -- Digits at a position: the run that they are is what crate decimal reads there.
+use Rattle.std.specs.Prelude.{None, Some, Option}
 use Prim.Native.Nat.{ℕ, suc, ◌+◌, ◌-◌, ◌<◌, ◌≤◌}
 use native.Mathlib.Omega.{arith}
 use mathlib.Core.Path.{◌≡◌, refl, sym, ap, ◌∙◌}
@@ -9,8 +10,6 @@ use lib.Seq.{drop-cons, take_all}
 use lib.Dec.{lit<}
 use borrow.Author.Tests.{eq-eqb, ne_eqb}
 use Rattle.counts.specs.Number.{number}
-use Rattle.counts.specs.declared.Number.{Number}
-use Rattle.counts.specs.declared.Number.TheVariants.{Is, Over}
 use Rattle.counts.proofs.Fits.{number_is}
 use Rattle.decimal.specs.Decimal.{is_digit, digits_of, decimal, decimal_from}
 use Rattle.decimal.specs.Read.{digits_read}
@@ -44,23 +43,23 @@ front_digits (b ∷ l) = go (is_digit b) (front_digits l)
     go false ih = refl
 
 -- how digits end is known
-ended_at_lem : (s : List ℕ) (at : ℕ) (r : Parsed) → natural_at s at ≡ r → (n : Number) → n ≡ number_of_numeral s at r → record { ended = r; number = n } ≡ numeral_at s at
-ended_at_lem s at r h n hn = ap (λ (x : Number). record { ended = r; number = x }) hn ∙ ap (λ (x : Parsed). record { ended = x; number = number_of_numeral s at x }) (sym h)
+ended_at_lem : (s : List ℕ) (at : ℕ) (r : Parsed) → natural_at s at ≡ r → (n : Option ℕ) → n ≡ number_of_numeral s at r → record { ended = r; number = n } ≡ numeral_at s at
+ended_at_lem s at r h n hn = ap (λ (x : Option ℕ). record { ended = r; number = x }) hn ∙ ap (λ (x : Parsed). record { ended = x; number = number_of_numeral s at x }) (sym h)
 
 module _ (s : List ℕ) (at : ℕ) where
   one_byte : at < length s → part s at (at + 1) ≡ byte_at s at ∷ []
   one_byte lt = let one : at + 1 - at ≡ 1 = omega arith in rw (one, drop-cons s at 256 lt)
 
-  pub numeral_zero : byte_at s at ≡ 48 → record { ended = Value (at + 1); number = Is 0 } ≡ numeral_at s at
+  pub numeral_zero : byte_at s at ≡ 48 → record { ended = Value (at + 1); number = Some 0 } ≡ numeral_at s at
   unfolding natural_at decimal_from
   numeral_zero h =
       let digits = one_byte (byte_in s at 48 h (lit< tt)) ∙ ap (λ (b : ℕ). b ∷ []) h in
-      ended_at_lem s at (Value (at + 1)) (rw (natural_at, eq-eqb _ _ h)) (Is 0) (sym (ap (λ (l : List ℕ). number (decimal l)) digits ∙ number_is 0 (omega arith)))
+      ended_at_lem s at (Value (at + 1)) (rw (natural_at, eq-eqb _ _ h)) (Some 0) (sym (ap (λ (l : List ℕ). number (decimal l)) digits ∙ number_is 0 (omega arith)))
 
   module _ (nonzero : byte_at s at ≡ 48 → ⊥) where
-    pub numeral_fault : is_digit (byte_at s at) ≡ false → record { ended = Fault at; number = Over } ≡ numeral_at s at
+    pub numeral_fault : is_digit (byte_at s at) ≡ false → record { ended = Fault at; number = None } ≡ numeral_at s at
     unfolding natural_at
-    numeral_fault h = ended_at_lem s at (Fault at) (rw (natural_at, ne_eqb _ _ nonzero, h)) Over refl
+    numeral_fault h = ended_at_lem s at (Fault at) (rw (natural_at, ne_eqb _ _ nonzero, h)) None refl
 
     module _ (digit : is_digit (byte_at s at) ≡ true) (r : Digits) (hr : r ≡ digits_read (take (length s - at) (drop at s))) where
       read_here : r ≡ digits_read (drop at s)

@@ -1,10 +1,8 @@
 -- Document 01, "The literal": "Integers are an optional `-`, then `0` or a nonzero digit with more digits. Words are longest runs of ASCII letters,
 -- digits, underscore. Strings stand in `'` or `"`". The values without brackets; the bytes of a string are literal_escapes/specs/Strings.antt. In a valid text no two words
 -- are adjacent, so a word is a fault at the first byte where it differs from the known one.
-use Rattle.std.specs.Prelude.{ℕ, ◌+◌, List, [], ◌∷◌, true, false, eqb}
+use Rattle.std.specs.Prelude.{ℕ, ◌+◌, List, [], ◌∷◌, true, false, eqb, Option}
 use Rattle.counts.specs.Number.{number}
-use Rattle.counts.specs.declared.Number.{Number}
-use Rattle.counts.specs.declared.Number.TheVariants.{Over}
 use Rattle.decimal.specs.Decimal.{is_digit, decimal}
 use Rattle.literal_tokens.specs.Node.{Node, span, string, integer, True, False, None}
 use Rattle.literal_bytes.specs.Got.{Got, fault, with, giving}
@@ -22,11 +20,11 @@ natural_at s at = elim (eqb (byte_at s at) 48) [
   | false ↦ elim (is_digit (byte_at s at)) [ true ↦ Value (past is_digit s (at + 1)) | false ↦ Fault at ]
 ]
 
--- the number that the digits from `at` up to their end write, or `Over`; `Over` too where there are none
-abbrev pub number_of_numeral : List ℕ → ℕ → Parsed → Number
+-- the number that the digits from `at` up to their end write, or `None` over 2^64-1; `None` too where there are none
+abbrev pub number_of_numeral : List ℕ → ℕ → Parsed → Option ℕ
 number_of_numeral s at (Value e) = number (decimal (part s at e))
-number_of_numeral s at (Fault p) = Over
-number_of_numeral s at (Deep p) = Over
+number_of_numeral s at (Fault p) = Option.None
+number_of_numeral s at (Deep p) = Option.None
 
 -- where the digits at a position end, and their number
 abbrev pub numeral_at : List ℕ → ℕ → Numeral

@@ -7,7 +7,6 @@ ghost use Rattle.literal_bytes.specs.Got.{pos};
 ghost use Rattle.literal_escapes.specs.Strings.{spelled, scanned};
 ghost use Rattle.literal_tokens.specs.Tokens.{numeral_at, word_at, token_at};
 
-use counts::Number;
 use literal_bytes::{Parsed, ValueKind, ZERO, is_digit, kind_at, peek};
 use literal_escapes::{Piece, Scan, escape_here, piece_at};
 use literal_runs::{byte_is, plain_any, plain_to};
@@ -28,8 +27,7 @@ fn scan_from(text: &[u8], from: usize, quote: u8) -> Scan
         }
         let to = plain_to(text, at, quote, escape);
         len += to - at;
-        let p = piece_at(text, to, quote);
-        match p {
+        match piece_at(text, to, quote) {
             Piece::Close(e) => {
                 return Scan {
                     ended: Parsed::Value(e),
@@ -68,11 +66,11 @@ pub fn scan_at(text: &[u8], from: usize, quote: u8) -> Scan
     scan_from(text, from, quote)
 }
 
-// Where digits end, and the number that they write; a fault and `Over` where there are none.
+// Where digits end, and the number that they write; a fault and `None` where there are none.
 #[derive(Clone, Copy)]
 pub struct Numeral {
     pub ended: Parsed,
-    pub number: Number,
+    pub number: Option<u64>,
 }
 
 // The end of `0`, or of a nonzero digit with more digits, and the number that they write, in one pass.
@@ -83,20 +81,19 @@ pub fn numeral_at(text: &[u8], at: usize) -> Numeral
     if b == ZERO {
         return Numeral {
             ended: Parsed::Value(at + 1),
-            number: Number::Is(0),
+            number: Some(0),
         };
     }
     if !is_digit(b) {
         return Numeral {
             ended: Parsed::Fault(at),
-            number: Number::Over,
+            number: None,
         };
     }
     let read = decimal::read(&text[at..]);
-    let number = read.number;
     Numeral {
         ended: Parsed::Value(at + read.count),
-        number,
+        number: read.number,
     }
 }
 
@@ -105,13 +102,11 @@ fn word(text: &[u8], from: usize, expected: &[u8]) -> Parsed
     ensures { result ≡ word_at expected.now text.now from }
 {
     let mut at = from;
-    let mut i: usize = 0;
-    while i < expected.len() {
-        if peek(text, at) != expected[i] as u16 {
+    for b in expected {
+        if peek(text, at) != *b as u16 {
             return Parsed::Fault(at);
         }
         at += 1;
-        i += 1;
     }
     Parsed::Value(at)
 }
@@ -120,20 +115,10 @@ fn word(text: &[u8], from: usize, expected: &[u8]) -> Parsed
 pub fn token(text: &[u8], at: usize) -> Parsed
     ensures { result ≡ pos (token_at text.now at) }
 {
-    let k = kind_at(text, at);
-    match k {
-        ValueKind::Quote => {
-            let s = scan_at(text, at + 1, text[at]);
-            s.ended
-        }
-        ValueKind::Minus => {
-            let n = numeral_at(text, at + 1);
-            n.ended
-        }
-        ValueKind::Digit => {
-            let n = numeral_at(text, at);
-            n.ended
-        }
+    match kind_at(text, at) {
+        ValueKind::Quote => scan_at(text, at + 1, text[at]).ended,
+        ValueKind::Minus => numeral_at(text, at + 1).ended,
+        ValueKind::Digit => numeral_at(text, at).ended,
         ValueKind::TrueWord => word(text, at, b"True"),
         ValueKind::FalseWord => word(text, at, b"False"),
         ValueKind::NoneWord => word(text, at, b"None"),

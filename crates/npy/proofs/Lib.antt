@@ -1,3 +1,1 @@
-mod Putting
-mod Feeding
 pub mod Outcomes

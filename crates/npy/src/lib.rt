@@ -2,6 +2,7 @@
 // It returns 0 and writes its values, or returns the refusal's number and leaves all that it was lent as it was; `npy_feed` also returns 255. For a feeder's numbers `npy_feed` writes the feeder, the text buffer
 // and `used` also where it does not return 0, and `npy_feed_end` the feeder. Orders, versions, types and feeders are given by their numbers, and any number is an input. (A refusal::Refusal is returned as its number; a type has a type_letters::Endianness, a type_letters::TypeChar and a type_units::TimeUnits, a value a value_float::Single or a
 // value_float::Double.)
+// A function that only reads chains its steps with `and_then`. One that writes to a lent room has a `match`: of a room that a closure of `and_then` wrote to, a proof knows its length alone.
 #![tactic(auto)]
 
 ghost use Rattle.counts.specs.Outcome.{then, each};
@@ -24,11 +25,11 @@ ghost use Rattle.npy.specs.Feeding.{TakesInC, FeedsInC, EndsSayingInC, EndsInC};
 ghost use Rattle.npy.specs.Calls.{ReadsInC, ReadsHeldInC, ReadsTextInC, WritesInC, ListsInC, ListsAsInC, StridesInC, PrintsInC, Puts};
 
 use counts::Bytes;
+use dtype::GivenRecord;
 use header_feed::Fed;
 use header_prefix::Version;
-use npy_codes::{FEEDER, FeederSays, OrderGiven, VersionGiven};
+use npy_codes::{FEEDER, FeederSays};
 use refusal::Refusal;
-use type_str::TypeRead;
 
 // The header of a file. Its record goes to the three lent rooms; `said` is its version, order, rank, entries, name bytes and where the data starts.
 pub fn npy_read(
@@ -40,7 +41,7 @@ pub fn npy_read(
 ) -> u8
     ensures { ReadsInC file.now (lent table.old names.old shape.old) said.old result (lent table.new names.new shape.new) said.new }
 {
-    npy_codes::return_header(header::read(file, table, names, shape), said)
+    npy_codes::returned(header::read(file, table, names, shape), said)
 }
 
 // The same for a file of which only the first bytes are held: `longer` if it has more.
@@ -54,7 +55,7 @@ pub fn npy_read_held(
 ) -> u8
     ensures { ReadsHeldInC longer file.now (lent table.old names.old shape.old) said.old result (lent table.new names.new shape.new) said.new }
 {
-    npy_codes::return_header(header::read_held(file, longer, table, names, shape), said)
+    npy_codes::returned(header::read_held(file, longer, table, names, shape), said)
 }
 
 // A part of a header, to a feeder, whose numbers become those of the feeder after it. The text goes to the front of `text`, a record to the three lent rooms; `said` is as of npy_read, and `used` is how
@@ -98,13 +99,17 @@ fn feed_more(
 ) -> u8
     ensures { TakesInC reading feeder.old part.now text.old (lent table.old names.old shape.old) said.old used.old result feeder.new text.new (lent table.new names.new shape.new) said.new used.new }
 {
-    let f = npy_codes::feeder_at(*feeder);
-    let fed = header_feed::feed(f, part, text, table, names, shape);
-    let after = fed.feeder;
-    let says = after.said;
-    *feeder = npy_codes::feeder_numbers(after);
+    let fed = header_feed::feed(
+        npy_codes::feeder_at(*feeder),
+        part,
+        text,
+        table,
+        names,
+        shape,
+    );
+    *feeder = npy_codes::feeder_numbers(fed.feeder);
     *used = [fed.used as u64];
-    npy_codes::return_fed(says, said)
+    npy_codes::return_fed(fed.feeder.said, said)
 }
 
 // The end of the input, to a feeder: 1 or 3 if it needs more, which its numbers then say; else the outcome that it has said.
@@ -123,10 +128,9 @@ pub fn npy_feed_end(feeder: &mut [u64; FEEDER], said: &mut [u64; 6]) -> u8
 fn end_more(feeder: &mut [u64; FEEDER], said: &mut [u64; 6]) -> u8
     ensures { EndsSayingInC need_more feeder.old said.old result feeder.new said.new }
 {
-    let f = header_feed::end(npy_codes::feeder_at(*feeder));
-    let says = f.said;
-    *feeder = npy_codes::with_saying(*feeder, says);
-    npy_codes::return_fed(says, said)
+    let after = header_feed::end(npy_codes::feeder_at(*feeder));
+    *feeder = npy_codes::with_saying(*feeder, after.said);
+    npy_codes::return_fed(after.said, said)
 }
 
 // The record of a header's text, of any length; `said` is its order, rank, entries and name bytes.
@@ -139,20 +143,22 @@ pub fn npy_read_text(
 ) -> u8
     ensures { ReadsTextInC text.now (lent table.old names.old shape.old) said.old result (lent table.new names.new shape.new) said.new }
 {
-    npy_codes::return_text(header::read_text(text, table, names, shape), said)
+    npy_codes::returned(header::read_text(text, table, names, shape), said)
 }
 
 // Whether a record is one that some reading gives, 7 and 4 aside; `said` is its rank, entries, 1 and its item size or 0 and 0, and its item count.
 pub fn npy_check(table: &[u64], names: &[u8], shape: &[u64], order: u64, said: &mut [u64; 5]) -> u8
     ensures { Returns summary_values (then (order_for order) (λ o. each summary (checked_record table.now names.now shape.now o))) said.old result said.new }
 {
-    match npy_codes::order_for(order) {
-        OrderGiven::Is(o) => npy_codes::return_checked(
-            check_record::check(table, names, shape, o),
-            said,
-        ),
-        OrderGiven::Refused(why) => why.number(),
-    }
+    let checked = npy_codes::order_for(order).and_then(|order| {
+        check_record::check(GivenRecord {
+            table,
+            names,
+            shape,
+            order,
+        })
+    });
+    npy_codes::returned(checked, said)
 }
 
 // The header of a record, at the front of `out`; `count` is its length.
@@ -167,11 +173,19 @@ pub fn npy_write_header(
     ensures { WritesInC table.now names.now shape.now order out.old count.old result out.new count.new }
 {
     match npy_codes::order_for(order) {
-        OrderGiven::Is(o) => npy_codes::return_bytes(
-            write::write_header(table, names, shape, o, out),
+        Ok(o) => npy_codes::returned(
+            write::write_header(
+                GivenRecord {
+                    table,
+                    names,
+                    shape,
+                    order: o,
+                },
+                out,
+            ),
             count,
         ),
-        OrderGiven::Refused(why) => why.number(),
+        Err(why) => why.number(),
     }
 }
 
@@ -189,8 +203,8 @@ pub fn npy_list(
     ensures { ListsInC version start table.now names.now shape.now order out.old count.old result out.new count.new }
 {
     match npy_codes::version_for(version) {
-        VersionGiven::Is(v) => list_as(v, start, table, names, shape, order, out, count),
-        VersionGiven::Refused(why) => why.number(),
+        Ok(v) => list_as(v, start, table, names, shape, order, out, count),
+        Err(why) => why.number(),
     }
 }
 
@@ -208,11 +222,21 @@ fn list_as(
     ensures { ListsAsInC (version_is version) start table.now names.now shape.now order out.old count.old result out.new count.new }
 {
     match npy_codes::order_for(order) {
-        OrderGiven::Is(o) => npy_codes::return_bytes(
-            list_record::list(version, Bytes(start), table, names, shape, o, out),
+        Ok(o) => npy_codes::returned(
+            list_record::list(
+                version,
+                Bytes(start),
+                GivenRecord {
+                    table,
+                    names,
+                    shape,
+                    order: o,
+                },
+                out,
+            ),
             count,
         ),
-        OrderGiven::Refused(why) => why.number(),
+        Err(why) => why.number(),
     }
 }
 
@@ -220,10 +244,8 @@ fn list_as(
 pub fn npy_count(shape: &[u64], order: u64, count: &mut [u64; 1]) -> u8
     ensures { Returns one_number (then (order_for order) (λ o. item_count o shape.now)) count.old result count.new }
 {
-    match npy_codes::order_for(order) {
-        OrderGiven::Is(o) => npy_codes::return_items(shape::count(shape, o), count),
-        OrderGiven::Refused(why) => why.number(),
-    }
+    let items = npy_codes::order_for(order).and_then(|o| shape::count(shape, o));
+    npy_codes::returned(items, count)
 }
 
 // The strides of a shape, in items, at the front of `out`; `count` is the item count.
@@ -231,8 +253,8 @@ pub fn npy_strides(shape: &[u64], order: u64, out: &mut [u64], count: &mut [u64;
     ensures { StridesInC shape.now order out.old count.old result out.new count.new }
 {
     match npy_codes::order_for(order) {
-        OrderGiven::Is(o) => npy_codes::return_items(shape::strides(shape, o, out), count),
-        OrderGiven::Refused(why) => why.number(),
+        Ok(o) => npy_codes::returned(shape::strides(shape, o, out), count),
+        Err(why) => why.number(),
     }
 }
 
@@ -240,13 +262,8 @@ pub fn npy_strides(shape: &[u64], order: u64, out: &mut [u64], count: &mut [u64;
 pub fn npy_item_number(shape: &[u64], order: u64, index: &[u64], item: &mut [u64; 1]) -> u8
     ensures { Returns one_number (then (order_for order) (λ o. item_of o shape.now index.now)) item.old result item.new }
 {
-    match npy_codes::order_for(order) {
-        OrderGiven::Is(o) => npy_codes::return_items(
-            place_item::item_number(shape, o, index),
-            item,
-        ),
-        OrderGiven::Refused(why) => why.number(),
-    }
+    let number = npy_codes::order_for(order).and_then(|o| place_item::item_number(shape, o, index));
+    npy_codes::returned(number, item)
 }
 
 // The place of an index and a path in a file of `file` bytes; `run` is its first byte, how many, and the type's four numbers.
@@ -263,22 +280,16 @@ pub fn npy_place(
 ) -> u8
     ensures { Returns run_values (then (order_for order) (λ o. place_of file start table.now names.now shape.now o index.now path.now)) run.old result run.new }
 {
-    match npy_codes::order_for(order) {
-        OrderGiven::Is(o) => npy_codes::return_place(
-            place::place(
-                Bytes(file),
-                Bytes(start),
-                table,
-                names,
-                shape,
-                o,
-                index,
-                path,
-            ),
-            run,
-        ),
-        OrderGiven::Refused(why) => why.number(),
-    }
+    let place = npy_codes::order_for(order).and_then(|order| {
+        let given = GivenRecord {
+            table,
+            names,
+            shape,
+            order,
+        };
+        place::place(Bytes(file), Bytes(start), given, index, path)
+    });
+    npy_codes::returned(place, run)
 }
 
 // The element S or V at its place in a file, at the front of `out`; `count` is how many bytes were written.
@@ -297,11 +308,23 @@ pub fn npy_element_bytes(
     ensures { Puts (then (order_for order) (λ o. element_bytes file.now start table.now names.now shape.now o index.now path.now out.old)) out.old count.old result out.new count.new }
 {
     match npy_codes::order_for(order) {
-        OrderGiven::Is(o) => npy_codes::return_bytes(
-            element::read_bytes(file, Bytes(start), table, names, shape, o, index, path, out),
+        Ok(o) => npy_codes::returned(
+            element::read_bytes(
+                file,
+                Bytes(start),
+                GivenRecord {
+                    table,
+                    names,
+                    shape,
+                    order: o,
+                },
+                index,
+                path,
+                out,
+            ),
             count,
         ),
-        OrderGiven::Refused(why) => why.number(),
+        Err(why) => why.number(),
     }
 }
 
@@ -321,11 +344,23 @@ pub fn npy_element_points(
     ensures { Puts (then (order_for order) (λ o. element_points file.now start table.now names.now shape.now o index.now path.now out.old)) out.old count.old result out.new count.new }
 {
     match npy_codes::order_for(order) {
-        OrderGiven::Is(o) => npy_codes::return_points(
-            element::read_points(file, Bytes(start), table, names, shape, o, index, path, out),
+        Ok(o) => npy_codes::returned(
+            element::read_points(
+                file,
+                Bytes(start),
+                GivenRecord {
+                    table,
+                    names,
+                    shape,
+                    order: o,
+                },
+                index,
+                path,
+                out,
+            ),
             count,
         ),
-        OrderGiven::Refused(why) => why.number(),
+        Err(why) => why.number(),
     }
 }
 
@@ -343,13 +378,16 @@ pub fn npy_element_value(
 ) -> u8
     ensures { Returns value_values (then (order_for order) (λ o. element_value file.now start table.now names.now shape.now o index.now path.now)) said.old result said.new }
 {
-    match npy_codes::order_for(order) {
-        OrderGiven::Is(o) => npy_codes::return_value(
-            element::read_value(file, Bytes(start), table, names, shape, o, index, path),
-            said,
-        ),
-        OrderGiven::Refused(why) => why.number(),
-    }
+    let value = npy_codes::order_for(order).and_then(|order| {
+        let given = GivenRecord {
+            table,
+            names,
+            shape,
+            order,
+        };
+        element::read_value(file, Bytes(start), given, index, path)
+    });
+    npy_codes::returned(value, said)
 }
 
 // The element S or V in a run of bytes, at the front of `out`; `count` is how many bytes were written.
@@ -365,11 +403,8 @@ pub fn npy_read_bytes(
     ensures { Puts (then (type_for order letter size units) (λ t. read_bytes t run.now out.old)) out.old count.old result out.new count.new }
 {
     match npy_codes::type_for(order, letter, size, units) {
-        TypeRead::Read(t) => npy_codes::return_bytes(
-            string_element::read_bytes(run, t, out),
-            count,
-        ),
-        TypeRead::Refused(why) => why.number(),
+        Ok(t) => npy_codes::returned(string_element::read_bytes(run, t, out), count),
+        Err(why) => why.number(),
     }
 }
 
@@ -386,11 +421,8 @@ pub fn npy_read_points(
     ensures { Puts (then (type_for order letter size units) (λ t. read_points t run.now out.old)) out.old count.old result out.new count.new }
 {
     match npy_codes::type_for(order, letter, size, units) {
-        TypeRead::Read(t) => npy_codes::return_points(
-            string_element::read_points(run, t, out),
-            count,
-        ),
-        TypeRead::Refused(why) => why.number(),
+        Ok(t) => npy_codes::returned(string_element::read_points(run, t, out), count),
+        Err(why) => why.number(),
     }
 }
 
@@ -405,10 +437,8 @@ pub fn npy_read_value(
 ) -> u8
     ensures { Returns value_values (then (type_for order letter size units) (λ t. read_value t run.now)) said.old result said.new }
 {
-    match npy_codes::type_for(order, letter, size, units) {
-        TypeRead::Read(t) => npy_codes::return_value(value::read(run, t), said),
-        TypeRead::Refused(why) => why.number(),
-    }
+    let value = npy_codes::type_for(order, letter, size, units).and_then(|t| value::read(run, t));
+    npy_codes::returned(value, said)
 }
 
 // The run of an element S or V, at the front of `out`; `count` is its length in bytes.
@@ -424,11 +454,8 @@ pub fn npy_write_bytes(
     ensures { Puts (then (type_for order letter size units) (λ t. write_bytes t value.now out.old)) out.old count.old result out.new count.new }
 {
     match npy_codes::type_for(order, letter, size, units) {
-        TypeRead::Read(t) => npy_codes::return_bytes(
-            string_element::write_bytes(t, value, out),
-            count,
-        ),
-        TypeRead::Refused(why) => why.number(),
+        Ok(t) => npy_codes::returned(string_element::write_bytes(t, value, out), count),
+        Err(why) => why.number(),
     }
 }
 
@@ -445,11 +472,8 @@ pub fn npy_write_points(
     ensures { Puts (then (type_for order letter size units) (λ t. write_points t value.now out.old)) out.old count.old result out.new count.new }
 {
     match npy_codes::type_for(order, letter, size, units) {
-        TypeRead::Read(t) => npy_codes::return_bytes(
-            string_element::write_points(t, value, out),
-            count,
-        ),
-        TypeRead::Refused(why) => why.number(),
+        Ok(t) => npy_codes::returned(string_element::write_points(t, value, out), count),
+        Err(why) => why.number(),
     }
 }
 
@@ -457,7 +481,7 @@ pub fn npy_write_points(
 pub fn npy_type_read(text: &[u8], said: &mut [u64; 4]) -> u8
     ensures { Returns type_values (type_string text.now) said.old result said.new }
 {
-    npy_codes::return_type(type_read::parse(text), said)
+    npy_codes::returned(type_read::parse(text), said)
 }
 
 // The type string of a type, at the front of `out`; `count` is its length.
@@ -472,7 +496,7 @@ pub fn npy_type_print(
     ensures { PrintsInC order letter size units out.old count.old result out.new count.new }
 {
     match npy_codes::type_for(order, letter, size, units) {
-        TypeRead::Read(t) => npy_codes::return_bytes(type_print::print(t, out), count),
-        TypeRead::Refused(why) => why.number(),
+        Ok(t) => npy_codes::returned(type_print::print(t, out), count),
+        Err(why) => why.number(),
     }
 }

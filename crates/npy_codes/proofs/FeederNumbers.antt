@@ -2,26 +2,24 @@
 use Prim.Native.Nat.{ℕ, zero, suc, ◌+◌, ◌%◌, ◌<◌, ◌≤◌}
 use native.Mathlib.Omega.{arith}
 use native.Mathlib.Nat.{zero-add}
-use mathlib.Core.Path.{◌≡◌, refl, sym, ap, ◌∙◌, subst}
-use mathlib.Core.List.{List, [], ◌∷◌, ◌++◌, append_assoc, append-nil}
+use mathlib.Core.Path.{◌≡◌, refl, ap, ◌∙◌, subst}
+use mathlib.Core.List.{List, [], ◌∷◌, ◌++◌, append-nil}
 use mathlib.Core.Bool.{true, false, ◌&&◌}
 use lib.Dec.{eqb, leb}
 use lib.ListN.{length, get_or, take, drop, set, drop_of_length-le}
 use lib.Seq.{length-take-le, take_all, take_at, take-suc-set}
+use borrow.Rule.Slice.PartMut.{put_mid, post_of}
+use Rattle.std.proofs.Common.{length-drop}
 use borrow.Author.Tests.{eq-eqb, ne_eqb, leb-true, eqb-true}
 use Rattle.counts.specs.Outcome.{gives, refused, each}
 use Rattle.counts.proofs.Alike.{and_right, or_elim}
-use Rattle.refusal.specs.declared.Refusal.{Refusal}
-use Rattle.refusal.specs.Numbers.{number_of}
 use Rattle.record.specs.Prefix.{Version, version_of}
 use Rattle.dtype.specs.declared.Order.{Order}
-use Rattle.header.specs.Reads.{HeaderInfo, header_is}
-use Rattle.header.specs.declared.Header.{Header}
-use Rattle.header_feed.specs.declared.Fed.{Fed}
-use Rattle.header_feed.specs.Feeds.{Progress, need_more, outcome, progress}
+use Rattle.header.specs.Reads.{HeaderInfo}
+use Rattle.header_feed.specs.Feeds.{need_more, outcome}
 use Rattle.header_feed.proofs.Copies.{Copying, copying_length, copying_next, copying_end}
-use Rattle.npy_codes.specs.Codes.{order_for, header_values}
-use Rattle.npy_codes.specs.Feeders.{ReturnsProgress, progress_code, progress_values, saying_numbers, low_bytes, head_for, header_for, saying}
+use Rattle.npy_codes.specs.Codes.{order_for}
+use Rattle.npy_codes.specs.Feeders.{low_bytes, head_for, header_for, saying}
 use Rattle.refusal.specs.Numbers.{is_refusal}
 
 -- ---- what the numbers say
@@ -62,24 +60,6 @@ pub refusal_small : (n : ℕ) → is_refusal n ≡ true → n ≤ 36
 refusal_small n e =
     or_elim (leb 1 n && leb n 32) (eqb n 36) e (λ a. omega (arith, leb-true n 32 (and_right (leb 1 n) (leb n 32) a))) (λ b. omega (arith, eqb-true n 36 b))
 
--- ---- the numbers of what is said
-pub header_numbers : (h : HeaderInfo) (v : List ℕ) → v ≡ header_values h
-    → ◌≡◌ {A = List ℕ} (255 ∷ get_or v 0 0 ∷ get_or v 1 0 ∷ get_or v 2 0 ∷ get_or v 3 0 ∷ get_or v 4 0 ∷ get_or v 5 0 ∷ []) (255 ∷ header_values h)
-header_numbers h v e = ap (λ (x : List ℕ). 255 ∷ get_or x 0 0 ∷ get_or x 1 0 ∷ get_or x 2 0 ∷ get_or x 3 0 ∷ get_or x 4 0 ∷ get_or x 5 0 ∷ []) e
-
--- what is returned, once a pattern has found what is said
-module _ {room : List ℕ} where
-  pub header_returned : {s : Fed} (h : Header) {room' : List ℕ} → s ≡ Fed.Read h → room' ≡ header_values (header_is h) → ReturnsProgress (progress s) room 0 room'
-  header_returned h is put = record { answered = sym (ap (λ (x : Fed). progress_code (progress x)) is); after = put ∙ sym (ap (λ (x : Fed). progress_values (progress x) room) is) }
-
-  pub refusal_returned : {s : Fed} (why : Refusal) {r : ℕ} → s ≡ Fed.Refused why → r ≡ number_of why → ReturnsProgress (progress s) room r room
-  refusal_returned why is number = record { answered = number ∙ sym (ap (λ (x : Fed). progress_code (progress x)) is); after = sym (ap (λ (x : Fed). progress_values (progress x) room) is) }
-
-pub saying_length : (p : Progress) → length (saying_numbers p) ≡ 7
-saying_length need_more = refl
-saying_length (outcome (gives h)) = refl
-saying_length (outcome (refused n)) = refl
-
 -- ---- the loops
 pub low_at : (ns : List ℕ) (i : ℕ) → get_or (low_bytes ns) i 0 ≡ get_or ns i 0 % 256
 low_at [] i = refl
@@ -113,10 +93,7 @@ head_end d head taken i out e f c l =
     ∙ ap (λ (x : List ℕ). x ++ (taken ∷ [])) (take_at (take 12 head) (drop 12 d) 12 (length-take-le 12 head (omega (arith, f))) ∙ take_all 12 head (omega (arith, f)))
 
 -- .. then what is said
-pub saying_end : (d says : List ℕ) (i : ℕ) (out : List ℕ) → length d ≡ 20 → length says ≡ 7 → Copying d 13 says 7 i out → 7 ≤ i → out ≡ take 13 d ++ says
-saying_end d says i out e f c l =
-    copying_end d 13 says 7 i out c l ∙ append_assoc (take 13 d) (take 7 says) (drop 20 d) ∙ ap (λ (x : List ℕ). take 13 d ++ x)
-    (ap (λ (x : List ℕ). take 7 says ++ x) (drop_of_length-le d {i = 20} (omega (arith, e))) ∙ append-nil (take 7 says) ∙ take_all 7 says (omega (arith, f)))
-
-pub numbers_made : (head ns : List ℕ) (taken : ℕ) (says out : List ℕ) → take 13 ns ≡ head ++ taken ∷ [] → out ≡ take 13 ns ++ says → out ≡ head ++ taken ∷ says
-numbers_made head ns taken says out e is = is ∙ ap (λ (x : List ℕ). x ++ says) e ∙ append_assoc head (taken ∷ []) says
+pub saying_end : (d says out : List ℕ) → length d ≡ 20 → out ≡ says → put_mid 13 7 d out ≡ take 13 d ++ says
+saying_end d says out e is =
+    let none : post_of 13 7 d ≡ [] = drop_of_length-le (drop 13 d) {i = 7} (omega (arith, length-drop 13 d, e)) in
+    ap (λ (x : List ℕ). take 13 d ++ (x ++ post_of 13 7 d)) is ∙ ap (λ (x : List ℕ). take 13 d ++ (says ++ x)) none ∙ ap (λ (x : List ℕ). take 13 d ++ x) (append-nil says)

@@ -1,8 +1,5 @@
-mod Complement
 pub mod Said
 pub mod ValueEdges
-pub mod Returned
-mod Given
 pub mod Then
 pub mod FeederNumbers
 pub mod Feeders

@@ -1,5 +1,10 @@
 -- No second outcome satisfies a statement of this crate: an answer as C gets it has one code and one content of the room for the values; and a number that a caller
 -- gives names one order, version or type, or is refused by one reason.
+use Rattle.refusal.specs.Answers.{answer}
+use Rattle.type_str.specs.declared.TypeStr.{TypeStr}
+use Rattle.refusal.specs.declared.Refusal.{Refusal}
+use Rattle.dtype.specs.declared.Order.{Order}
+use Rattle.std.specs.Prelude.{Err, Ok, Result}
 use Prim.Native.Nat.{ℕ}
 use mathlib.Core.Path.{◌≡◌, refl, sym, ap, ◌∙◌}
 use mathlib.Core.List.{List, ◌++◌}
@@ -8,21 +13,17 @@ use Rattle.counts.specs.Outcome.{Outcome, gives, refused}
 use Rattle.counts.specs.OneOutcome.{OneOutcome}
 use Rattle.counts.proofs.OneOutcome.{pair_of, by_equation, by_inverse}
 use Rattle.refusal.proofs.Names.{refusal_back}
-use Rattle.refusal.proofs.Answers.{answer_for, answer_one}
+use Rattle.refusal.proofs.Answers.{answer_for, answer_one, whole_one}
 use Rattle.header_prefix.proofs.Outcomes.{version_back, version_back_lem}
-use Rattle.type_str.specs.Answer as typed
-use Rattle.type_str.specs.declared.TypeRead.{TypeRead}
 use Rattle.type_str.proofs.Outcomes as typed_one
 use Rattle.record.specs.Prefix as version
 use Rattle.header_prefix.specs.declared.Version.{Version}
 use Rattle.header_feed.specs.declared.Fed.{Fed}
 use Rattle.header_feed.specs.declared.Feeder.{Feeder}
 use Rattle.header_feed.specs.Feeds.{Progress, need_more, outcome, progress}
-use Rattle.npy_codes.specs.declared.OrderGiven.{OrderGiven}
-use Rattle.npy_codes.specs.declared.VersionGiven.{VersionGiven}
 use Rattle.npy_codes.specs.declared.FeederSays.{FeederSays}
 use Rattle.npy_codes.specs.Codes.{Returns, order_for, type_for}
-use Rattle.npy_codes.specs.Given.{order_given, version_given}
+use Rattle.npy_codes.specs.Given.{version_given}
 use Rattle.npy_codes.specs.Feeders.{ReturnsProgress, saying_numbers, feeder_numbers, taking_for, saying}
 use Rattle.npy_codes.specs.FeederSays.{feeder_says}
 
@@ -31,21 +32,17 @@ pub returns_one : {A : Type 0} (values : A → List ℕ) (o : Outcome A) (room :
 returns_one values o room x y p q = pair_of (p.answered ∙ sym q.answered) (p.after ∙ sym q.after)
 
 -- ---- what a number names
-order_same : (a : OrderGiven) → answer_for OrderGiven.Is OrderGiven.Refused (order_given a) ≡ a
-order_same (OrderGiven.Is o) = refl
-order_same (OrderGiven.Refused why) = ap OrderGiven.Refused (refusal_back why)
+pub order_for_one : (n : ℕ) → OneOutcome {A = Result Order Refusal} (λ r. answer r ≡ order_for n)
+order_for_one n = whole_one (order_for n)
 
-pub order_for_one : (n : ℕ) → OneOutcome {A = OrderGiven} (λ r. order_given r ≡ order_for n)
-order_for_one n = answer_one order_given OrderGiven.Is OrderGiven.Refused order_same (order_for n)
+version_same : (a : Result Version Refusal) → answer_for (λ v. Ok (version_back v)) Err (version_given a) ≡ a
+version_same (Ok v) = ap Ok (version_back_lem v)
+version_same (Err why) = ap Err (refusal_back why)
 
-version_same : (a : VersionGiven) → answer_for (λ v. VersionGiven.Is (version_back v)) VersionGiven.Refused (version_given a) ≡ a
-version_same (VersionGiven.Is v) = ap VersionGiven.Is (version_back_lem v)
-version_same (VersionGiven.Refused why) = ap VersionGiven.Refused (refusal_back why)
+pub version_for_one : (n : ℕ) → OneOutcome {A = Result Version Refusal} (λ r. version_given r ≡ version.version_of n 0)
+version_for_one n = answer_one version_given (λ v. Ok (version_back v)) Err version_same (version.version_of n 0)
 
-pub version_for_one : (n : ℕ) → OneOutcome {A = VersionGiven} (λ r. version_given r ≡ version.version_of n 0)
-version_for_one n = answer_one version_given (λ v. VersionGiven.Is (version_back v)) VersionGiven.Refused version_same (version.version_of n 0)
-
-pub type_for_one : (order letter size units : ℕ) → OneOutcome {A = TypeRead} (λ r. typed.answer r ≡ type_for order letter size units)
+pub type_for_one : (order letter size units : ℕ) → OneOutcome {A = Result TypeStr Refusal} (λ r. answer r ≡ type_for order letter size units)
 type_for_one order letter size units = typed_one.answer_one (type_for order letter size units)
 
 -- ---- a feeder and its numbers
@@ -79,3 +76,7 @@ progress_one p values x y a b = pair_of (a.answered ∙ sym b.answered) (a.after
 
 pub return_fed_one : (said : Fed) (values : List ℕ) → OneOutcome {A = ℕ × List ℕ} (λ r. ReturnsProgress (progress said) values r.0 r.1)
 return_fed_one said values = progress_one (progress said) values
+
+-- what C gets of a value, whatever its numbers are
+pub numbers_one : (numbers : List ℕ) → OneOutcome (λ (r : List ℕ). r ≡ numbers)
+numbers_one numbers = by_equation numbers

@@ -3,7 +3,8 @@
 -- The numbers of the C interface: how a caller names an order, a version and a type, and the values of each answer. An order is 0 for C and 1 for Fortran; a version is its major byte; a type is the four numbers of
 -- its entry in the dtype table. A number that names none is refused: an order or a type with 27, document 01's "caller's record or type that no reading gives"; a version
 -- with 2, "other version" (`version_of` of crate record). The values of an answer are in the order in which include/npy.h lists them.
-use Rattle.std.specs.Prelude.{ℕ, ◌≡◌, List, [], ◌∷◌, cond, eqb}
+use Rattle.counts.specs.declared.Bytes.{Bytes}
+use Rattle.std.specs.Prelude.{ℕ, ◌≡◌, List, [], ◌∷◌, cond, eqb, None, Some, Option}
 use Rattle.counts.specs.Outcome.{Outcome, gives, refused, afterwards}
 use Rattle.type_str.specs.declared.TypeStr.{TypeStr}
 use Rattle.dtype.specs.declared.Order.{Order}
@@ -11,7 +12,6 @@ use Rattle.dtype.specs.declared.Order.TheVariants.{C, Fortran}
 use Rattle.table_entry.specs.EntryType.{type_of}
 use Rattle.dtype.specs.TypeNumbers.{order_byte, letter_byte, units_number}
 use Rattle.record.specs.Prefix.{major}
-use Rattle.check_record.specs.declared.ItemSize.{ItemSize}
 use Rattle.check_record.specs.declared.Summary.{Summary}
 use Rattle.place_area.specs.declared.Run.{Run}
 use Rattle.header.specs.declared.RecordInfo.{RecordInfo}
@@ -58,9 +58,9 @@ abbrev pub header_values : HeaderInfo → List ℕ
 header_values h = major h.version ∷ order_number h.info.order ∷ h.info.rank ∷ h.info.entries ∷ h.info.names ∷ h.data_start ∷ []
 
 -- 1 and the item size, or 0 and 0
-abbrev pub size_values : ItemSize → List ℕ → List ℕ
-size_values (ItemSize.Sized n) x = 1 ∷ n.0 ∷ x
-size_values ItemSize.Unsized x = 0 ∷ 0 ∷ x
+abbrev pub size_values : Option Bytes → List ℕ → List ℕ
+size_values (Some n) x = 1 ∷ n.0 ∷ x
+size_values None x = 0 ∷ 0 ∷ x
 
 -- a checked record: rank, entries, whether there is an item size, the item size, the item count
 abbrev pub summary_values : Summary → List ℕ

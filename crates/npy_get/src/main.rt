@@ -4,14 +4,11 @@
 // Where it prints nothing to standard output, standard error says why.
 #![tactic(auto)]
 
-ghost use Rattle.std.specs.Prelude.{ℕ, ◌≤◌, ◌≡◌, length, IfOk};
-ghost use Rattle.get_file.specs.declared.Listed.{Listed};
+ghost use Rattle.std.specs.Prelude.{ℕ, ◌≤◌, ◌≡◌, length, Some, IfOk};
 
 use counts::Bytes;
-use get_file::Listed;
-use place::Placed;
 use place_area::Run;
-use refusal::{BytesAnswer, Refusal};
+use refusal::Refusal;
 use std::io::{Cursor, Read, Seek, SeekFrom};
 use std::os::unix::fs::FileTypeExt;
 use std::rt::{Env, Files};
@@ -43,13 +40,13 @@ const NOT_READ: &str = "npy-get: the file could not be read, or was cut while it
 fn main(rt: HostRuntime) -> io::Result<()> {
     let mut index = [0u64; get_file::INDEX];
     let mut path = [0u64; get_file::PATH];
-    let Listed::Are(rank) = argument(&rt, 1, &mut index) else {
+    let Some(rank) = argument(&rt, 1, &mut index) else {
         return say(
             &rt,
             "npy-get: INDEX is not numbers separated by commas, or `-`, or is too long\n",
         );
     };
-    let Listed::Are(depth) = argument(&rt, 2, &mut path) else {
+    let Some(depth) = argument(&rt, 2, &mut path) else {
         return say(
             &rt,
             "npy-get: PATH is not numbers separated by commas, or `-`, or is too long\n",
@@ -59,13 +56,11 @@ fn main(rt: HostRuntime) -> io::Result<()> {
 }
 
 // The numbers of an argument. One that is missing, or too long to be held, is no list.
-fn argument(rt: &impl Env, i: usize, out: &mut [u64]) -> Listed
-    ensures { (n : ℕ) → result ≡ Listed.Are n → n ≤ length out.new }
+fn argument(rt: &impl Env, i: usize, out: &mut [u64]) -> Option<usize>
+    ensures { (n : ℕ) → result ≡ Some n → n ≤ length out.new }
 {
     let mut text = [0u8; 65536];
-    let Ok(n) = rt.arg(i, &mut text) else {
-        return Listed::NoList;
-    };
+    let n = rt.arg(i, &mut text).ok()?;
     get_file::numbers(&text[..n], out)
 }
 
@@ -123,39 +118,28 @@ fn print_element<F: Read + Seek>(
     let Ok(held) = read_full(file, &mut front) else {
         return say(rt, NOT_READ);
     };
-    if is_cut(held, bytes) {
+    // fewer bytes than are there to be held
+    if held < HELD && (held as u64) < bytes {
         return say(rt, NOT_READ);
     }
     let longer = (HELD as u64) < bytes;
     match get_file::find(&front[..held], longer, Bytes(bytes), index, path) {
-        Placed::At(run) => print_run(rt, file, run),
-        Placed::Refused(why) => print_refused(rt, why),
-    }
-}
-
-// Whether fewer bytes were read than are there to be held.
-fn is_cut(held: usize, bytes: u64) -> bool {
-    if held < HELD {
-        (held as u64) < bytes
-    } else {
-        false
+        Ok(run) => print_run(rt, file, run),
+        Err(why) => print_refused(rt, why),
     }
 }
 
 // Prints the element in these bytes of the file.
 fn print_run<F: Read + Seek>(rt: &(impl Print + Eprint), file: &mut F, run: Run) -> io::Result<()> {
-    let first = run.first;
-    let len = run.len;
-    let kind = run.kind;
-    if (ELEMENT as u64) < len.0 {
+    if (ELEMENT as u64) < run.len.0 {
         return print_refused(rt, Refusal::Room);
     }
-    let count = len.0 as usize;
-    if LAST_SOUGHT < first.0 {
+    let count = run.len.0 as usize;
+    if LAST_SOUGHT < run.first.0 {
         // not reached: the place is inside a file whose length was sought
         return Ok(());
     }
-    file.seek(SeekFrom::Start(first.0))?;
+    file.seek(SeekFrom::Start(run.first.0))?;
     let mut element = [0u8; ELEMENT];
     let Ok(n) = read_full(file, &mut element) else {
         return say(rt, NOT_READ);
@@ -163,27 +147,29 @@ fn print_run<F: Read + Seek>(rt: &(impl Print + Eprint), file: &mut F, run: Run)
     if n < count {
         return say(rt, NOT_READ);
     }
-    print_line(rt, &element[..count], kind)
+    print_line(rt, &element[..count], run.kind)
 }
 
 // Prints the line of an element, or its refusal.
 fn print_line(rt: &impl Print, element: &[u8], kind: TypeStr) -> io::Result<()> {
     let mut out = [0u8; ROOM];
     match element_text::put(element, kind, &mut out) {
-        BytesAnswer::Is(n) => {
-            let end = n.0 as usize;
-            rt.write_all(&out[..end])
-        }
-        BytesAnswer::Refused(why) => print_refused(rt, why),
+        Ok(n) => rt.write_all(&out[..n.0 as usize]),
+        Err(why) => print_refused(rt, why),
     }
 }
 
 fn print_refused(rt: &impl Print, why: Refusal) -> io::Result<()> {
-    let number = why.number();
-    println!(rt; "refused {number}")
+    println!(rt; "refused {}", why.number())
 }
 
-// Reads until the room is full or the input ends, and returns how many bytes that are.
+// Writes to standard error.
+fn say(rt: &impl Eprint, text: &str) -> io::Result<()> {
+    rt.eprint(text)
+}
+
+// Reads until the room is full or the input ends, and returns how many bytes that are. (npy_list has the same: a public function of a library would have to state what the room then holds, and no contract
+// can say what is read.)
 fn read_full(input: &mut impl Read, room: &mut [u8]) -> io::Result<usize>
     ensures { IfOk result (λ n. n ≤ length room.new) }
 {
@@ -196,9 +182,4 @@ fn read_full(input: &mut impl Read, room: &mut [u8]) -> io::Result<usize>
         done += n;
     }
     Ok(done)
-}
-
-// Writes to standard error.
-fn say(rt: &impl Eprint, text: &str) -> io::Result<()> {
-    rt.eprint(text)
 }

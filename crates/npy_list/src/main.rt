@@ -3,7 +3,6 @@
 
 ghost use Rattle.std.specs.Prelude.{◌≤◌, length, IfOk};
 
-use counts::Bytes;
 use std::io;
 use std::io::Read;
 
@@ -13,12 +12,12 @@ fn main(rt: HostRuntime) -> io::Result<()> {
     let mut file = [0u8; list_file::HELD + 1];
     let n = read_full(&mut rt.stdin(), &mut file)?;
     let mut out = [0u8; list_file::ROOM];
-    let length: Bytes = list_file::report_whole(&file[..n], &mut out);
-    let end = length.0 as usize;
-    rt.write_all(&out[..end])
+    let length = list_file::report_whole(&file[..n], &mut out);
+    rt.write_all(&out[..length.0 as usize])
 }
 
-// Reads until the room is full or the input ends, and returns how many bytes that are.
+// Reads until the room is full or the input ends, and returns how many bytes that are. (npy_get has the same: a public function of a library would have to state what the room then holds, and no contract
+// can say what is read.)
 fn read_full(input: &mut impl Read, room: &mut [u8]) -> io::Result<usize>
     ensures { IfOk result (λ n. n ≤ length room.new) }
 {

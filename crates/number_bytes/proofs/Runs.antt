@@ -1,13 +1,16 @@
 -- Runs of bytes from either end: a byte counted from the other end, and what is left of a number as its bytes are taken one by one from the most significant on.
+use Rattle.std.specs.Prelude.{None, Some, Option}
 use Prim.Native.Nat.{ℕ, zero, suc, ◌+◌, ◌*◌, ◌-◌, ◌/◌, ◌%◌, ◌^◌, ◌≤◌, ◌<◌}
 use native.Mathlib.Omega.{arith}
 use mathlib.Core.Path.{◌≡◌, refl, sym, ap, ◌∙◌}
+use mathlib.Core.Logic.{◌⊎◌, ⊎_elim}
 use mathlib.Core.List.{List, [], ◌∷◌, reverse, reverse-cons, reverse-reverse}
 use lib.ListN.{length, get_or, drop, length-reverse, get_or-append, get_or-eq_default}
 use lib.Seq.{drop-cons, drop-length, get_or_at}
+use native.Mathlib.Nat.{pow-suc, pow-le-pow_right, lt_of_lt_of_le, div-div-eq-div-mul}
+use Rattle.std.specs.Int.{w64, to_le_bytes, bytes_low_first, byte_at as le_byte}
 use Rattle.counts.specs.Number.{number}
-use Rattle.counts.specs.declared.Number.{Number}
-use Rattle.counts.specs.declared.Number.TheVariants.{Is, Over}
+use Rattle.counts.proofs.Sides.{lt_or_ge}
 use Rattle.counts.proofs.Fits.{number_is, number_over}
 use Rattle.number_bytes.specs.Numbers.{little, least_bytes, byte_of, least_first, in_order, out_order}
 use Rattle.type_letters.specs.declared.Endianness.{Endianness}
@@ -46,11 +49,42 @@ byte_at zero k n h = absurd (omega arith)
 byte_at (suc w) zero n h = refl
 byte_at (suc w) (suc k) n h = byte_at w k (n / 256) (omega arith)
 
+-- `to_le_bytes` of the library
+unfolded : (i n : ℕ) → le_byte i n ≡ n / 256 ^ i % 256
+unfolded zero n = omega arith
+unfolded (suc i) n = refl
+
+low_bytes : (i k n : ℕ) → bytes_low_first i k n ≡ least_bytes k (n / 256 ^ i)
+low_bytes i zero n = refl
+low_bytes i (suc k) n =
+    let less : n / 256 ^ suc i ≡ n / 256 ^ i / 256 = ap (λ (p : ℕ). n / p) (pow-suc 256 i) ∙ sym (div-div-eq-div-mul n (256 ^ i) 256) in
+    rw (unfolded i n, low_bytes (suc i) k n, less)
+
+byte_past : (k n : ℕ) → n < 256 ^ k → byte_of k n ≡ 0
+byte_past zero n h = omega arith
+byte_past (suc k) n h = byte_past k (n / 256) (omega (arith, h, pow-suc 256 k))
+
+pub eight_bytes : (k n : ℕ) → n < 2 ^ 64 → get_or (to_le_bytes w64 n) k 0 ≡ byte_of k n
+eight_bytes k n h =
+    let one : n / 1 ≡ n = omega arith in
+    let same : to_le_bytes w64 n ≡ least_bytes 8 n = low_bytes 0 8 n ∙ ap (λ (m : ℕ). least_bytes 8 m) one in
+    ap (λ (l : List ℕ). get_or l k 0) same
+    ∙ ⊎_elim
+    (λ lt. byte_at 8 k n lt)
+    (λ ge. get_or-eq_default (least_bytes 8 n) 0 ge ∙ sym (byte_past k n (lt_of_lt_of_le h (pow-le-pow_right {n = 256} (omega arith) {i = 8} {j = k} ge))))
+    (lt_or_ge k 8)
+
 -- which byte of a number is at place i of the w bytes that it is written in
 abbrev pub weight : Endianness → (w i : ℕ) → ℕ
 weight Little w i = i
 weight Big w i = w - 1 - i
 weight Irrelevant w i = i
+
+pub weight_front : (o : Endianness) (w i : ℕ) → (o ≡ Little) ⊎ (o ≡ Irrelevant) → weight o w i ≡ i
+weight_front o w i h = ⊎_elim (λ e. ap (λ (x : Endianness). weight x w i) e) (λ e. ap (λ (x : Endianness). weight x w i) e) h
+
+pub weight_back : (o : Endianness) (w i : ℕ) → o ≡ Big → weight o w i ≡ w - 1 - i
+weight_back o w i h = ap (λ (x : Endianness). weight x w i) h
 
 pub out_at : (o : Endianness) (w n i : ℕ) → i < w → byte_of (weight o w i) n ≡ get_or (out_order o w n) i 0
 unfolding out_order
@@ -59,17 +93,11 @@ out_at Big w n i h =
     sym (get_d_reverse (least_bytes w n) i (w - 1 - i) (rw length_bytes (omega arith)) ∙ byte_at w (w - 1 - i) n (omega arith))
 out_at Irrelevant w n i h = sym (byte_at w i n h)
 
-pub out_past : (o : Endianness) (w n i : ℕ) → w ≤ i → 0 ≡ get_or (out_order o w n) i 0
-out_past o w n i h = sym (get_or-eq_default (out_order o w n) 0 (rw length_out h))
-
--- byte k of a number is byte k - 1 of its 256th part
-pub byte_less : (k n : ℕ) → 0 < k → byte_of k n ≡ byte_of (k - 1) (n / 256)
-byte_less zero n h = absurd (omega arith)
-byte_less (suc k) n h = let e : suc k - 1 ≡ k = omega arith in rw e
-
-pub byte_least : (k n : ℕ) → k ≤ 0 → byte_of k n ≡ n % 256
-byte_least zero n h = refl
-byte_least (suc k) n h = absurd (omega arith)
+-- which byte of a run is byte i of its number
+pub in_at : (o : Endianness) (run : List ℕ) (i : ℕ) → i < length run → get_or run (weight o (length run) i) 0 ≡ get_or (least_first o run) i 0
+in_at Little run i h = refl
+in_at Big run i h = sym (get_d_reverse run i (length run - 1 - i) (omega arith))
+in_at Irrelevant run i h = refl
 
 -- ---- taken from the greatest on
 pub record Reading (l : List ℕ) (k n : ℕ) : Type 0 where
@@ -101,14 +129,14 @@ little_more (b ∷ l) zero z h = absurd (omega arith)
 little_more (b ∷ l) (suc k) z h = omega (arith, little_drop l k)
 
 -- 256 times the number so far is over already, and so is the whole
-pub reading_over : (l : List ℕ) (k n : ℕ) → 0 < k → Reading l k n → 0xFFFFFFFFFFFFFF < n → Over ≡ number (little l)
+pub reading_over : (l : List ℕ) (k n : ℕ) → 0 < k → Reading l k n → 0xFFFFFFFFFFFFFF < n → None ≡ number (little l)
 reading_over l k n z r h = sym (number_over (little l) (omega (arith, little_more l k z r.inside, r.is)))
 
-pub reading_end : (l : List ℕ) (k n : ℕ) → k ≤ 0 → Reading l k n → Is n ≡ number (little l)
+pub reading_end : (l : List ℕ) (k n : ℕ) → k ≤ 0 → Reading l k n → Some n ≡ number (little l)
 reading_end l zero n z r = sym (ap (λ (m : ℕ). number m) (sym r.is) ∙ number_is n r.fits)
 reading_end l (suc k) n z r = absurd (omega arith)
 
 -- what is known of the bytes with the least significant first is known of the run
-pub judged : (o : Endianness) (run : List ℕ) {r : Number} → r ≡ number (little (least_first o run)) → r ≡ number (in_order o run)
+pub judged : (o : Endianness) (run : List ℕ) {r : Option ℕ} → r ≡ number (little (least_first o run)) → r ≡ number (in_order o run)
 unfolding in_order
 judged o run e = e

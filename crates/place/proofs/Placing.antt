@@ -1,5 +1,6 @@
 -- The answers of `place`. A place is what the path names in the item that the index names (`placed_then`), so a refusal of the item is the place's, and after it come 26 of the
 -- path and the run that document 01's formula gives. What an index in range and a path name lies in the data area, so that past 25 nothing is over 2^64-1.
+use Rattle.std.specs.Prelude.{None, Ok, Some, Option}
 use Prim.Native.Nat.{ℕ, ◌+◌, ◌*◌, ◌^◌, ◌<◌, ◌≤◌}
 use mathlib.Core.Path.{◌≡◌, refl, ap, sym, ◌∙◌}
 use mathlib.Core.Bool.{Bool, true, false, not, cond}
@@ -14,7 +15,6 @@ use Rattle.counts.specs.Counts.{bytes}
 use Rattle.type_str.specs.declared.TypeStr.{TypeStr}
 use Rattle.counts.specs.declared.Items.{Items}
 use Rattle.counts.specs.declared.Bytes.{Bytes}
-use Rattle.counts.specs.declared.ByteCount.{ByteCount}
 use Rattle.counts.proofs.Alike.{true_false}
 use Rattle.dtype.specs.declared.Order.{Order}
 use Rattle.dtype.specs.Dtype.{Dtype, size_of}
@@ -28,8 +28,6 @@ use Rattle.dtype.proofs.Seen.{or_left}
 use Rattle.dtype.proofs.Places.{run_inside}
 use Rattle.check_record.specs.Checked.{checked_record}
 use Rattle.check_record.specs.Answer.{summary}
-use Rattle.check_record.specs.declared.ItemSize.{ItemSize}
-use Rattle.check_record.specs.declared.ItemSize.TheVariants.{Sized, Unsized}
 use Rattle.check_record.specs.declared.Summary.{Summary}
 use Rattle.check_record.specs.Valid.{made}
 use Rattle.check_record.proofs.Accepts.{limits_of_lem, accepts_valid}
@@ -41,13 +39,12 @@ use Rattle.place_area.proofs.Answers.{item_shows}
 use Rattle.place_item.specs.Item.{item_of}
 use Rattle.place_item.proofs.Sums.{range_of}
 use Rattle.place_item.proofs.Items.{item_within, item_given}
-use Rattle.place.specs.declared.Placed.{Placed}
 use Rattle.place.specs.Place.{run_from, placed, place_of}
 use Rattle.place.specs.Walk.{Finds, Accepted}
 use Rattle.place.proofs.Walks.{plain_path}
 
 -- ---- `in_record`
-module _ (t ns s : List ℕ) (o : Order) (d : Dtype) (size : ItemSize) (count : Items) (a : Accepted t ns s o d size count) where
+module _ (t ns s : List ℕ) (o : Order) (d : Dtype) (size : Option Bytes) (count : Items) (a : Accepted t ns s o d size count) where
   pub shape_short : length s ≤ 32
   shape_short = ltb-false 32 (length s) (or_left (over_dimensions s) (over_levels d) (limits_of_lem (made d s o) a.valid.limits).0)
 
@@ -61,11 +58,11 @@ module _ (t ns s : List ℕ) (o : Order) (d : Dtype) (size : ItemSize) (count : 
   none_over : has_object d ≡ false → some_over d ≡ false
   none_over e = size_by (has_object d) (limits_of_lem (made d s o) a.valid.limits).2 refl e
 
-  sized_by_lem : (n : Bytes) (b : Bool) → Sized n ≡ cond b Unsized (Sized (record { 0 = size_of d })) → (b ≡ false) × (n.0 ≡ size_of d)
+  sized_by_lem : (n : Bytes) (b : Bool) → Some n ≡ cond {A = Option Bytes} b None (Some (record { 0 = size_of d })) → (b ≡ false) × (n.0 ≡ size_of d)
   sized_by_lem n true e = let z : ◌≡◌ {A = ℕ} 0 1 = cc in absurd (omega arith)
   sized_by_lem n false e = let z : n ≡ record { 0 = size_of d } = cc in (refl, ap (λ (y : Bytes). y.0) z)
 
-  module _ (n : Bytes) (q : size ≡ Sized n) where
+  module _ (n : Bytes) (q : size ≡ Some n) where
     sized : (has_object d ≡ false) × (n.0 ≡ size_of d)
     sized = sized_by_lem n (has_object d) (sym q ∙ a.size_is)
 
@@ -86,7 +83,7 @@ module _ (t ns s : List ℕ) (o : Order) (d : Dtype) (size : ItemSize) (count : 
     by_tests n m false true c = let z : n.0 * m ≡ m * n.0 = omega arith in rw z
 
     by_object : (b : Bool) → has_object d ≡ b → placed file start (made d s o) x p
-        ≡ then (indexed file start (cond b Unsized (Sized (record { 0 = size_of d }))) (product s) o s x) at_item
+        ≡ then (indexed file start (cond {A = Option Bytes} b None (Some (record { 0 = size_of d }))) (product s) o s x) at_item
     unfolding placed
     by_object true e = simp e
     by_object false e =
@@ -109,8 +106,8 @@ module _ (t ns s : List ℕ) (o : Order) (d : Dtype) (size : ItemSize) (count : 
       pub answer_path : (n : ℕ) → plain_at d p ≡ refused n → refused n ≡ placed file start (made d s o) x p
       answer_path n e = sym (ap (λ (c : Outcome TypeStr). each (λ ty. run_from (start + i.which.0 * i.size.0 + offset d p) ty) c) e) ∙ answer_item
 
-      module _ (u : Run) (f : Finds d p (Placed.At u)) where
-        shown : (size ≡ Sized i.size) × (ltb file (start + count.0 * i.size.0) ≡ false) × (gives i.which.0 ≡ item_of o s x)
+      module _ (u : Run) (f : Finds d p (Ok u)) where
+        shown : (size ≡ Some i.size) × (ltb file (start + count.0 * i.size.0) ≡ false) × (gives i.which.0 ≡ item_of o s x)
         shown = item_shows file start count.0 o s x size i h
 
         index_in_range : (in_range s x ≡ true) × (item o s x ≡ i.which.0)
@@ -128,10 +125,10 @@ module _ (t ns s : List ℕ) (o : Order) (d : Dtype) (size : ItemSize) (count : 
         below = omega (arith, long, run_inside start (made d s o) x p (range_of s x index_in_range.0) (plain_path d p u.kind f.0))
 
         -- the first byte is not over 2^64-1
-        pub answer_over : file < 2 ^ 64 → ByteCount.Over ≡ bytes (number (start + i.which.0 * i.size.0 + u.first.0)) → refused 26 ≡ placed file start (made d s o) x p
+        pub answer_over : file < 2 ^ 64 → None ≡ bytes (number (start + i.which.0 * i.size.0 + u.first.0)) → refused 26 ≡ placed file start (made d s o) x p
         answer_over l k = absurd (omega (arith, first_at, below, bytes_over_lem (start + i.which.0 * i.size.0 + u.first.0) k))
 
-        pub answer_at : (c : Bytes) → ByteCount.Is c ≡ bytes (number (start + i.which.0 * i.size.0 + u.first.0))
+        pub answer_at : (c : Bytes) → Some c ≡ bytes (number (start + i.which.0 * i.size.0 + u.first.0))
             → gives (record { first = c; len = u.len; kind = u.kind }) ≡ placed file start (made d s o) x p
         answer_at c k =
             let z : c.0 ≡ start + i.which.0 * i.size.0 + offset d p = sym (bytes_back (start + i.which.0 * i.size.0 + u.first.0) c k).0 ∙ rw f.1 in

@@ -1,5 +1,6 @@
 -- A path followed in a table: what the loops of `field_at` and `follow` keep, and what `step` finds at one entry. Sizes are exact since no entry is over, and
 -- nothing that is summed is more than the whole item.
+use Rattle.std.specs.Prelude.{None, Some, Option}
 use Prim.Native.Nat.{ℕ, zero, suc, ◌+◌, ◌*◌, ◌^◌, ◌<◌, ◌≤◌}
 use mathlib.Core.Path.{◌≡◌, refl, ap, sym, ◌∙◌}
 use mathlib.Core.Bool.{Bool, true, false, not}
@@ -13,7 +14,6 @@ use Rattle.counts.specs.Outcome.{gives, refused}
 use Rattle.counts.specs.Number.{number}
 use Rattle.counts.specs.Counts.{bytes as byte_count, as_bytes}
 use Rattle.counts.specs.declared.Bytes.{Bytes}
-use Rattle.counts.specs.declared.ByteCount.{ByteCount}
 use Rattle.counts.proofs.Counted.{bytes_back, bytes_over_lem, bytes_eq}
 use Rattle.counts.proofs.Sides.{lt_or_ge}
 use Rattle.type_str.specs.declared.TypeStr.{TypeStr}
@@ -39,7 +39,6 @@ use Rattle.table_entry.proofs.Types.{type_of_written}
 use Rattle.type_letters.specs.Letters.{order_byte, order_of, letter_byte}
 use Rattle.dtype.specs.TypeNumbers.{units_number}
 use Rattle.dtype.specs.PlainBytes.{plain_bytes}
-use Rattle.place.specs.declared.Led.{Led}
 use Rattle.place.specs.declared.Reached.{Reached}
 use Rattle.place.specs.Walk.{ListedSized, Steps}
 
@@ -67,7 +66,7 @@ pub passing_start : (t : List ℕ) (e i : ℕ) → PassingFields t e i (e + 1) 0
 passing_start t e i = record { within = omega arith; at = omega arith; is = refl }
 
 pub passing_next : (t : List ℕ) (e i c bytes k : ℕ) → PassingFields t e i c bytes k → k < i → (x : Entry) → x ≡ entry_at t c
-    → (more : Bytes) → ByteCount.Is more ≡ byte_count (number (bytes + x.bytes)) → PassingFields t e i (c + x.extent) more.0 (k + 1)
+    → (more : Bytes) → Some more ≡ byte_count (number (bytes + x.bytes)) → PassingFields t e i (c + x.extent) more.0 (k + 1)
 passing_next t e i c bytes k s l x q more m =
     let z : k + 1 ≡ suc k = omega arith in
     let b = (bytes_back (bytes + x.bytes) more m).0 in
@@ -96,11 +95,11 @@ passing_turn t e i c bytes k s l (fs, w, g) x q =
     }
 
 -- so no sum is over
-pub passing_over : {A : Type 0} (t : List ℕ) (c bytes : ℕ) (x : Entry) → Turn t c bytes x → ByteCount.Over ≡ byte_count (number (bytes + x.bytes)) → A
+pub passing_over : {A : Type 0} (t : List ℕ) (c bytes : ℕ) (x : Entry) → Turn t c bytes x → None ≡ byte_count (number (bytes + x.bytes)) → A
 passing_over t c bytes x u o = absurd (omega (arith, u.fits, bytes_over_lem (bytes + x.bytes) o))
 
 pub passing_end : (t : List ℕ) (e i c : ℕ) (before : Bytes) (k : ℕ) → PassingFields t e i c before.0 k → i ≤ k
-    → Led.To (record { entry = c; before = before }) ≡ Led.To (record { entry = field_at t i (suc e); before = as_bytes (field_bytes t i (suc e)) })
+    → ◌≡◌ {A = Option Reached} (Some (record { entry = c; before = before })) (Some (record { entry = field_at t i (suc e); before = as_bytes (field_bytes t i (suc e)) }))
 passing_end t e i c before k s l =
     let z : k ≡ i = omega (arith, s.within) in
     let a : c ≡ field_at t i (suc e) = rw (← z) s.at in
@@ -112,10 +111,10 @@ module _ (t : List ℕ) (e i : ℕ) (x : Entry) (q : x ≡ entry_at t e) where
   entry_is : (d : Dtype) (s : ListedSized t e d) → x ≡ entry_of d s.up s.name
   entry_is d s = q ∙ in_table_entry d t e s.up s.name s.rest s.is
 
-  pub at_plain : x.kind ≡ 0 → (d : Dtype) → ListedSized t e d → Steps t e d i Led.Nowhere
+  pub at_plain : x.kind ≡ 0 → (d : Dtype) → ListedSized t e d → Steps t e d i None
   at_plain k d s p = plain_leads_nowhere d i p (sym (ap (λ (a : Entry). a.kind) (entry_is d s)) ∙ k)
 
-  pub past : x.number ≤ i → (d : Dtype) → ListedSized t e d → Steps t e d i Led.Nowhere
+  pub past : x.number ≤ i → (d : Dtype) → ListedSized t e d → Steps t e d i None
   past l d s p = past_leads_nowhere d i p (omega (arith, ap (λ (a : Entry). a.number) (entry_is d s)))
 
   module _ (l : i < x.number) where
@@ -128,12 +127,12 @@ module _ (t : List ℕ) (e i : ℕ) (x : Entry) (q : x ≡ entry_at t e) where
         rw (z, v) r
     leads_into k y w (record_of fs) s = absurd (omega (arith, ap (λ (a : Entry). a.kind) (entry_is (record_of fs) s)))
 
-    pub into : x.kind ≡ 1 → (y : Entry) → y ≡ entry_at t (e + 1) → (before : Bytes) → ByteCount.Is before ≡ byte_count (number (i * y.bytes)) → (d : Dtype) → ListedSized t e d
-        → Steps t e d i (Led.To (record { entry = e + 1; before = before }))
+    pub into : x.kind ≡ 1 → (y : Entry) → y ≡ entry_at t (e + 1) → (before : Bytes) → Some before ≡ byte_count (number (i * y.bytes)) → (d : Dtype) → ListedSized t e d
+        → Steps t e d i (Some (record { entry = e + 1; before = before }))
     into k y w before b d s = rw (← (bytes_back (i * y.bytes) before b).0) (leads_into k y w d s)
 
     -- the offset is not over
-    pub into_over : x.kind ≡ 1 → (y : Entry) → y ≡ entry_at t (e + 1) → ByteCount.Over ≡ byte_count (number (i * y.bytes)) → (d : Dtype) → ListedSized t e d → Steps t e d i Led.Nowhere
+    pub into_over : x.kind ≡ 1 → (y : Entry) → y ≡ entry_at t (e + 1) → None ≡ byte_count (number (i * y.bytes)) → (d : Dtype) → ListedSized t e d → Steps t e d i None
     into_over k y w o d s p = let r = leads_into k y w d s in absurd (omega (arith, r.inside, size_fits d s.none_over, bytes_over_lem (i * y.bytes) o))
 
     -- what `field_at` asks, and what it gives
@@ -142,8 +141,8 @@ module _ (t : List ℕ) (e i : ℕ) (x : Entry) (q : x ≡ entry_at t e) where
     field_asks p r (array n d, s) = absurd (r (ap (λ (a : Entry). a.kind) (entry_is (array n d) s)))
     field_asks p r (record_of fs, s) = (fs, s, omega (arith, ap (λ (a : Entry). a.number) (entry_is (record_of fs) s)))
 
-    pub to_field : (x.kind ≡ 0 → ⊥) → (x.kind ≡ 1 → ⊥) → (y : Led)
-        → y ≡ Led.To (record { entry = field_at t i (suc e); before = as_bytes (field_bytes t i (suc e)) }) → (d : Dtype) → ListedSized t e d → Steps t e d i y
+    pub to_field : (x.kind ≡ 0 → ⊥) → (x.kind ≡ 1 → ⊥) → (y : Option Reached)
+        → y ≡ Some (record { entry = field_at t i (suc e); before = as_bytes (field_bytes t i (suc e)) }) → (d : Dtype) → ListedSized t e d → Steps t e d i y
     to_field p r y w (plain ty) s = absurd (p (ap (λ (a : Entry). a.kind) (entry_is (plain ty) s)))
     to_field p r y w (array n d) s = absurd (r (ap (λ (a : Entry). a.kind) (entry_is (array n d) s)))
     to_field p r y w (record_of fs) s =
@@ -180,26 +179,26 @@ module _ (t path : List ℕ) (e before k : ℕ) (w : Walking t path e before k) 
   pub step_asks : (d : Dtype) × (t ≡ table d) × (some_over d ≡ false) → (d : Dtype) × ListedSized t e d
   step_asks (root, h, s) = let r = w.goes root h s in (r.d, r.there)
 
-  module _ (l : k < length path) (y : Led) (g : (d : Dtype) → ListedSized t e d → Steps t e d (get_or path k 0) y) where
-    pub walking_nowhere : y ≡ Led.Nowhere → (root : Dtype) → t ≡ table root → some_over root ≡ false → plain_at root path ≡ refused 26
+  module _ (l : k < length path) (y : Option Reached) (g : (d : Dtype) → ListedSized t e d → Steps t e d (get_or path k 0) y) where
+    pub walking_nowhere : y ≡ None → (root : Dtype) → t ≡ table root → some_over root ≡ false → plain_at root path ≡ refused 26
     walking_nowhere q root h s =
         let r = w.goes root h s in
-        let v : Steps t e r.d (get_or path k 0) Led.Nowhere = rw q at (g r.d r.there) in
+        let v : Steps t e r.d (get_or path k 0) None = rw q at (g r.d r.there) in
         r.same_plain ∙ rw (drop-cons path k 0 l) (v (drop (suc k) path))
 
-    module _ (spot : Reached) (q : y ≡ Led.To spot) where
+    module _ (spot : Reached) (q : y ≡ Some spot) where
       leads : (d : Dtype) → ListedSized t e d → Leads t d (e + entries_of d) (get_or path k 0) spot.entry spot.before.0
-      leads d s = let v : Steps t e d (get_or path k 0) (Led.To spot) = rw q at (g d s) in v
+      leads d s = let v : Steps t e d (get_or path k 0) (Some spot) = rw q at (g d s) in v
 
       walking_fits : (d : Dtype) × (t ≡ table d) × (some_over d ≡ false) → before + spot.before.0 < 2 ^ 64
       walking_fits (root, h, s) =
           let r = w.goes root h s in
           omega (arith, r.inside, (leads r.d r.there).inside, size_fits root s)
 
-      pub walking_over : {A : Type 0} → (d : Dtype) × (t ≡ table d) × (some_over d ≡ false) → ByteCount.Over ≡ byte_count (number (before + spot.before.0)) → A
+      pub walking_over : {A : Type 0} → (d : Dtype) × (t ≡ table d) × (some_over d ≡ false) → None ≡ byte_count (number (before + spot.before.0)) → A
       walking_over g o = absurd (omega (arith, walking_fits g, bytes_over_lem (before + spot.before.0) o))
 
-      pub walking_next : (more : Bytes) → ByteCount.Is more ≡ byte_count (number (before + spot.before.0)) → Walking t path spot.entry more.0 (k + 1)
+      pub walking_next : (more : Bytes) → Some more ≡ byte_count (number (before + spot.before.0)) → Walking t path spot.entry more.0 (k + 1)
       walking_next more m =
           let z : k + 1 ≡ suc k = omega arith in
           rw (← (bytes_back (before + spot.before.0) more m).0)

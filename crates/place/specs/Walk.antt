@@ -1,6 +1,10 @@
 -- A path followed in a table, as the code does it: what one number of the path leads to, and what the whole path leads to. proofs/Walks.antt shows that this is what
 -- dtype/specs/Places.antt says.
-use Rattle.std.specs.Prelude.{ℕ, ◌+◌, ◌*◌, ◌≡◌, false, List, ◌∷◌, drop}
+use Rattle.refusal.specs.declared.Refusal.{Refusal}
+use Rattle.place_area.specs.declared.Run.{Run}
+use Rattle.place.specs.declared.Reached.{Reached}
+use Rattle.counts.specs.declared.Bytes.{Bytes}
+use Rattle.std.specs.Prelude.{ℕ, ◌+◌, ◌*◌, ◌≡◌, false, List, ◌∷◌, drop, Err, None, Ok, Some, Option, Result}
 use Rattle.counts.specs.Outcome.{gives, refused}
 use Rattle.refusal.specs.Numbers.{number_of}
 use Rattle.dtype.specs.Dtype.{Dtype}
@@ -13,11 +17,8 @@ use Rattle.dtype.specs.declared.Order.{Order}
 use Rattle.counts.specs.declared.Items.{Items}
 use Rattle.check_record.specs.Valid.{made, Valid}
 use Rattle.check_record.specs.Answer.{item_size}
-use Rattle.check_record.specs.declared.ItemSize.{ItemSize}
 use Rattle.dtype.specs.Places.{plain_at, offset}
 use Rattle.dtype.specs.Leads.{Leads}
-use Rattle.place.specs.declared.Led.{Led}
-use Rattle.place.specs.declared.Placed.{Placed}
 
 -- a table lists d from entry e on, and no entry of it is over
 pub record ListedSized (t : List ℕ) (e : ℕ) (d : Dtype) : Type 0 where
@@ -28,17 +29,17 @@ pub record ListedSized (t : List ℕ) (e : ℕ) (d : Dtype) : Type 0 where
   pub none_over : some_over d ≡ false
 
 -- what one number leads to, from d at entry e
-abbrev pub Steps : (t : List ℕ) (e : ℕ) → Dtype → (i : ℕ) → Led → Type 0
-Steps t e d i (Led.To s) = Leads t d (e + entries_of d) i s.entry s.before.0
-Steps t e d i Led.Nowhere = (p : List ℕ) → plain_at d (i ∷ p) ≡ refused 26
+abbrev pub Steps : (t : List ℕ) (e : ℕ) → Dtype → (i : ℕ) → Option Reached → Type 0
+Steps t e d i (Some s) = Leads t d (e + entries_of d) i s.entry s.before.0
+Steps t e d i None = (p : List ℕ) → plain_at d (i ∷ p) ≡ refused 26
 
 -- what a path leads to: its type, the bytes of the item before it, and its own
-abbrev pub Finds : Dtype → List ℕ → Placed → Type 0
-Finds d p (Placed.At r) = (plain_at d p ≡ gives r.kind) × (r.first.0 ≡ offset d p) × (r.len.0 ≡ plain_bytes r.kind)
-Finds d p (Placed.Refused why) = plain_at d p ≡ refused (number_of why)
+abbrev pub Finds : Dtype → List ℕ → Result Run Refusal → Type 0
+Finds d p (Ok r) = (plain_at d p ≡ gives r.kind) × (r.first.0 ≡ offset d p) × (r.len.0 ≡ plain_bytes r.kind)
+Finds d p (Err why) = plain_at d p ≡ refused (number_of why)
 
 -- what the check of a record has shown of it
-pub record Accepted (t ns s : List ℕ) (o : Order) (d : Dtype) (size : ItemSize) (count : Items) : Type 0 where
+pub record Accepted (t ns s : List ℕ) (o : Order) (d : Dtype) (size : Option Bytes) (count : Items) : Type 0 where
   pub valid : Valid t ns s o (made d s o)
   pub size_is : size ≡ item_size d
   pub count_is : count.0 ≡ product s

@@ -1,4 +1,5 @@
 -- The data area: the end of the area and the first byte of an item by true products, and a part of a file as far as the file reaches.
+use Rattle.std.specs.Prelude.{None, Some, Option}
 use Prim.Native.Nat.{ℕ, ◌+◌, ◌*◌, ◌-◌, ◌^◌, ◌<◌, ◌≤◌, min}
 use mathlib.Core.Path.{◌≡◌, ap, sym, ◌∙◌}
 use mathlib.Core.Bool.{true}
@@ -12,36 +13,35 @@ use lib.Seq.{take-length, take_all, take-nil}
 use Rattle.counts.specs.Number.{number}
 use Rattle.counts.specs.Counts.{bytes}
 use Rattle.counts.specs.declared.Bytes.{Bytes}
-use Rattle.counts.specs.declared.ByteCount.{ByteCount}
 use Rattle.counts.proofs.Counted.{bytes_back, bytes_over_lem, over_bytes}
 use Rattle.counts.proofs.Sides.{lt_or_ge}
 
 -- ---- `is_short`
 module _ (file start count size : ℕ) where
-  pub area_over : file < 2 ^ 64 → ByteCount.Over ≡ bytes (number (count * size)) → true ≡ ltb file (start + count * size)
+  pub area_over : file < 2 ^ 64 → None ≡ bytes (number (count * size)) → true ≡ ltb file (start + count * size)
   area_over f e = sym (lt-ltb file (start + count * size) (omega (arith, bytes_over_lem (count * size) e)))
 
-  module _ (area : Bytes) (e : ByteCount.Is area ≡ bytes (number (count * size))) where
-    pub end_over : file < 2 ^ 64 → ByteCount.Over ≡ bytes (number (start + area.0)) → true ≡ ltb file (start + count * size)
+  module _ (area : Bytes) (e : Some area ≡ bytes (number (count * size))) where
+    pub end_over : file < 2 ^ 64 → None ≡ bytes (number (start + area.0)) → true ≡ ltb file (start + count * size)
     end_over f g =
         sym (lt-ltb file (start + count * size) (omega (arith, (bytes_back (count * size) area e).0, bytes_over_lem (start + area.0) g)))
 
-    pub end_is : (end : Bytes) → ByteCount.Is end ≡ bytes (number (start + area.0)) → ltb file end.0 ≡ ltb file (start + count * size)
+    pub end_is : (end : Bytes) → Some end ≡ bytes (number (start + area.0)) → ltb file end.0 ≡ ltb file (start + count * size)
     end_is end g =
         let z : end.0 ≡ start + count * size = omega (arith, (bytes_back (count * size) area e).0, (bytes_back (start + area.0) end g).0) in
         ap (λ (n : ℕ). ltb file n) z
 
 -- ---- `first_byte`
 module _ (start which size off : ℕ) where
-  pub before_over : ByteCount.Over ≡ bytes (number (which * size)) → ByteCount.Over ≡ bytes (number (start + which * size + off))
+  pub before_over : None ≡ bytes (number (which * size)) → None ≡ bytes (number (start + which * size + off))
   before_over e = over_bytes (start + which * size + off) (omega (arith, bytes_over_lem (which * size) e))
 
-  module _ (before : Bytes) (e : ByteCount.Is before ≡ bytes (number (which * size))) where
-    pub item_over : ByteCount.Over ≡ bytes (number (start + before.0)) → ByteCount.Over ≡ bytes (number (start + which * size + off))
+  module _ (before : Bytes) (e : Some before ≡ bytes (number (which * size))) where
+    pub item_over : None ≡ bytes (number (start + before.0)) → None ≡ bytes (number (start + which * size + off))
     item_over g =
         over_bytes (start + which * size + off) (omega (arith, (bytes_back (which * size) before e).0, bytes_over_lem (start + before.0) g))
 
-    pub first_is : (at : Bytes) → ByteCount.Is at ≡ bytes (number (start + before.0)) → (r : ByteCount) → r ≡ bytes (number (at.0 + off))
+    pub first_is : (at : Bytes) → Some at ≡ bytes (number (start + before.0)) → (r : Option Bytes) → r ≡ bytes (number (at.0 + off))
         → r ≡ bytes (number (start + which * size + off))
     first_is at g r h =
         let z : at.0 + off ≡ start + which * size + off = omega (arith, (bytes_back (which * size) before e).0, (bytes_back (start + before.0) at g).0) in

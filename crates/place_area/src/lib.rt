@@ -2,16 +2,15 @@
 // of a place. Called by place, which gives it a checked record's size, count and shape, so that only 26 is left of the three; and by element.
 #![tactic(auto)]
 
+ghost use Rattle.refusal.specs.Answers.{answer};
 ghost use Rattle.std.specs.Prelude.{◌≡◌, ◌+◌, ◌*◌, min, ltb, take, drop};
 ghost use Rattle.counts.specs.Number.{number};
 ghost use Rattle.counts.specs.Counts.{bytes};
 ghost use Rattle.place_area.specs.Indexed.{indexed};
-ghost use Rattle.place_area.specs.Answer.{answer};
 
-use check_record::ItemSize;
-use counts::{ByteCount, Bytes, Items};
+use counts::{Bytes, Items};
 use dtype::Order;
-use refusal::{ItemsAnswer, Refusal};
+use refusal::Refusal;
 use type_str::TypeStr;
 
 // The bytes of a plain type in a file.
@@ -29,60 +28,47 @@ pub struct Numbered {
     pub size: Bytes,
 }
 
-// An item; or 24, 25, or what its item number is refused with.
-#[derive(Clone, Copy)]
-pub enum Indexed {
-    Item(Numbered),
-    Refused(Refusal),
-}
-
 // The item that an index names in a file of this length, whose data starts at `start`.
 pub fn item(
     file: Bytes,
     start: Bytes,
-    size: ItemSize,
+    size: Option<Bytes>,
     count: Items,
     shape: &[u64],
     order: Order,
     index: &[u64],
-) -> Indexed
+) -> Result<Numbered, Refusal>
     ensures { answer result ≡ indexed file.0 start.0 size count.0 order shape.now index.now }
 {
-    let ItemSize::Sized(size) = size else {
-        return Indexed::Refused(Refusal::HasObject);
+    let Some(size) = size else {
+        return Err(Refusal::HasObject);
     };
     if is_short(file, start, count, size) {
-        return Indexed::Refused(Refusal::ShortFile);
+        return Err(Refusal::ShortFile);
     }
-    match place_item::item_number(shape, order, index) {
-        ItemsAnswer::Is(which) => Indexed::Item(Numbered { which, size }),
-        ItemsAnswer::Refused(why) => Indexed::Refused(why),
-    }
+    let which = place_item::item_number(shape, order, index)?;
+    Ok(Numbered { which, size })
 }
 
 // Whether a file is shorter than data start + count times item size.
 pub fn is_short(file: Bytes, start: Bytes, count: Items, size: Bytes) -> bool
     ensures { result ≡ ltb file.0 (start.0 + count.0 * size.0) }
 {
-    let ByteCount::Is(area) = count.of_size(size) else {
+    let Some(area) = count.of_size(size) else {
         return true;
     };
-    let ByteCount::Is(end) = start.plus(area) else {
+    let Some(end) = start.plus(area) else {
         return true;
     };
     file.0 < end.0
 }
 
 // Data start + item size times item number + offset inside the item.
-pub fn first_byte(start: Bytes, which: Items, size: Bytes, offset: Bytes) -> ByteCount
+pub fn first_byte(start: Bytes, which: Items, size: Bytes, offset: Bytes) -> Option<Bytes>
     ensures { result ≡ bytes (number (start.0 + which.0 * size.0 + offset.0)) }
 {
-    let ByteCount::Is(before) = which.of_size(size) else {
-        return ByteCount::Over;
-    };
-    let ByteCount::Is(item) = start.plus(before) else {
-        return ByteCount::Over;
-    };
+    let before = which.of_size(size)?;
+    let item = start.plus(before)?;
     item.plus(offset)
 }
 
@@ -90,10 +76,8 @@ pub fn first_byte(start: Bytes, which: Items, size: Bytes, offset: Bytes) -> Byt
 pub fn part(file: &[u8], run: Run) -> &[u8]
     ensures { result.now ≡ take run.len.0 (drop run.first.0 file.now) }
 {
-    let first = run.first;
-    let len = run.len;
-    let start = least(first, file.len());
-    let end = start + least(len, file.len() - start);
+    let start = least(run.first, file.len());
+    let end = start + least(run.len, file.len() - start);
     &file[start..end]
 }
 
@@ -101,9 +85,5 @@ pub fn part(file: &[u8], run: Run) -> &[u8]
 fn least(n: Bytes, limit: usize) -> usize
     ensures { result ≡ min n.0 limit }
 {
-    if n.0 < limit as u64 {
-        n.0 as usize
-    } else {
-        limit
-    }
+    n.0.min(limit as u64) as usize
 }

@@ -1,5 +1,6 @@
 -- The answers of `item_number`: where the shape has no more than 32 dimensions the strides have room, and their sum of products with an index in range is the item's
 -- number, which is below the item count and so fits. Of a shape within its limits the item's number is refused exactly where its index is not in range.
+use Rattle.std.specs.Prelude.{Err, None, Ok, Some, Result}
 use Prim.Native.Nat.{ℕ, ◌^◌, ◌<◌, ◌≤◌}
 use mathlib.Core.Path.{◌≡◌, refl, ap, sym, ◌∙◌}
 use mathlib.Core.Bool.{Bool, true, false, not}
@@ -12,10 +13,8 @@ use Rattle.counts.specs.Lists.{at_front}
 use Rattle.counts.specs.Number.{number}
 use Rattle.counts.specs.Counts.{items}
 use Rattle.counts.specs.declared.Items.{Items}
-use Rattle.counts.specs.declared.ItemCount.{ItemCount}
 use Rattle.counts.proofs.OneOutcome.{matched}
 use Rattle.refusal.specs.declared.Refusal.{Refusal}
-use Rattle.refusal.specs.declared.ItemsAnswer.{ItemsAnswer}
 use Rattle.refusal.specs.Numbers.{number_of}
 use Rattle.refusal.specs.Answers.{items_answer}
 use Rattle.dtype.specs.declared.Order.{Order}
@@ -40,18 +39,18 @@ pub number_13 : (o : Order) (s x : List ℕ) → 32 < length s → refused 13 �
 unfolding item_of
 number_13 o s x l = simp (lt-ltb 32 (length s) l)
 
-module _ (o : Order) (s x out : List ℕ) (w : ItemsAnswer) (out' : List ℕ) (h : WritesStrides o s out w out') (room : 32 ≤ length out) (l : length s ≤ 32) where
+module _ (o : Order) (s x out : List ℕ) (w : Result Items Refusal) (out' : List ℕ) (h : WritesStrides o s out w out') (room : 32 ≤ length out) (l : length s ≤ 32) where
   counted : items_answer w ≡ item_count o s
   unfolding strides_count item_count
   counted = h.answered ∙ simp (le-ltb (length out) (length s) (omega arith))
 
-  pub number_22 : (why : Refusal) → w ≡ ItemsAnswer.Refused why → items_answer w ≡ item_of o s x
+  pub number_22 : (why : Refusal) → w ≡ Err why → items_answer w ≡ item_of o s x
   unfolding item_of
   number_22 why e =
       let v = counted_refused o s (number_of why) (matched items_answer counted e) in
       ap items_answer e ∙ ap refused v.1 ∙ simp (le-ltb 32 (length s) l, v.0)
 
-  module _ (n : Items) (e : w ≡ ItemsAnswer.Is n) where
+  module _ (n : Items) (e : w ≡ Ok n) where
     not_over : over_shape o s ≡ false
     not_over = (counted_fits o s n.0 (matched items_answer counted e)).0
 
@@ -71,11 +70,11 @@ module _ (o : Order) (s x out : List ℕ) (w : ItemsAnswer) (out' : List ℕ) (h
           ap (λ (y : List ℕ). sum_of_products x y) a ∙ sum_front x (strides o s) (drop (length (strides o s)) out) b
 
       -- the sum does not exceed 2^64-1
-      pub number_over : ItemCount.Over ≡ items (number (sum_of_products x out')) → refused 26 ≡ item_of o s x
+      pub number_over : None ≡ items (number (sum_of_products x out')) → refused 26 ≡ item_of o s x
       number_over p =
           absurd (omega (arith, items_over_lem (sum_of_products x out') p, sum_is, item_below o s x (range_of s x g), product_fits o s not_over))
 
-      pub number_gives : (m : Items) → ItemCount.Is m ≡ items (number (sum_of_products x out')) → gives m.0 ≡ item_of o s x
+      pub number_gives : (m : Items) → Some m ≡ items (number (sum_of_products x out')) → gives m.0 ≡ item_of o s x
       unfolding item_of
       number_gives m p =
           let z : item o s x ≡ m.0 = sym sum_is ∙ (items_back (sum_of_products x out') m p).0 in

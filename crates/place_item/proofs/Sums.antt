@@ -1,4 +1,5 @@
 -- The sum of index times stride: what its loop keeps, and what a range test has seen.
+use Rattle.std.specs.Prelude.{None, Some}
 use Prim.Native.Nat.{ℕ, zero, suc, ◌+◌, ◌*◌, ◌^◌, ◌<◌, ◌≤◌}
 use mathlib.Core.Path.{◌≡◌, refl, ap, sym, ◌∙◌}
 use mathlib.Core.Bool.{true, false, and-false}
@@ -11,7 +12,6 @@ use lib.Seq.{drop-cons}
 use Rattle.counts.specs.Number.{number}
 use Rattle.counts.specs.Counts.{items}
 use Rattle.counts.specs.declared.Items.{Items}
-use Rattle.counts.specs.declared.ItemCount.{ItemCount}
 use Rattle.counts.proofs.Alike.{and_left, and_right, true_false}
 use Rattle.counts.proofs.Counted.{items_back, items_over_lem, is_items, over_items}
 use Rattle.dtype.specs.Shape.{in_range, sum_of_products}
@@ -32,13 +32,13 @@ no_strides (i ∷ x) = refl
 
 module _ (x ts : List ℕ) (m : Items) (k : ℕ) (s : Summed x ts m.0 k) where
   -- no number is left, or no stride
-  pub summed_end : length x ≤ k → ItemCount.Is m ≡ items (number (sum_of_products x ts))
+  pub summed_end : length x ≤ k → Some m ≡ items (number (sum_of_products x ts))
   summed_end l =
       let a : drop k x ≡ [] = drop_of_length-le x {i = k} l in
       let b : sum_of_products x ts ≡ m.0 + 0 = rw a at s.is in
       is_items m (sum_of_products x ts) (omega (arith, b)) (omega (arith, b, s.low))
 
-  pub summed_short : length ts ≤ k → ItemCount.Is m ≡ items (number (sum_of_products x ts))
+  pub summed_short : length ts ≤ k → Some m ≡ items (number (sum_of_products x ts))
   summed_short l =
       let a : drop k ts ≡ [] = drop_of_length-le ts {i = k} l in
       let b : sum_of_products x ts ≡ m.0 + sum_of_products (drop k x) [] = rw a at s.is in
@@ -49,17 +49,17 @@ module _ (x ts : List ℕ) (m : Items) (k : ℕ) (s : Summed x ts m.0 k) where
     split : sum_of_products x ts ≡ m.0 + (get_or x k 0 * get_or ts k 0 + sum_of_products (drop (suc k) x) (drop (suc k) ts))
     split = s.is ∙ rw (drop-cons x k 0 l, drop-cons ts k 0 u)
 
-    pub times_over : ItemCount.Over ≡ items (number (get_or x k 0 * get_or ts k 0)) → ItemCount.Over ≡ items (number (sum_of_products x ts))
+    pub times_over : None ≡ items (number (get_or x k 0 * get_or ts k 0)) → None ≡ items (number (sum_of_products x ts))
     times_over e = over_items (sum_of_products x ts) (omega (arith, split, items_over_lem (get_or x k 0 * get_or ts k 0) e))
 
-    module _ (more : Items) (e : ItemCount.Is more ≡ items (number (get_or x k 0 * get_or ts k 0))) where
+    module _ (more : Items) (e : Some more ≡ items (number (get_or x k 0 * get_or ts k 0))) where
       more_is : get_or x k 0 * get_or ts k 0 ≡ more.0
       more_is = (items_back (get_or x k 0 * get_or ts k 0) more e).0
 
-      pub plus_over : ItemCount.Over ≡ items (number (m.0 + more.0)) → ItemCount.Over ≡ items (number (sum_of_products x ts))
+      pub plus_over : None ≡ items (number (m.0 + more.0)) → None ≡ items (number (sum_of_products x ts))
       plus_over f = over_items (sum_of_products x ts) (omega (arith, split, more_is, items_over_lem (m.0 + more.0) f))
 
-      pub summed_next : (next : Items) → ItemCount.Is next ≡ items (number (m.0 + more.0)) → Summed x ts next.0 (k + 1)
+      pub summed_next : (next : Items) → Some next ≡ items (number (m.0 + more.0)) → Summed x ts next.0 (k + 1)
       summed_next next f =
           let b = items_back (m.0 + more.0) next f in
           let z : k + 1 ≡ suc k = omega arith in

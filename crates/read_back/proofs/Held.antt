@@ -1,5 +1,6 @@
 -- What a reading of the bytes that are held of a file leaves in the rooms: rooms of the same lengths give the same; a header that is answered is the file's, and its parts are
 -- at the fronts of the rooms, where the check accepts them.
+use Rattle.std.specs.Prelude.{Err, Ok}
 use Prim.Native.Nat.{ℕ, ◌/◌}
 use native.Mathlib.Omega.{arith}
 use mathlib.Core.Path.{◌≡◌, refl, sym, ap, ◌∙◌}
@@ -18,7 +19,6 @@ use Rattle.header_prefix.specs.Answer.{version_is}
 use Rattle.judge.specs.Judged.{reading}
 use Rattle.judge.proofs.Top.{reading_keeps}
 use Rattle.header.specs.declared.Header.{Header}
-use Rattle.header.specs.declared.HeaderRead.{HeaderRead}
 use Rattle.header.specs.Reads.{HeaderInfo, header_info, header_is, after_prefix, held_into, ReadsHeld}
 use Rattle.check_record.proofs.Accepts.{checked_valid}
 use Rattle.read_back.specs.Rooms.{Holds}
@@ -73,7 +73,7 @@ module _ (longer : Bool) (file : List ℕ) (l m : Lent) (alike : Alike l m) wher
     pub start_is : h.start.0 ≡ header_found.data_start
     pub holds : Holds header_found.says h.info l'
 
-  pub held_found : (h : Header) (l' : Lent) → ReadsHeld longer file l (HeaderRead.Read h) l' → Found h l'
+  pub held_found : (h : Header) (l' : Lent) → ReadsHeld longer file l (Ok h) l' → Found h l'
   held_found h l' x = go (held_into longer file l) refl x.answered x.after
     where
       go : (o : Outcome header.Header) → held_into longer file l ≡ o → gives (header_is h) ≡ each header_info o → l' ≡ afterwards header.holding_header o l → Found h l'
@@ -89,7 +89,7 @@ module _ (longer : Bool) (file : List ℕ) (l m : Lent) (alike : Alike l m) wher
           }
       go (refused n) e p q = absurd (let z : ◌≡◌ {A = ℕ} 0 1 = cc in omega arith)
 
-  pub held_refused : (f : Refusal) (l' : Lent) → ReadsHeld longer file l (HeaderRead.Refused f) l' → held_into longer file m ≡ refused (number_of f)
+  pub held_refused : (f : Refusal) (l' : Lent) → ReadsHeld longer file l (Err f) l' → held_into longer file m ≡ refused (number_of f)
   held_refused f l' x = go (held_into longer file l) refl x.answered
     where
       go : (o : Outcome header.Header) → held_into longer file l ≡ o → refused (number_of f) ≡ each header_info o → held_into longer file m ≡ refused (number_of f)

@@ -3,7 +3,7 @@ use Prim.Native.Nat.{ℕ, zero, suc, ◌^◌}
 use mathlib.Core.Path.{◌≡◌, refl}
 use mathlib.Core.Bool.{Bool, true, false, cond, not, ◌&&◌, ◌||◌}
 use mathlib.Core.List.{List, [], ◌∷◌}
-use mathlib.Core.Option.{Option, none, some}
+use Rattle.std.specs.Prelude.{Option, Some}
 use lib.Dec.{leb, ltb, eqb}
 use lib.ListN.{length, get_or, take, drop}
 use Rattle.counts.specs.Outcome.{Outcome, gives, refused, then, each, unless}
@@ -251,8 +251,8 @@ record_numbered v = then_numbered (items_or 8 v) _ (items_numbered 8 v (refl, re
 
 -- ---- a text and a file
 ill_numbered : (at : Option ℕ) → Numbered (unless_ill at)
-ill_numbered none = an_answer tt
-ill_numbered (some at) = a_number (refl, refl)
+ill_numbered Option.None = an_answer tt
+ill_numbered (Some at) = a_number (refl, refl)
 
 value_numbered : (g : Got ℕ Value) → Numbered (value_read g)
 value_numbered (got v p) = an_answer v

@@ -1,9 +1,7 @@
 -- What `run_frames::next` guarantees: a case fits the room that it was read into.
-use Rattle.std.specs.Prelude.{ℕ, ◌≤◌}
-use Rattle.run_frames.specs.declared.Frame.{Frame}
-use Rattle.run_frames.specs.declared.Frame.TheVariants.{Case, End}
+use Rattle.std.specs.Prelude.{ℕ, ◌≤◌, None, Some, Option}
 
 -- a case is no longer than the room
-abbrev pub Inside : Frame → ℕ → Type 0
-Inside (Case n) room = n ≤ room
-Inside End room = Unit {0}
+abbrev pub Inside : Option ℕ → ℕ → Type 0
+Inside (Some n) room = n ≤ room
+Inside None room = Unit {0}

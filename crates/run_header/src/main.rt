@@ -3,11 +3,8 @@
 // bytes of a longer one; and the file. The rooms hold 5s before the call: a line ends in ` changed` if a refusal changed a room, or a success the room beyond what was needed.
 #![tactic(auto)]
 
-ghost use Rattle.std.specs.Prelude.{◌≤◌, ◌<◌, ◌+◌, length};
+ghost use Rattle.std.specs.Prelude.{◌≤◌, length};
 
-use counts::Number;
-use run_frames::Frame;
-use std::io::Read;
 use type_letters::Endianness;
 
 // The room for a case.
@@ -25,28 +22,7 @@ const FRONT: usize = 13;
 // The last of them says whether the file is longer.
 const LONGER: usize = FRONT - 1;
 
-fn main(rt: HostRuntime) {
-    let mut room = [0u8; CASE];
-    run_cases(&rt, &mut rt.stdin(), &mut room);
-}
-
-// A proved loop has to end, and nothing says that the input does; no run has this many cases.
-fn run_cases(rt: &impl Print, input: &mut impl Read, room: &mut [u8]) {
-    let mut turns = u64::MAX;
-    while turns > 0 && run_case(rt, input, room) {
-        turns -= 1;
-    }
-}
-
-// Runs one case, and returns whether to go on.
-fn run_case(rt: &impl Print, input: &mut impl Read, room: &mut [u8]) -> bool {
-    let Frame::Case(n) = run_frames::next(input, room) else {
-        return false;
-    };
-    replay(rt, &room[..n]);
-    rt.write_all(b"\n").is_ok()
-}
-
+// Prints the line of a case, but for its end.
 fn replay(rt: &impl Print, case: &[u8]) {
     let mut table = [5u64; dtype::TABLE];
     let mut names = [5u8; dtype::MOST_NAMES];
@@ -54,14 +30,29 @@ fn replay(rt: &impl Print, case: &[u8]) {
     lend(rt, case, &mut table, &mut names, &mut shape);
 }
 
+fn main(rt: HostRuntime) {
+    let mut room = [0u8; CASE];
+    let mut input = rt.stdin();
+    // A proved loop has to end, and nothing says that the input does; no run has this many cases.
+    for _ in 0..u64::MAX {
+        let Some(n) = run_frames::next(&mut input, &mut room) else {
+            return;
+        };
+        replay(&rt, &room[..n]);
+        if rt.write_all(b"\n").is_err() {
+            return;
+        }
+    }
+}
+
 fn lend(rt: &impl Print, case: &[u8], table: &mut [u64], names: &mut [u8], shape: &mut [u64]) {
     if case.len() < FRONT {
         say(rt, b"short");
         return;
     }
-    let entries = at_most(&case[0..4], table.len() / dtype::ENTRY);
-    let bytes = at_most(&case[4..8], names.len());
-    let rank = at_most(&case[8..LONGER], shape.len());
+    let entries = lent(&case[..4], table.len() / dtype::ENTRY);
+    let bytes = lent(&case[4..8], names.len());
+    let rank = lent(&case[8..LONGER], shape.len());
     read_case(
         rt,
         &case[FRONT..],
@@ -73,29 +64,10 @@ fn lend(rt: &impl Print, case: &[u8], table: &mut [u64], names: &mut [u8], shape
 }
 
 // The number in four bytes, at most `most`.
-fn at_most(run: &[u8], most: usize) -> usize
+fn lent(run: &[u8], most: usize) -> usize
     ensures { result ≤ most }
 {
-    let Number::Is(n) = number_bytes::read(run, Endianness::Little) else {
-        // not reached by the only caller: the number in four bytes is below 2^32
-        return most;
-    };
-    least(n, most)
-}
-
-fn least(n: u64, most: usize) -> usize
-    ensures { result ≤ most }
-{
-    if n < most as u64 { n as usize } else { most }
-}
-
-// Writes text. A write that fails is passed over: the line's end then fails too, and ends the run.
-fn say(rt: &impl Print, text: &[u8]) {
-    let _ = rt.write_all(text);
-}
-
-fn say_number(rt: &impl Print, n: u64) {
-    let _ = rt.print(n);
+    at_most(number(run, Endianness::Little), most)
 }
 
 fn read_case(
@@ -123,9 +95,9 @@ fn refuse(rt: &impl Print, r: u8) {
 
 // Lists the record at the front of the rooms, and checks the room beyond it.
 fn list_record(rt: &impl Print, said: &[u64; 6], table: &[u64], names: &[u8], shape: &[u64]) {
-    let numbers = dtype::ENTRY * least(said[3], table.len() / dtype::ENTRY);
-    let bytes = least(said[4], names.len());
-    let rank = least(said[2], shape.len());
+    let numbers = dtype::ENTRY * at_most(said[3], table.len() / dtype::ENTRY);
+    let bytes = at_most(said[4], names.len());
+    let rank = at_most(said[2], shape.len());
     list(rt, said, &table[..numbers], &names[..bytes], &shape[..rank]);
     look(rt, &table[numbers..], &names[bytes..], &shape[rank..]);
 }
@@ -152,64 +124,56 @@ fn list(rt: &impl Print, said: &[u64; 6], table: &[u64], names: &[u8], shape: &[
 
 // Prints the listing in one line.
 fn show(rt: &impl Print, room: &[u8], length: u64) {
-    let end = least(length, room.len());
-    show_lines(rt, &room[..end]);
-}
-
-fn show_lines(rt: &impl Print, text: &[u8]) {
-    let mut from: usize = 0;
-    let mut i: usize = 0;
-    while i < text.len() {
-        from = show_line(rt, text, from, i);
-        i += 1;
+    let text = &room[..at_most(length, room.len())];
+    let mut from = 0;
+    for i in 0..text.len() {
+        if text[i] == b'\n' {
+            say(rt, &text[from..i]);
+            from = i + 1;
+            if from < text.len() {
+                say(rt, b"; ");
+            }
+        }
     }
 }
 
-// Prints the line that began at `from` if it ends at `i`, and returns where the next one begins.
-fn show_line(rt: &impl Print, text: &[u8], from: usize, i: usize) -> usize
-    requires { (from ≤ i) × (i < length text.now) }
-    ensures { result ≤ i + 1 }
-{
-    if text[i] != b'\n' {
-        return from;
-    }
-    say(rt, &text[from..i]);
-    part_from(rt, text, i + 1);
-    i + 1
-}
-
-// Prints the separator after a line of the listing, except after the last.
-fn part_from(rt: &impl Print, text: &[u8], at: usize) {
-    if at < text.len() {
-        say(rt, b"; ");
-    }
-}
+// ---- what other replay programs have too: a public function of a library would have to state its whole result, and no contract can say what is printed
 
 // Prints ` changed` unless all of these rooms still hold 5s.
 fn look(rt: &impl Print, table: &[u64], names: &[u8], shape: &[u64]) {
-    if !(all_fives64(table) & all_fives8(names) & all_fives64(shape)) {
+    if changed(table) > 0 || changed(names) > 0 || changed(shape) > 0 {
         say(rt, b" changed");
     }
 }
 
-fn all_fives64(s: &[u64]) -> bool {
-    let mut i: usize = 0;
-    while i < s.len() {
-        if s[i] != 5 {
-            return false;
-        }
-        i += 1;
-    }
-    true
+fn at_most(n: u64, most: usize) -> usize
+    ensures { result ≤ most }
+{
+    n.min(most as u64) as usize
 }
 
-fn all_fives8(s: &[u8]) -> bool {
-    let mut i: usize = 0;
-    while i < s.len() {
-        if s[i] != 5 {
-            return false;
+// The number in these bytes, or 2^64-1 where it is larger.
+fn number(bytes: &[u8], order: Endianness) -> u64 {
+    number_bytes::read(bytes, order).unwrap_or(u64::MAX)
+}
+
+// Writes text. A write that fails is passed over: the line's end then fails too, and ends the run.
+fn say(rt: &impl Print, text: &[u8]) {
+    let _ = rt.write_all(text);
+}
+
+fn say_number(rt: &impl Print, n: u64) {
+    let _ = rt.print(n);
+}
+
+// How many numbers of a room there are before the 5s at its end: every lent number is 5 before a call.
+fn changed<T: Copy + Into<u64>>(room: &[T]) -> usize
+    ensures { result ≤ length room.now }
+{
+    for i in (0..room.len()).rev() {
+        if room[i].into() != 5 {
+            return i + 1;
         }
-        i += 1;
     }
-    true
+    0
 }

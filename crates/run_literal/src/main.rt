@@ -2,48 +2,38 @@
 #![tactic(auto)]
 
 use literal_bytes::Parsed;
-use run_frames::Frame;
-use std::io::Read;
 
-fn main(rt: HostRuntime) {
-    let mut room = [0u8; 65536];
-    run_cases(&rt, &mut rt.stdin(), &mut room);
-}
-
-// A proved loop has to end, and nothing says that the input does; no run has this many cases.
-fn run_cases(rt: &impl Print, input: &mut impl Read, room: &mut [u8]) {
-    let mut turns = u64::MAX;
-    while turns > 0 && run_case(rt, input, room) {
-        turns -= 1;
-    }
-}
-
-// Runs one case, and returns whether to go on.
-fn run_case(rt: &impl Print, input: &mut impl Read, room: &mut [u8]) -> bool {
-    let Frame::Case(n) = run_frames::next(input, room) else {
-        return false;
-    };
-    tell(rt, literal::literal(&room[..n]))
-}
-
-fn tell(rt: &impl Print, r: Parsed) -> bool {
-    match r {
-        Parsed::Value(_) => rt.write_all(b"ok\n").is_ok(),
+// Prints the line of a case, but for its end.
+fn replay(rt: &impl Print, case: &[u8]) {
+    match literal::literal(case) {
+        Parsed::Value(_) => say(rt, b"ok"),
         Parsed::Fault(at) => {
             say(rt, b"6 ");
-            tell_place(rt, at)
+            say_number(rt, at as u64)
         }
         Parsed::Deep(at) => {
             say(rt, b"7 ");
-            tell_place(rt, at)
+            say_number(rt, at as u64)
         }
     }
 }
 
-fn tell_place(rt: &impl Print, at: usize) -> bool {
-    say_number(rt, at as u64);
-    rt.write_all(b"\n").is_ok()
+fn main(rt: HostRuntime) {
+    let mut room = [0u8; 65536];
+    let mut input = rt.stdin();
+    // A proved loop has to end, and nothing says that the input does; no run has this many cases.
+    for _ in 0..u64::MAX {
+        let Some(n) = run_frames::next(&mut input, &mut room) else {
+            return;
+        };
+        replay(&rt, &room[..n]);
+        if rt.write_all(b"\n").is_err() {
+            return;
+        }
+    }
 }
+
+// ---- what other replay programs have too: a public function of a library would have to state its whole result, and no contract can say what is printed
 
 // Writes text. A write that fails is passed over: the line's end then fails too, and ends the run.
 fn say(rt: &impl Print, text: &[u8]) {

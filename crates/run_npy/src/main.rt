@@ -2,12 +2,9 @@
 // parts of a case and of a line are described in docs/FRAMES.md. Every lent number and byte is 5 before a call.
 #![tactic(auto)]
 
-ghost use Rattle.std.specs.Prelude.{◌≤◌, ◌<◌, length};
+ghost use Rattle.std.specs.Prelude.{◌≤◌, length, ◌<◌};
 
-use counts::Number;
 use dtype::{MOST_NAMES, TABLE};
-use run_frames::Frame;
-use std::io::Read;
 use type_letters::Endianness;
 
 // The room for a case.
@@ -25,41 +22,43 @@ const ROW: usize = 256;
 // The most numbers and code points that a case lends, and the bytes of a small room.
 const FEW: usize = 1024;
 
-// The same as a number of a case.
-const FEW_NUMBERS: u64 = FEW as u64;
-
 // The most bytes that a case lends.
 const MANY: usize = 131088;
 
+// The number of a function, and what it is called with.
+#[derive(Clone, Copy)]
+struct Call<'a> {
+    op: u8,
+    given: [u64; 7],
+    bytes: &'a [u8],
+    table: &'a [u64],
+    names: &'a [u8],
+    shape: &'a [u64],
+    index: &'a [u64],
+    path: &'a [u64],
+}
+
 fn main(rt: HostRuntime) {
     let mut room = [0u8; CASE];
-    let mut table = [0u64; TABLE_NUMBERS];
-    run_cases(&rt, &mut rt.stdin(), &mut room, &mut table);
-}
-
-// A proved loop has to end, and nothing says that the input does; no run has this many cases.
-fn run_cases(rt: &impl Print, input: &mut impl Read, room: &mut [u8], table: &mut [u64]) {
-    let mut turns = u64::MAX;
-    while turns > 0 && run_case(rt, input, room, table) {
-        turns -= 1;
+    let mut table = [0; TABLE_NUMBERS];
+    let mut input = rt.stdin();
+    // A proved loop has to end, and nothing says that the input does; no run has this many cases.
+    for _ in 0..u64::MAX {
+        let Some(n) = run_frames::next(&mut input, &mut room) else {
+            return;
+        };
+        replay(&rt, &room[..n], &mut table);
+        if rt.write_all(b"\n").is_err() {
+            return;
+        }
     }
-}
-
-// Runs one case, and returns whether to go on.
-fn run_case(rt: &impl Print, input: &mut impl Read, room: &mut [u8], table: &mut [u64]) -> bool {
-    let Frame::Case(n) = run_frames::next(input, room) else {
-        return false;
-    };
-    replay(rt, &room[..n], table);
-    rt.write_all(b"\n").is_ok()
 }
 
 // Runs a case. The numbers of its table are stored at the front of `table`, and only these are lent.
 fn replay(rt: &impl Print, case: &[u8], table: &mut [u64]) {
-    if case.len() == 0 {
+    let Some((op, parts)) = case.split_first() else {
         return;
-    }
-    let parts = &case[1..];
+    };
     let mut given = [0u64; 7];
     let mut shape = [0u64; DIMENSIONS];
     let mut index = [0u64; ROW];
@@ -69,52 +68,27 @@ fn replay(rt: &impl Print, case: &[u8], table: &mut [u64]) {
     let places = store(part(parts, 3), &mut index);
     let numbers = store(part(parts, 4), table);
     let steps = store(part(parts, 6), &mut path);
-    ask(
-        rt,
-        case[0],
-        &given,
-        part(parts, 0),
-        front(table, numbers),
-        part(parts, 5),
-        front(&shape, rank),
-        front(&index, places),
-        front(&path, steps),
-    );
+    let call = Call {
+        op: *op,
+        given,
+        bytes: part(parts, 0),
+        table: &table[..numbers],
+        names: part(parts, 5),
+        shape: &shape[..rank],
+        index: &index[..places],
+        path: &path[..steps],
+    };
+    ask(rt, call);
 }
 
 // ---- the parts of a case
 
-fn at_most(n: u64, most: usize) -> usize
-    ensures { result ≤ most }
-{
-    if n < most as u64 { n as usize } else { most }
-}
-
-fn number(bytes: &[u8], order: Endianness) -> u64 {
-    match number_bytes::read(bytes, order) {
-        Number::Is(n) => n,
-        Number::Over => u64::MAX,
-    }
-}
-
-// Where the first part ends: four bytes for its length, then its content; at most the end of the case.
-fn part_end(parts: &[u8]) -> usize
-    ensures { result ≤ length parts.now }
-{
-    if parts.len() < 4 {
-        return parts.len();
-    }
-    4 + at_most(number(&parts[0..4], Endianness::Little), parts.len() - 4)
-}
-
 fn part(parts: &[u8], k: usize) -> &[u8] {
-    let mut at: usize = 0;
-    let mut i: usize = 0;
-    while i < k {
-        at += part_end(&parts[at..]);
-        i += 1;
+    let mut rest = parts;
+    for _ in 0..k {
+        rest = &rest[part_end(rest)..];
     }
-    content(&parts[at..])
+    content(rest)
 }
 
 fn content(parts: &[u8]) -> &[u8] {
@@ -124,121 +98,80 @@ fn content(parts: &[u8]) -> &[u8] {
 }
 
 // Stores the numbers of a part, as many as have room, and returns how many. The first byte of the part is the number of bytes of each.
-fn store(bytes: &[u8], room: &mut [u64]) -> usize {
-    if bytes.len() == 0 {
+fn store(bytes: &[u8], room: &mut [u64]) -> usize
+    ensures { result ≤ length room.new }
+{
+    let Some((width, numbers)) = bytes.split_first() else {
         return 0;
-    }
-    let width = at_most(number(&bytes[0..1], Endianness::Little), 8);
-    let mut at: usize = 1;
-    let mut i: usize = 0;
-    while i < room.len() {
-        if bytes.len() - at < width {
+    };
+    let width = at_most(*width as u64, 8);
+    let mut rest = numbers;
+    for i in 0..room.len() {
+        if rest.len() < width {
             return i;
         }
-        let end = at + width;
-        room[i] = number(&bytes[at..end], Endianness::Little);
-        at = end;
-        i += 1;
+        room[i] = number(&rest[..width], Endianness::Little);
+        rest = &rest[width..];
     }
-    i
+    room.len()
 }
 
-fn front(numbers: &[u64], count: usize) -> &[u64] {
-    let end = at_most(count as u64, numbers.len());
-    &numbers[..end]
-}
+// ---- the calls, by what is lent: three rooms for a record; only the values; a room of numbers, bytes or code points
 
-// ---- the calls, by what is lent: three rooms for a record; a room of numbers, bytes or code points; only the values
-
-fn ask(
-    rt: &impl Print,
-    op: u8,
-    given: &[u64; 7],
-    bytes: &[u8],
-    table: &[u64],
-    names: &[u8],
-    shape: &[u64],
-    index: &[u64],
-    path: &[u64],
-) {
-    if op < 3 {
-        lend_record(rt, op, given, bytes);
-    } else if op < 6 {
-        lend_values(rt, op, given, bytes, table, names, shape, index, path);
-    } else if op < 18 {
-        lend_room(rt, op, given, bytes, table, names, shape, index, path);
-    } else {
-        lend_value(rt, op, given, bytes, table, names, shape, index, path);
+fn ask(rt: &impl Print, call: Call) {
+    match call.op {
+        0..=2 => lend_record(rt, call),
+        3..=5 | 18.. => lend_values(rt, call),
+        // filling a large room for each case takes long
+        _ if call.given[4] <= FEW as u64 => lend_room(rt, call, &mut [5; FEW]),
+        _ => lend_room(rt, call, &mut [5; MANY]),
     }
 }
 
-fn lend_values(
-    rt: &impl Print,
-    op: u8,
-    given: &[u64; 7],
-    bytes: &[u8],
-    table: &[u64],
-    names: &[u8],
-    shape: &[u64],
-    index: &[u64],
-    path: &[u64],
-) {
-    let a = given[0];
-    let b = given[1];
-    let c = given[2];
+fn lend_values(rt: &impl Print, call: Call) {
+    let [a, b, c, d, ..] = call.given;
     let mut four = [5u64; 4];
     let mut five = [5u64; 5];
     let mut six = [5u64; 6];
-    match op {
+    match call.op {
         3 => {
-            tell4(rt, npy::npy_type_read(bytes, &mut four), &four);
+            let r = npy::npy_type_read(call.bytes, &mut four);
+            tell(rt, r, &four);
         }
         4 => {
-            tell5(rt, npy::npy_check(table, names, shape, a, &mut five), &five);
+            let r = npy::npy_check(call.table, call.names, call.shape, a, &mut five);
+            tell(rt, r, &five);
+        }
+        5 => {
+            let r = npy::npy_place(
+                c, b, call.table, call.names, call.shape, a, call.index, call.path, &mut six,
+            );
+            tell(rt, r, &six);
+        }
+        18 => {
+            let r = npy::npy_element_value(
+                call.bytes, b, call.table, call.names, call.shape, a, call.index, call.path,
+                &mut four,
+            );
+            tell(rt, r, &four);
         }
         _ => {
-            let r = npy::npy_place(c, b, table, names, shape, a, index, path, &mut six);
-            tell6(rt, r, &six);
+            let r = npy::npy_read_value(call.bytes, a, b, c, d, &mut four);
+            tell(rt, r, &four);
         }
     }
 }
 
-// The value of an element, at a place or in a run of bytes.
-fn lend_value(
-    rt: &impl Print,
-    op: u8,
-    given: &[u64; 7],
-    bytes: &[u8],
-    table: &[u64],
-    names: &[u8],
-    shape: &[u64],
-    index: &[u64],
-    path: &[u64],
-) {
-    let a = given[0];
-    let b = given[1];
-    let c = given[2];
-    let d = given[3];
-    let mut said = [5u64; 4];
-    let r = match op {
-        18 => npy::npy_element_value(bytes, b, table, names, shape, a, index, path, &mut said),
-        _ => npy::npy_read_value(bytes, a, b, c, d, &mut said),
-    };
-    tell4(rt, r, &said);
-}
-
-fn lend_record(rt: &impl Print, op: u8, given: &[u64; 7], bytes: &[u8]) {
+fn lend_record(rt: &impl Print, call: Call) {
     let mut table = [5u64; TABLE];
     let mut names = [5u8; MOST_NAMES];
     let mut shape = [5u64; DIMENSIONS];
-    let numbers = at_most(given[4], TABLE);
-    let named = at_most(given[5], MOST_NAMES);
-    let rank = at_most(given[6], DIMENSIONS);
+    let numbers = at_most(call.given[4], TABLE);
+    let named = at_most(call.given[5], MOST_NAMES);
+    let rank = at_most(call.given[6], DIMENSIONS);
     read_record(
         rt,
-        op,
-        given[0] != 0,
-        bytes,
+        call,
         &mut table[..numbers],
         &mut names[..named],
         &mut shape[..rank],
@@ -247,166 +180,82 @@ fn lend_record(rt: &impl Print, op: u8, given: &[u64; 7], bytes: &[u8]) {
 
 fn read_record(
     rt: &impl Print,
-    op: u8,
-    longer: bool,
-    bytes: &[u8],
+    call: Call,
     table: &mut [u64],
     names: &mut [u8],
     shape: &mut [u64],
 ) {
     let mut six = [5u64; 6];
     let mut four = [5u64; 4];
-    let r = call_read(op, longer, bytes, table, names, shape, &mut six, &mut four);
-    if op < 2 {
-        tell6(rt, r, &six);
-    } else {
-        tell4(rt, r, &four);
+    match call.op {
+        0 => {
+            let r = npy::npy_read(call.bytes, table, names, shape, &mut six);
+            tell(rt, r, &six);
+        }
+        1 => {
+            let longer = call.given[0] != 0;
+            let r = npy::npy_read_held(call.bytes, longer, table, names, shape, &mut six);
+            tell(rt, r, &six);
+        }
+        _ => {
+            let r = npy::npy_read_text(call.bytes, table, names, shape, &mut four);
+            tell(rt, r, &four);
+        }
     }
     show(rt, table);
     show_bytes(rt, names);
     show(rt, shape);
 }
 
-fn call_read(
-    op: u8,
-    longer: bool,
-    bytes: &[u8],
-    table: &mut [u64],
-    names: &mut [u8],
-    shape: &mut [u64],
-    six: &mut [u64; 6],
-    four: &mut [u64; 4],
-) -> u8 {
-    match op {
-        0 => npy::npy_read(bytes, table, names, shape, six),
-        1 => npy::npy_read_held(bytes, longer, table, names, shape, six),
-        _ => npy::npy_read_text(bytes, table, names, shape, four),
-    }
-}
-
-fn lend_room(
-    rt: &impl Print,
-    op: u8,
-    given: &[u64; 7],
-    bytes: &[u8],
-    table: &[u64],
-    names: &[u8],
-    shape: &[u64],
-    index: &[u64],
-    path: &[u64],
-) {
-    if given[4] <= FEW_NUMBERS {
-        lend_small(rt, op, given, bytes, table, names, shape, index, path);
-        return;
-    }
+fn lend_room(rt: &impl Print, call: Call, out: &mut [u8]) {
     let mut numbers = [5u64; FEW];
-    let mut out = [5u8; MANY];
     let mut points = [5u32; FEW];
-    let few = at_most(given[4], FEW);
-    let many = at_most(given[4], MANY);
+    let few = at_most(call.given[4], FEW);
+    let many = at_most(call.given[4], out.len());
     ask_room(
         rt,
-        op,
-        given,
-        bytes,
-        table,
-        names,
-        shape,
-        index,
-        path,
+        call,
         &mut numbers[..few],
         &mut out[..many],
         &mut points[..few],
     );
 }
 
-// The same with small rooms, since filling large ones for each case takes long.
-fn lend_small(
-    rt: &impl Print,
-    op: u8,
-    given: &[u64; 7],
-    bytes: &[u8],
-    table: &[u64],
-    names: &[u8],
-    shape: &[u64],
-    index: &[u64],
-    path: &[u64],
-) {
-    let mut numbers = [5u64; FEW];
-    let mut out = [5u8; FEW];
-    let mut points = [5u32; FEW];
-    let few = at_most(given[4], FEW);
-    ask_room(
-        rt,
-        op,
-        given,
-        bytes,
-        table,
-        names,
-        shape,
-        index,
-        path,
-        &mut numbers[..few],
-        &mut out[..few],
-        &mut points[..few],
-    );
-}
-
-fn ask_room(
-    rt: &impl Print,
-    op: u8,
-    given: &[u64; 7],
-    bytes: &[u8],
-    table: &[u64],
-    names: &[u8],
-    shape: &[u64],
-    index: &[u64],
-    path: &[u64],
-    numbers: &mut [u64],
-    out: &mut [u8],
-    points: &mut [u32],
-) {
+fn ask_room(rt: &impl Print, call: Call, numbers: &mut [u64], out: &mut [u8], points: &mut [u32]) {
     let mut count = [5u64; 1];
-    let r = call(
-        op, given, bytes, table, names, shape, index, path, numbers, out, points, &mut count,
-    );
-    tell1(rt, r, &count);
+    let r = fill_room(call, numbers, out, points, &mut count);
+    tell(rt, r, &count);
     show(rt, numbers);
     show_bytes(rt, out);
-    show_points(rt, points);
+    show(rt, points);
 }
 
-fn call(
-    op: u8,
-    given: &[u64; 7],
-    bytes: &[u8],
-    table: &[u64],
-    names: &[u8],
-    shape: &[u64],
-    index: &[u64],
-    path: &[u64],
+fn fill_room(
+    call: Call,
     numbers: &mut [u64],
     out: &mut [u8],
     points: &mut [u32],
     count: &mut [u64; 1],
 ) -> u8 {
-    let a = given[0];
-    let b = given[1];
-    let c = given[2];
-    let d = given[3];
-    match op {
-        6 => npy::npy_count(shape, a, count),
-        7 => npy::npy_item_number(shape, a, index, count),
-        8 => npy::npy_strides(shape, a, numbers, count),
-        9 => npy::npy_element_bytes(bytes, b, table, names, shape, a, index, path, out, count),
-        10 => npy::npy_element_points(bytes, b, table, names, shape, a, index, path, points, count),
-        11 => npy::npy_read_bytes(bytes, a, b, c, d, out, count),
-        12 => npy::npy_read_points(bytes, a, b, c, d, points, count),
-        13 => npy::npy_write_bytes(a, b, c, d, bytes, out, count),
-        14 => write_points(a, b, c, d, index, out, count),
+    let [a, b, c, d, ..] = call.given;
+    match call.op {
+        6 => npy::npy_count(call.shape, a, count),
+        7 => npy::npy_item_number(call.shape, a, call.index, count),
+        8 => npy::npy_strides(call.shape, a, numbers, count),
+        9 => npy::npy_element_bytes(
+            call.bytes, b, call.table, call.names, call.shape, a, call.index, call.path, out, count,
+        ),
+        10 => npy::npy_element_points(
+            call.bytes, b, call.table, call.names, call.shape, a, call.index, call.path, points,
+            count,
+        ),
+        11 => npy::npy_read_bytes(call.bytes, a, b, c, d, out, count),
+        12 => npy::npy_read_points(call.bytes, a, b, c, d, points, count),
+        13 => npy::npy_write_bytes(a, b, c, d, call.bytes, out, count),
+        14 => write_points(a, b, c, d, call.index, out, count),
         15 => npy::npy_type_print(a, b, c, d, out, count),
-        16 => npy::npy_write_header(table, names, shape, a, out, count),
-        _ => npy::npy_list(c, b, table, names, shape, a, out, count),
+        16 => npy::npy_write_header(call.table, call.names, call.shape, a, out, count),
+        _ => npy::npy_list(c, b, call.table, call.names, call.shape, a, out, count),
     }
 }
 
@@ -420,23 +269,46 @@ fn write_points(
     count: &mut [u64; 1],
 ) -> u8 {
     let mut points = [0u32; ROW];
-    let n = at_most(value.len() as u64, ROW);
-    narrow(value, &mut points);
+    let n = value.len().min(ROW);
+    for (point, number) in points.iter_mut().zip(value) {
+        *point = (*number & 0xffff_ffff) as u32;
+    }
     npy::npy_write_points(a, b, c, d, &points[..n], out, count)
 }
 
-fn narrow(numbers: &[u64], points: &mut [u32]) {
-    let mut i: usize = 0;
-    while i < points.len() {
-        if numbers.len() <= i {
-            return;
-        }
-        points[i] = (numbers[i] % 0x100000000) as u32;
-        i += 1;
+// ---- the line
+
+// ---- what other replay programs have too: a public function of a library would have to state its whole result, and no contract can say what is printed
+
+// Prints what was returned, and the values if that is 0 or if they were changed.
+fn tell(rt: &impl Print, r: u8, values: &[u64]) {
+    say_number(rt, r as u64);
+    if r == 0 || changed(values) > 0 {
+        say_numbers(rt, values);
     }
 }
 
-// ---- the line
+fn at_most(n: u64, most: usize) -> usize
+    ensures { result ≤ most }
+{
+    n.min(most as u64) as usize
+}
+
+// The number in these bytes, or 2^64-1 where it is larger.
+fn number(bytes: &[u8], order: Endianness) -> u64 {
+    number_bytes::read(bytes, order).unwrap_or(u64::MAX)
+}
+
+// Where the first part ends: four bytes for its length, then its content; at most the end of the case.
+fn part_end(parts: &[u8]) -> usize
+    ensures inside { result ≤ length parts.now }
+    ensures some { 0 < length parts.now → 0 < result }
+{
+    if parts.len() < 4 {
+        return parts.len();
+    }
+    4 + at_most(number(&parts[..4], Endianness::Little), parts.len() - 4)
+}
 
 // Writes text. A write that fails is passed over: the line's end then fails too, and ends the run.
 fn say(rt: &impl Print, text: &[u8]) {
@@ -447,66 +319,25 @@ fn say_number(rt: &impl Print, n: u64) {
     let _ = rt.print(n);
 }
 
-// Prints what was returned, and the values if that is 0 or if they were changed.
-fn tell(rt: &impl Print, r: u8, values: &[u64]) {
-    say_number(rt, r as u64);
-    if r == 0 || changed(values) > 0 {
-        say_numbers(rt, values);
-    }
-}
-
-fn tell1(rt: &impl Print, r: u8, values: &[u64; 1]) {
-    tell(rt, r, values);
-}
-
-fn tell4(rt: &impl Print, r: u8, values: &[u64; 4]) {
-    tell(rt, r, values);
-}
-
-fn tell5(rt: &impl Print, r: u8, values: &[u64; 5]) {
-    tell(rt, r, values);
-}
-
-fn tell6(rt: &impl Print, r: u8, values: &[u64; 6]) {
-    tell(rt, r, values);
-}
-
-fn say_numbers(rt: &impl Print, numbers: &[u64]) {
-    let mut i: usize = 0;
-    while i < numbers.len() {
+fn say_numbers<T: Copy + Into<u64>>(rt: &impl Print, numbers: &[T]) {
+    for n in numbers {
         say(rt, b" ");
-        say_number(rt, numbers[i]);
-        i += 1;
+        say_number(rt, (*n).into());
     }
 }
 
-// Prints a room without the 5s at its end.
-fn show(rt: &impl Print, room: &[u64]) {
+// Prints a room of numbers without the 5s at its end.
+fn show<T: Copy + Into<u64>>(rt: &impl Print, room: &[T]) {
     say(rt, b";");
-    say_numbers(rt, front(room, changed(room)));
+    say_numbers(rt, &room[..changed(room)]);
 }
 
+// Prints a room of bytes in hexadecimal, eight at a time, without the 5s at its end.
 fn show_bytes(rt: &impl Print, room: &[u8]) {
     say(rt, b";");
-    let end = changed_bytes(room);
-    show_run(rt, &room[..end]);
-}
-
-// Prints bytes in hexadecimal, eight at a time.
-fn show_run(rt: &impl Print, run: &[u8]) {
-    let mut at: usize = 0;
-    while at < run.len() {
-        let to = next_eight(at, run.len());
-        say_hex(rt, &run[at..to]);
-        at = to;
+    for run in room[..changed(room)].chunks(8) {
+        say_hex(rt, run);
     }
-}
-
-fn next_eight(at: usize, end: usize) -> usize
-    requires { at < end }
-    ensures { (at < result) × (result ≤ end) }
-{
-    if end - at < 8 { end } else { at + 8 }
 }
 
 fn say_hex(rt: &impl Print, run: &[u8]) {
@@ -515,54 +346,14 @@ fn say_hex(rt: &impl Print, run: &[u8]) {
     let _ = print!(rt; "{n:0width$x}");
 }
 
-fn changed(room: &[u64]) -> usize {
-    let mut n = room.len();
-    while n > 0 {
-        if room[n - 1] != 5 {
-            return n;
-        }
-        n -= 1;
-    }
-    n
-}
-
-fn changed_bytes(room: &[u8]) -> usize
+// How many numbers of a room there are before the 5s at its end: every lent number is 5 before a call.
+fn changed<T: Copy + Into<u64>>(room: &[T]) -> usize
     ensures { result ≤ length room.now }
 {
-    let mut n = room.len();
-    while n > 0 {
-        if room[n - 1] != 5 {
-            return n;
+    for i in (0..room.len()).rev() {
+        if room[i].into() != 5 {
+            return i + 1;
         }
-        n -= 1;
     }
-    n
-}
-
-fn show_points(rt: &impl Print, room: &[u32]) {
-    say(rt, b";");
-    let end = changed_points(room);
-    let mut i: usize = 0;
-    while i < end {
-        say_point(rt, room[i]);
-        i += 1;
-    }
-}
-
-fn say_point(rt: &impl Print, p: u32) {
-    say(rt, b" ");
-    say_number(rt, p as u64);
-}
-
-fn changed_points(room: &[u32]) -> usize
-    ensures { result ≤ length room.now }
-{
-    let mut n = room.len();
-    while n > 0 {
-        if room[n - 1] != 5 {
-            return n;
-        }
-        n -= 1;
-    }
-    n
+    0
 }

@@ -7,7 +7,7 @@ ghost use Rattle.counts.specs.Number.{capped};
 ghost use Rattle.counts.specs.Counts.{as_bytes};
 ghost use Rattle.dtype.specs.PlainBytes.{plain_bytes};
 
-use counts::{Bytes, Items};
+use counts::{Bytes, Items, held};
 use type_str::{TypeBytes, TypeStr};
 
 // The size of a plain type; an object has 0.
@@ -25,14 +25,12 @@ pub fn held_bytes(t: TypeStr) -> Bytes
 pub fn held_sum(a: Bytes, b: Bytes) -> Bytes
     ensures { result ≡ as_bytes (capped (a.0 + b.0)) }
 {
-    let sum = a.plus(b);
-    sum.held()
+    held(a.plus(b))
 }
 
 // The size of `count` items, each of `size` bytes.
 pub fn held_product(count: Items, size: Bytes) -> Bytes
     ensures { result ≡ as_bytes (capped (count.0 * size.0)) }
 {
-    let product = count.of_size(size);
-    product.held()
+    held(count.of_size(size))
 }

@@ -1,5 +1,8 @@
 -- What the two loops keep, and what holds at their ends. After k turns `acc` is the product of the first k dimensions visited, and in `fill` the
 -- strides of these are in place and the room after the strides is as it was.
+use Rattle.std.specs.Prelude.{Err, IsSome, None, Ok, Option, Some}
+use Rattle.std.specs.Option.{ok_or}
+use borrow.Author.Rules.{rules}
 use Prim.Native.Nat.{ℕ, ◌+◌, ◌*◌, ◌-◌, ◌^◌, ◌<◌, ◌≤◌}
 use mathlib.Core.Path.{◌≡◌, refl, ap, sym, ◌∙◌}
 use mathlib.Core.Bool.{Bool, true, false}
@@ -13,14 +16,12 @@ use Rattle.counts.specs.Outcome.{gives, refused, unless}
 use Rattle.counts.specs.declared.Items.{Items}
 use Rattle.counts.specs.Number.{number}
 use Rattle.counts.specs.Counts.{items}
-use Rattle.counts.specs.declared.ItemCount.{ItemCount}
 use Rattle.counts.proofs.Counted.{items_back, items_over_lem}
 use Rattle.dtype.specs.declared.Order.{Order}
 use Rattle.dtype.specs.Shape.{product, stride, strides}
 use Rattle.dtype.specs.Limits.{over_shape}
 use Rattle.dtype.proofs.Strides.{strides_at, strides_length}
 use Rattle.refusal.specs.declared.Refusal.{Refusal}
-use Rattle.refusal.specs.declared.ItemsAnswer.{ItemsAnswer}
 use Rattle.refusal.specs.Numbers.{number_of}
 use Rattle.refusal.specs.Answers.{items_answer}
 use Rattle.counts.specs.Lists.{at_front}
@@ -48,7 +49,7 @@ counting_start o s =
     }
 
 module _ (o : Order) (s : List ℕ) (acc k at : ℕ) (c : Counting o s acc k) (l : k < length s) (v : at ≡ visited o (length s) k) where
-  pub counting_next : (m : Items) → ItemCount.Is m ≡ items (number (get_or s at 0 * acc)) → Counting o s m.0 (k + 1)
+  pub counting_next : (m : Items) → Some m ≡ items (number (get_or s at 0 * acc)) → Counting o s m.0 (k + 1)
   counting_next m e =
       let b = items_back (get_or s at 0 * acc) m e in
       let q : passed o s (k + 1) ≡ m.0 = next_product o s acc k at c.is l v ∙ b.0 in
@@ -62,11 +63,13 @@ module _ (o : Order) (s : List ℕ) (acc k at : ℕ) (c : Counting o s acc k) (l
             (lt_or_ge j (k + 1));
       }
 
-  pub counting_over : ItemCount.Over ≡ items (number (get_or s at 0 * acc)) → refused 22 ≡ item_count o s
+  pub counting_over : (r : Option Items) (why : Refusal) → r ≡ items (number (get_or s at 0 * acc)) → Err why ≡ ok_or r Refusal.Shape → items_answer (Err why) ≡ item_count o s
   unfolding item_count
-  counting_over e =
+  counting_over None why e q =
+      let w : why ≡ Refusal.Shape = cc in
       let b = items_over_lem (get_or s at 0 * acc) e in
-      simp (one_over o s (k + 1) (omega arith) (rw (next_product o s acc k at c.is l v) b))
+      rw w (simp (one_over o s (k + 1) (omega arith) (rw (next_product o s acc k at c.is l v) b)))
+  counting_over (Some m) why e q = cc
 
 pub counting_end : (o : Order) (s : List ℕ) (acc k : ℕ) → Counting o s acc k → length s ≤ k → gives acc ≡ item_count o s
 unfolding item_count
@@ -111,10 +114,11 @@ module _ (o : Order) (s old : List ℕ) (acc k at : ℕ) (out : List ℕ) (f : F
       absurd (omega arith))
       (lt_or_ge (passed o s (k + 1)) (2 ^ 64))
 
-  pub filling_over : {A : Type 0} → ItemCount.Over ≡ items (number (get_or s at 0 * acc)) → A
-  filling_over e = absurd (omega (arith, filling_fits, items_over_lem (get_or s at 0 * acc) e))
+  pub filling_some : (r : Option Items) → r ≡ items (number (get_or s at 0 * acc)) → IsSome r
+  filling_some (Some m) e = search rules
+  filling_some None e = absurd (omega (arith, filling_fits, items_over_lem (get_or s at 0 * acc) e))
 
-  pub filling_next : (m : Items) → ItemCount.Is m ≡ items (number (get_or s at 0 * acc)) → Filling o s old m.0 (k + 1) (set out at acc)
+  pub filling_next : (m : Items) → Some m ≡ items (number (get_or s at 0 * acc)) → Filling o s old m.0 (k + 1) (set out at acc)
   filling_next m e =
       let b : at < length s = rw v (visited_below o (length s) k l) in
       let put : get_or (set out at acc) at 0 ≡ acc = get_or-set_same out at acc 0 (omega (arith, f.same_length, f.room)) in
@@ -176,11 +180,11 @@ counted_refused o s n e = go (over_shape o s) refl e
 -- the three answers of `strides`
 module _ (o : Order) (s out : List ℕ) where
   -- where the items are not counted, their refusal is passed on: it is 22
-  pub writes_refused : (why : Refusal) → items_answer (ItemsAnswer.Refused why) ≡ item_count o s → WritesStrides o s out (ItemsAnswer.Refused why) out
+  pub writes_refused : (why : Refusal) → items_answer (Err why) ≡ item_count o s → WritesStrides o s out (Err why) out
   unfolding strides_count
   writes_refused why e = let t = counted_refused o s (number_of why) e in record { answered = ap refused t.1 ∙ simp t.0; out_after = simp t.0 }
 
-  pub writes_room : (n : ℕ) → gives n ≡ item_count o s → length out < length s → WritesStrides o s out (ItemsAnswer.Refused Refusal.Room) out
+  pub writes_room : (n : ℕ) → gives n ≡ item_count o s → length out < length s → WritesStrides o s out (Err Refusal.Room) out
   unfolding strides_count
   writes_room n e l =
       let t = (counted_fits o s n e).0 in
@@ -188,7 +192,7 @@ module _ (o : Order) (s out : List ℕ) where
       record { answered = simp (t, u); out_after = simp (t, u) }
 
   pub writes_all : (n : Items) (out' : List ℕ) → gives n.0 ≡ item_count o s → length s ≤ length out → out' ≡ at_front (strides o s) out
-      → WritesStrides o s out (ItemsAnswer.Is n) out'
+      → WritesStrides o s out (Ok n) out'
   unfolding strides_count
   writes_all n out' e l q =
       let t = counted_fits o s n.0 e in

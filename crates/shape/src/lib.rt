@@ -10,41 +10,33 @@ ghost use Rattle.refusal.specs.Answers.{items_answer};
 ghost use Rattle.shape.specs.Count.{item_count, WritesStrides};
 ghost use Rattle.shape.specs.Visit.{visited};
 
-use counts::{ItemCount, Items};
+use counts::Items;
 use dtype::Order;
-use refusal::{ItemsAnswer, Refusal};
+use refusal::Refusal;
 
 // The item count of a shape; 22 where it or a stride of this order is over 2^64-1.
-pub fn count(shape: &[u64], order: Order) -> ItemsAnswer
+pub fn count(shape: &[u64], order: Order) -> Result<Items, Refusal>
     ensures { items_answer result ≡ item_count order shape.now }
 {
     let mut product = Items(1);
-    let mut k: usize = 0;
-    while k < shape.len() {
+    for k in 0..shape.len() {
         let at = visit(order, shape.len(), k);
-        let ItemCount::Is(next) = product.times(shape[at]) else {
-            return ItemsAnswer::Refused(Refusal::Shape);
-        };
-        product = next;
-        k += 1;
+        product = product.times(shape[at]).ok_or(Refusal::Shape)?;
     }
-    ItemsAnswer::Is(product)
+    Ok(product)
 }
 
 // Writes the strides of a shape, in items, to the front of `out`, and returns the item count; or 22; or 23 where `out` is shorter than the shape. A refusal leaves
 // `out` as it was.
-pub fn strides(shape: &[u64], order: Order, out: &mut [u64]) -> ItemsAnswer
+pub fn strides(shape: &[u64], order: Order, out: &mut [u64]) -> Result<Items, Refusal>
     ensures { WritesStrides order shape.now out.old result out.new }
 {
-    let counted = count(shape, order);
-    let ItemsAnswer::Is(items) = counted else {
-        return counted;
-    };
+    let items = count(shape, order)?;
     if out.len() < shape.len() {
-        return ItemsAnswer::Refused(Refusal::Room);
+        return Err(Refusal::Room);
     }
     fill(shape, order, out);
-    ItemsAnswer::Is(items)
+    Ok(items)
 }
 
 // Each stride is the product of the dimensions visited before.
@@ -53,16 +45,10 @@ fn fill(shape: &[u64], order: Order, out: &mut [u64])
     ensures { out.new ≡ at_front (strides order shape.now) out.old }
 {
     let mut stride = Items(1);
-    let mut k: usize = 0;
-    while k < shape.len() {
+    for k in 0..shape.len() {
         let at = visit(order, shape.len(), k);
         out[at] = stride.0;
-        let ItemCount::Is(next) = stride.times(shape[at]) else {
-            // not reached: `count` has shown that no product is over
-            return;
-        };
-        stride = next;
-        k += 1;
+        stride = stride.times(shape[at]).unwrap();
     }
 }
 

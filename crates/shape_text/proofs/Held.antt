@@ -1,5 +1,8 @@
 -- The members of a list or tuple: the outline of all of them is that of those met, extended by those that are left. Then the value around them: `bracket`,
 -- by the kind of its first byte.
+use Rattle.refusal.specs.Answers.{answer}
+use Rattle.refusal.specs.declared.Refusal.{Refusal}
+use Rattle.std.specs.Prelude.{Err, Ok, Some, Result}
 use Prim.Native.Nat.{ℕ, ◌+◌, ◌-◌, ◌<◌, ◌≤◌}
 use native.Mathlib.Omega.{arith}
 use mathlib.Core.Path.{◌≡◌, refl, sym, ap}
@@ -7,7 +10,6 @@ use mathlib.Core.List.{List, [], ◌∷◌}
 use mathlib.Core.Bool.{false}
 use lib.ListN.{length}
 use Rattle.counts.specs.Outcome.{Outcome, gives, refused, then, each}
-use Rattle.counts.specs.declared.ItemCount.{ItemCount}
 use Rattle.counts.proofs.Fits.{number_is}
 use Rattle.record.specs.Parts.{members_or}
 use Rattle.record.specs.Dimensions.{dimension}
@@ -23,25 +25,22 @@ use Rattle.literal_bytes.specs.declared.ValueKind.TheVariants.{Square, Round, Cu
 use Rattle.literal_bytes.proofs.Positions.{kind_in}
 use Rattle.literal.proofs.View.{view}
 use Rattle.shape_verdict.specs.declared.Outline.{Outline}
-use Rattle.shape_verdict.specs.declared.ShapeVerdict.{ShapeVerdict}
-use Rattle.shape_verdict.specs.declared.ShapeVerdict.TheVariants.{Good, Refused}
-use Rattle.shape_verdict.specs.declared.Member.{Member}
 use Rattle.shape_verdict.specs.Outline.{outline_of, extended_to, extended_by, extends}
-use Rattle.shape_verdict.specs.Answer.{member_answer, outlined, rank_of}
+use Rattle.shape_verdict.specs.Answer.{rank_of}
 use Rattle.shape_verdict.proofs.Outlines.{outline_whole}
 use Rattle.shape_text.specs.Members.{closing_of}
 use Rattle.shape_text.specs.Walk.{dimensions_of, goes_on_to}
 
 -- ---- members, one after the other
-none_outline : outline_of [] ≡ record { rank = 0; empty = false; before = ItemCount.Is (record { 0 = 1 }); after = ItemCount.Is (record { 0 = 1 }) }
+none_outline : outline_of [] ≡ record { rank = 0; empty = false; before = Some (record { 0 = 1 }); after = Some (record { 0 = 1 }) }
 unfolding outline_of
 none_outline = rw (number_is 1 (omega arith))
 
-pub nothing_is : Good (record { rank = 0; empty = false; before = ItemCount.Is (record { 0 = 1 }); after = ItemCount.Is (record { 0 = 1 }) }) ≡ Good (outline_of [])
-nothing_is = ap Good (sym none_outline)
+pub nothing_is : ◌≡◌ {A = Result Outline Refusal} (Ok (record { rank = 0; empty = false; before = Some (record { 0 = 1 }); after = Some (record { 0 = 1 }) })) (Ok (outline_of []))
+nothing_is = ap Ok (sym none_outline)
 
 -- no members are met yet
-pub nothing_rank : (v : ShapeVerdict) → v ≡ Good (outline_of []) → rank_of v ≡ 0
+pub nothing_rank : (v : Result Outline Refusal) → v ≡ Ok (outline_of []) → rank_of v ≡ 0
 unfolding outline_of
 nothing_rank v h = ap rank_of h
 
@@ -64,18 +63,18 @@ goes_one v n (fault p) = refl
 goes_one v n (deep p) = refl
 
 -- none is left
-pub goes_none : (v : ShapeVerdict) (e : ℕ) → outlined v ≡ goes_on_to (outlined v) (got [] e)
+pub goes_none : (v : Result Outline Refusal) (e : ℕ) → answer v ≡ goes_on_to (answer v) (got [] e)
 unfolding forget_all
-goes_none (Good o) e = refl
-goes_none (Refused why) e = refl
+goes_none (Ok o) e = refl
+goes_none (Err why) e = refl
 
 -- a verdict counts one more at most
-pub rank_more : (v v' : ShapeVerdict) (m : Member) → outlined v' ≡ then (outlined v) (λ o. each (extended_by o) (member_answer m)) → rank_of v' ≤ rank_of v + 1
+pub rank_more : (v v' : Result Outline Refusal) (m : Result ℕ Refusal) → answer v' ≡ then (answer v) (λ o. each (extended_by o) (answer m)) → rank_of v' ≤ rank_of v + 1
 unfolding extended_to
-rank_more v (Refused why) m h = omega arith
-rank_more (Refused why) (Good o) m h = absurd (let z : ◌≡◌ {A = ℕ} 0 1 = cc in omega arith)
-rank_more (Good u) (Good o) (Member.Is n) h = let z : o ≡ extended_by u n = cc in omega (arith, ap (λ (x : Outline). x.rank) z)
-rank_more (Good u) (Good o) (Member.Refused why) h = absurd (let z : ◌≡◌ {A = ℕ} 0 1 = cc in omega arith)
+rank_more v (Err why) m h = omega arith
+rank_more (Err why) (Ok o) m h = absurd (let z : ◌≡◌ {A = ℕ} 0 1 = cc in omega arith)
+rank_more (Ok u) (Ok o) (Ok n) h = let z : o ≡ extended_by u n = cc in omega (arith, ap (λ (x : Outline). x.rank) z)
+rank_more (Ok u) (Ok o) (Err why) h = absurd (let z : ◌≡◌ {A = ℕ} 0 1 = cc in omega arith)
 
 -- ---- a list or a tuple, and what it holds
 pub record Bracket (k : ℕ) (s : List ℕ) (at : ℕ) (n : Node) (e close : ℕ) : Type 0 where

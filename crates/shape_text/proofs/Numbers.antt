@@ -1,4 +1,5 @@
 -- Digits at a position are the integer that is there, by the kind of its first byte; and the bracket that closes, by that kind.
+use Rattle.std.specs.Prelude.{Err, Result}
 use Prim.Native.Nat.{ℕ, ◌+◌}
 use mathlib.Core.Path.{◌≡◌, refl, sym, ap, subst, ◌∙◌}
 use mathlib.Core.List.{List, [], ◌∷◌}
@@ -30,7 +31,6 @@ use Rattle.literal_tokens.proofs.Ends.{token_end, token_ends}
 use Rattle.literal_bytes.proofs.Ends.{Stops, stops}
 use Rattle.literal.proofs.Steps.{value_token}
 use Rattle.literal.proofs.View.{view, View}
-use Rattle.shape_verdict.specs.declared.Member.{Member}
 use Rattle.refusal.specs.declared.Refusal.{Refusal}
 use Rattle.shape_verdict.specs.Signs.{positive_of, negative_of}
 use Rattle.shape_text.specs.Members.{closing_of, member_at}
@@ -121,9 +121,9 @@ module _ (s : List ℕ) (at : ℕ) where
         go (Deep e) h n = absurd n
 
 -- ---- the dimension that they are, by the first byte
-module _ (s : List ℕ) (at : ℕ) (d : Member) where
-  abbrev after_sign : Member
-  after_sign = cond (eqb (byte_at s at) 45) (negative_of (numeral_at s (at + 1)).number) (Member.Refused Refusal.NotShape)
+module _ (s : List ℕ) (at : ℕ) (d : Result ℕ Refusal) where
+  abbrev after_sign : Result ℕ Refusal
+  after_sign = cond (eqb (byte_at s at) 45) (negative_of (numeral_at s (at + 1)).number) (Err Refusal.NotShape)
 
   pub member_digit : (r : Numeral) → r ≡ numeral_at s at → (e : ℕ) → r.ended ≡ Value e → d ≡ positive_of r.number → d ≡ member_at s at
   member_digit r hr e he hd =
@@ -136,10 +136,10 @@ module _ (s : List ℕ) (at : ℕ) (d : Member) where
 
     pub member_minus : (r : Numeral) → r ≡ numeral_at s (at + 1) → byte_at s at ≡ 45 → d ≡ negative_of r.number → d ≡ member_at s at
     member_minus r hr hb hd =
-        hd ∙ (ap (λ (x : Numeral). negative_of x.number) hr ∙ (sym (ap (λ (b : Bool). cond b (negative_of (numeral_at s (at + 1)).number) (Member.Refused Refusal.NotShape)) (eq-eqb _ _ hb)) ∙ no_digit))
+        hd ∙ (ap (λ (x : Numeral). negative_of x.number) hr ∙ (sym (ap (λ (b : Bool). cond b (negative_of (numeral_at s (at + 1)).number) (Err Refusal.NotShape)) (eq-eqb _ _ hb)) ∙ no_digit))
 
-    pub member_none : (byte_at s at ≡ 45 → ⊥) → Member.Refused Refusal.NotShape ≡ member_at s at
-    member_none hb = sym (ap (λ (b : Bool). cond b (negative_of (numeral_at s (at + 1)).number) (Member.Refused Refusal.NotShape)) (ne_eqb _ _ hb)) ∙ no_digit
+    pub member_none : (byte_at s at ≡ 45 → ⊥) → Err Refusal.NotShape ≡ member_at s at
+    member_none hb = sym (ap (λ (b : Bool). cond b (negative_of (numeral_at s (at + 1)).number) (Err Refusal.NotShape)) (ne_eqb _ _ hb)) ∙ no_digit
 
 -- ---- the value at a byte that opens no bracket ends as the token there
 abbrev pub is_bracket : ValueKind → Bool

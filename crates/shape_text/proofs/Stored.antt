@@ -1,5 +1,7 @@
 -- Storing the members of a shape. What is kept: the numbers that are left to put, put on the buffer as it is, give the due buffer. Then the shape around
 -- them, whose dimensions these are all, and the buffer where there is room for all.
+use Rattle.refusal.specs.Answers.{answer}
+use Rattle.std.specs.Prelude.{Err, Ok, Result}
 use Prim.Native.Nat.{ℕ, zero, suc, ◌+◌, ◌-◌, ◌<◌, ◌≤◌}
 use native.Mathlib.Nat.{not-suc-le-zero}
 use native.Mathlib.Omega.{arith}
@@ -42,8 +44,6 @@ use Rattle.literal_bytes.proofs.Ends.{Stops, stops}
 use Rattle.literal.proofs.Steps.{thing, gap_left, gap_enough, gap_falls, read_ahead}
 use Rattle.refusal.specs.declared.Refusal.{Refusal}
 use Rattle.refusal.specs.Numbers.{number_of}
-use Rattle.shape_verdict.specs.declared.Member.{Member}
-use Rattle.shape_verdict.specs.Answer.{member_answer}
 use Rattle.shape_text.specs.Members.{closing_of, SizeAt}
 use Rattle.shape_text.specs.Answer.{dimensions_at}
 use Rattle.shape_text.specs.Walk.{dimensions_of}
@@ -136,25 +136,25 @@ module _ (k : ℕ) (s : List ℕ) (close from : ℕ) (old out : List ℕ) (g : G
         let st = subst Stops hv (stops v o) in
         at_item p hp (front_stop k s close w.bound p (value k s p) refl st, stop_stop k s close w.bound p (value k s p) refl st)
 
-    module _ (d : Member) (hd : SizeAt s p d) (q : ℕ) (hq : v ≡ Value q) where
+    module _ (d : Result ℕ Refusal) (hd : SizeAt s p d) (q : ℕ) (hq : v ≡ Value q) where
       there : (n : Node) × (value k s p ≡ got n q)
       there = thing (value k s p) q (sym hq ∙ hv)
 
-      size : member_answer d ≡ dimension (forget there.0)
+      size : answer d ≡ dimension (forget there.0)
       size = hd k there.0 q there.1
 
       refused_here : (j : ℕ) → dimension (forget there.0) ≡ refused j → (front_from (value k s) s close w.bound (Item p) ≡ []) × (stop_from (value k s) s close w.bound (Item p) ≡ Item p)
       refused_here j e = (front_none k s close w.bound p q j there.0 there.1 e, stop_none k s close w.bound p q j there.0 there.1 e)
 
-      pub filling_none : (why : Refusal) → d ≡ Member.Refused why → Stored (front_in k s from close) (stop_in k s from close) old (record { rank = i; stop = Item p }) out
-      filling_none why h = at_item p hp (refused_here (number_of why) (sym size ∙ ap member_answer h))
+      pub filling_none : (why : Refusal) → d ≡ Err why → Stored (front_in k s from close) (stop_in k s from close) old (record { rank = i; stop = Item p }) out
+      filling_none why h = at_item p hp (refused_here (number_of why) (sym size ∙ ap answer h))
 
       pub filling_count : (i ≤ p) × (p < q) × (q ≤ length s)
       filling_count =
           let a = read_ahead p (length s) q v _ hv hq (value_ahead k s p) in
           (counted_at i p g w.counted hp, a.0, a.1)
 
-      module _ (small : close < 256) (out' : List ℕ) (g' : Gap) (n : ℕ) (hn : d ≡ Member.Is n) (ho : out' ≡ set out i n) (hg : g' ≡ then_at s q close) where
+      module _ (small : close < 256) (out' : List ℕ) (g' : Gap) (n : ℕ) (hn : d ≡ Ok n) (ho : out' ≡ set out i n) (hg : g' ≡ then_at s q close) where
         after : GapAhead q (length s) g'
         after = subst (λ (x : Gap). GapAhead q (length s) x) (sym hg) (then_ahead s q close small)
 
@@ -164,9 +164,9 @@ module _ (k : ℕ) (s : List ℕ) (close from : ℕ) (old out : List ℕ) (g : G
         more_by (suc b) lt hl hs hz =
             let a = filling_count in
             let e : front_from (value k s) s close (suc b) g ≡ n ∷ front_from (value k s) s close b g' =
-            ap (front_from (value k s) s close (suc b)) hp ∙ front_more k s close b p q n there.0 there.1 (sym size ∙ ap member_answer hn) ∙ ap (λ (x : Gap). n ∷ front_from (value k s) s close b x) (sym hg) in
+            ap (front_from (value k s) s close (suc b)) hp ∙ front_more k s close b p q n there.0 there.1 (sym size ∙ ap answer hn) ∙ ap (λ (x : Gap). n ∷ front_from (value k s) s close b x) (sym hg) in
             let z : stop_from (value k s) s close (suc b) g ≡ stop_from (value k s) s close b g' =
-            ap (stop_from (value k s) s close (suc b)) hp ∙ stop_more k s close b p q n there.0 there.1 (sym size ∙ ap member_answer hn) ∙ ap (stop_from (value k s) s close b) (sym hg) in
+            ap (stop_from (value k s) s close (suc b)) hp ∙ stop_more k s close b p q n there.0 there.1 (sym size ∙ ap answer hn) ∙ ap (stop_from (value k s) s close b) (sym hg) in
             let falls = gap_falls p q (length s) g' a.1 a.2 after in
             record {
               bound = b;

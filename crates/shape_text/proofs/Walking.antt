@@ -1,5 +1,7 @@
 -- Judging members while they are read. What is kept: the list ends as its items from the gap on do, and its outline is the verdict on the members met,
 -- extended by those from the gap on. A law for each way out of the loop, of a tuple, and of the value around them.
+use Rattle.refusal.specs.Answers.{answer}
+use Rattle.std.specs.Prelude.{Err, Ok, Result}
 use Prim.Native.Nat.{ℕ, zero, suc, ◌+◌, ◌-◌, ◌<◌, ◌≤◌, ◌^◌}
 use native.Mathlib.Nat.{not-suc-le-zero}
 use native.Mathlib.Omega.{arith}
@@ -36,11 +38,9 @@ use Rattle.literal_bytes.proofs.GapEnds.{GapAhead, gap_ahead, then_ahead}
 use Rattle.literal_bytes.proofs.Ends.{Stops, stops}
 use Rattle.literal_bytes.proofs.Positions.{open_square, open_round}
 use Rattle.shape_verdict.specs.declared.Outline.{Outline}
-use Rattle.shape_verdict.specs.declared.ShapeVerdict.{ShapeVerdict}
 use Rattle.refusal.specs.declared.Refusal.{Refusal}
-use Rattle.shape_verdict.specs.declared.Member.{Member}
 use Rattle.shape_verdict.specs.Outline.{outline_of, extended_by, extended_capped}
-use Rattle.shape_verdict.specs.Answer.{member_answer, outlined, rank_of}
+use Rattle.shape_verdict.specs.Answer.{rank_of}
 use Rattle.shape_verdict.proofs.Outlines.{joined_below}
 use Rattle.shape_text.specs.declared.ShapeJudged.{ShapeJudged}
 use Rattle.shape_text.specs.Answer.{dimensions_at, JudgesShape}
@@ -55,19 +55,19 @@ refused_goes v (got ns e) st = absurd st
 refused_goes v (fault p) st = refl
 refused_goes v (deep p) st = refl
 
-walks_stop : (v : Outcome Outline) (g : Got (List Node)) (x : Parsed) → x ≡ pos g → Stops x → WalksMembers v g (record { ended = x; verdict = ShapeVerdict.Refused Refusal.NotShape })
+walks_stop : (v : Outcome Outline) (g : Got (List Node)) (x : Parsed) → x ≡ pos g → Stops x → WalksMembers v g (record { ended = x; verdict = Err Refusal.NotShape })
 walks_stop v g x h st = record { ends = h; says = refused_goes v g (subst (λ (y : Parsed). Stops y) h st) }
 
 -- ---- the loop
-module _ (k : ℕ) (s : List ℕ) (close from : ℕ) (met : ShapeVerdict) where
+module _ (k : ℕ) (s : List ℕ) (close from : ℕ) (met : Result Outline Refusal) where
   abbrev whole : Got (List Node)
   whole = list_by (value k s) s from close
 
-  pub record Walking (g : Gap) (v : ShapeVerdict) : Type 0 where
+  pub record Walking (g : Gap) (v : Result Outline Refusal) : Type 0 where
     pub bound : ℕ
     pub enough : gap_left (length s) g < bound
     pub ends : pos whole ≡ pos (items_by (value k s) s close bound g)
-    pub says : goes_on_to (outlined met) whole ≡ goes_on_to (outlined v) (items_by (value k s) s close bound g)
+    pub says : goes_on_to (answer met) whole ≡ goes_on_to (answer v) (items_by (value k s) s close bound g)
     pub counted : Counted (rank_of v) g
 
   counted_first : (n : ℕ) (g : Gap) → n ≤ from → GapAhead from (length s) g → Counted n g
@@ -87,43 +87,43 @@ module _ (k : ℕ) (s : List ℕ) (close from : ℕ) (met : ShapeVerdict) where
         counted = counted_first (rank_of met) (gap_at s from close) le (gap_ahead s from close small);
       })
 
-  end_by_lem : (m : ℕ) (g : Gap) (v : ShapeVerdict) → gap_left (length s) g < m → OneOf (0 ∷ 2 ∷ []) (tag_of gap.the_type g) → WalksMembers (outlined v) (items_by (value k s) s close m g) (judged_shut g v)
+  end_by_lem : (m : ℕ) (g : Gap) (v : Result Outline Refusal) → gap_left (length s) g < m → OneOf (0 ∷ 2 ∷ []) (tag_of gap.the_type g) → WalksMembers (answer v) (items_by (value k s) s close m g) (judged_shut g v)
   unfolding items_by
   end_by_lem zero g v lt o = absurd (not-suc-le-zero lt)
   end_by_lem (suc m) (Shut e) v lt o = record { ends = refl; says = goes_none v e }
   end_by_lem (suc m) (Stray p) v lt o = record { ends = refl; says = refl }
   end_by_lem (suc m) (Item p) v lt o = absurd (miss (0 ∷ 2 ∷ []) 1 tt o)
 
-  pub walking_end : (g : Gap) (v : ShapeVerdict) (r : ShapeJudged) → Walking g v → r ≡ judged_shut g v → OneOf (0 ∷ 2 ∷ []) (tag_of gap.the_type g) → WalksMembers (outlined met) whole r
+  pub walking_end : (g : Gap) (v : Result Outline Refusal) (r : ShapeJudged) → Walking g v → r ≡ judged_shut g v → OneOf (0 ∷ 2 ∷ []) (tag_of gap.the_type g) → WalksMembers (answer met) whole r
   walking_end g v r w hr o =
       let e = end_by_lem w.bound g v w.enough o in
-      subst (λ (x : ShapeJudged). WalksMembers (outlined met) whole x) (sym hr) (record { ends = e.ends ∙ sym w.ends; says = e.says ∙ sym w.says })
+      subst (λ (x : ShapeJudged). WalksMembers (answer met) whole x) (sym hr) (record { ends = e.ends ∙ sym w.ends; says = e.says ∙ sym w.says })
 
-  pub walking_stop : (g : Gap) (v : ShapeVerdict) (p : ℕ) (r : Parsed) → Walking g v → g ≡ Item p → r ≡ pos (value k s p) → OneOf (1 ∷ 2 ∷ []) (tag_of the_type r)
-      → WalksMembers (outlined met) whole (record { ended = r; verdict = ShapeVerdict.Refused Refusal.NotShape })
+  pub walking_stop : (g : Gap) (v : Result Outline Refusal) (p : ℕ) (r : Parsed) → Walking g v → g ≡ Item p → r ≡ pos (value k s p) → OneOf (1 ∷ 2 ∷ []) (tag_of the_type r)
+      → WalksMembers (answer met) whole (record { ended = r; verdict = Err Refusal.NotShape })
   walking_stop g v p r w hp hr o =
       let w' = subst (λ (x : Gap). Walking x v) hp w in
       let st = subst (λ (x : Parsed). Stops x) hr (stops r o) in
-      walks_stop (outlined met) whole r (hr ∙ sym (w'.ends ∙ stop_by (value k s) s close w'.bound p (value k s p) w'.enough refl st)) (stops r o)
+      walks_stop (answer met) whole r (hr ∙ sym (w'.ends ∙ stop_by (value k s) s close w'.bound p (value k s p) w'.enough refl st)) (stops r o)
 
-  module _ (small : close < 256) (g g' : Gap) (v v' : ShapeVerdict) (p q : ℕ) (r : Parsed) (d : Member) (hp : g ≡ Item p) (hq : r ≡ Value q) (hr : r ≡ pos (value k s p)) (hd : SizeAt s p d)
-      (hv : outlined v' ≡ then (outlined v) (λ o. each (extended_capped o) (member_answer d))) (hg : g' ≡ then_at s q close) (fits : length s < 2 ^ 64) where
+  module _ (small : close < 256) (g g' : Gap) (v v' : Result Outline Refusal) (p q : ℕ) (r : Parsed) (d : Result ℕ Refusal) (hp : g ≡ Item p) (hq : r ≡ Value q) (hr : r ≡ pos (value k s p)) (hd : SizeAt s p d)
+      (hv : answer v' ≡ then (answer v) (λ o. each (extended_capped o) (answer d))) (hg : g' ≡ then_at s q close) (fits : length s < 2 ^ 64) where
     ahead : (p < q) × (q ≤ length s)
     ahead = read_ahead p (length s) q r (pos (value k s p)) hr hq (value_ahead k s p)
 
     more_by : (m : ℕ) (n : Node) → value k s p ≡ got n q → gap_left (length s) (Item p) < m → pos whole ≡ pos (items_by (value k s) s close m (Item p))
-        → goes_on_to (outlined met) whole ≡ goes_on_to (outlined v) (items_by (value k s) s close m (Item p)) → rank_of v ≤ p → Walking (then_at s q close) v'
+        → goes_on_to (answer met) whole ≡ goes_on_to (answer v) (items_by (value k s) s close m (Item p)) → rank_of v ≤ p → Walking (then_at s q close) v'
     unfolding items_by
     more_by zero n hn lt he hs le = absurd (not-suc-le-zero lt)
     more_by (suc m) n hn lt he hs le =
         let after = then_ahead s q close small in
         let falls = gap_falls p q (length s) (then_at s q close) ahead.0 ahead.1 after in
-        let joins = hv ∙ joined_below v (member_answer d) (omega (arith, ahead)) in
+        let joins = hv ∙ joined_below v (answer d) (omega (arith, ahead)) in
         record {
           bound = m;
           enough = omega arith;
           ends = he ∙ rw (items_by, hn) (pos_with (λ e. ◌∷◌ n) (items_by (value k s) s close m (then_at s q close)));
-          says = hs ∙ rw (items_by, hn) (goes_one (outlined v) n (items_by (value k s) s close m (then_at s q close)) ∙ rw (joins, hd k n q hn));
+          says = hs ∙ rw (items_by, hn) (goes_one (answer v) n (items_by (value k s) s close m (then_at s q close)) ∙ rw (joins, hd k n q hn));
           counted = counted_more (rank_of v) (rank_of v') p q (length s) (then_at s q close) le (rank_more v v' d joins) ahead.0 after;
         }
 
@@ -135,23 +135,23 @@ module _ (k : ℕ) (s : List ℕ) (close from : ℕ) (met : ShapeVerdict) where
 
 -- ---- a tuple
 module _ (k : ℕ) (s : List ℕ) (at : ℕ) where
-  shut_by : (g : Gap) (v : ShapeVerdict) → gap_at s at 41 ≡ g → OneOf (0 ∷ 2 ∷ []) (tag_of gap.the_type g) → WalksMembers (outlined v) (tuple_by (value k s) s at) (judged_shut g v)
+  shut_by : (g : Gap) (v : Result Outline Refusal) → gap_at s at 41 ≡ g → OneOf (0 ∷ 2 ∷ []) (tag_of gap.the_type g) → WalksMembers (answer v) (tuple_by (value k s) s at) (judged_shut g v)
   unfolding tuple_by
   shut_by (Shut e) v hg o = rw (tuple_by, hg) (record { ends = refl; says = goes_none v e })
   shut_by (Stray p) v hg o = rw (tuple_by, hg) (record { ends = refl; says = refl })
   shut_by (Item p) v hg o = absurd (miss (0 ∷ 2 ∷ []) 1 tt o)
 
-  pub round_end : (g : Gap) (v : ShapeVerdict) (o : Outline) (r : ShapeJudged) → g ≡ gap_at s at 41 → OneOf (0 ∷ 2 ∷ []) (tag_of gap.the_type g) → v ≡ ShapeVerdict.Good o → r ≡ judged_shut g v
+  pub round_end : (g : Gap) (v : Result Outline Refusal) (o : Outline) (r : ShapeJudged) → g ≡ gap_at s at 41 → OneOf (0 ∷ 2 ∷ []) (tag_of gap.the_type g) → v ≡ Ok o → r ≡ judged_shut g v
       → WalksMembers (gives o) (tuple_by (value k s) s at) r
   round_end g v o r hg t hv hr =
-      subst (λ (x : ShapeJudged). WalksMembers (gives o) (tuple_by (value k s) s at) x) (sym (hr ∙ ap (judged_shut g) hv)) (shut_by g (ShapeVerdict.Good o) (sym hg) t)
+      subst (λ (x : ShapeJudged). WalksMembers (gives o) (tuple_by (value k s) s at) x) (sym (hr ∙ ap (judged_shut g) hv)) (shut_by g (Ok o) (sym hg) t)
 
   module _ (v : Outcome Outline) (p : ℕ) (x : Parsed) (hg : gap_at s at 41 ≡ Item p) (hx : x ≡ pos (value k s p)) where
-    pub round_stop : OneOf (1 ∷ 2 ∷ []) (tag_of the_type x) → WalksMembers v (tuple_by (value k s) s at) (record { ended = x; verdict = ShapeVerdict.Refused Refusal.NotShape })
+    pub round_stop : OneOf (1 ∷ 2 ∷ []) (tag_of the_type x) → WalksMembers v (tuple_by (value k s) s at) (record { ended = x; verdict = Err Refusal.NotShape })
     round_stop o = walks_stop v (tuple_by (value k s) s at) x (tuple_stop (value k s) s at p x hg hx (stops x o)) (stops x o)
 
     module _ (q : ℕ) (hq : x ≡ Value q) (c : Parsed) (hc : c ≡ need_at s q 44) where
-      pub round_comma : OneOf (1 ∷ 2 ∷ []) (tag_of the_type c) → WalksMembers v (tuple_by (value k s) s at) (record { ended = c; verdict = ShapeVerdict.Refused Refusal.NotShape })
+      pub round_comma : OneOf (1 ∷ 2 ∷ []) (tag_of the_type c) → WalksMembers v (tuple_by (value k s) s at) (record { ended = c; verdict = Err Refusal.NotShape })
       round_comma o = walks_stop v (tuple_by (value k s) s at) c (tuple_comma (value k s) s at p q c hg (sym hq ∙ hx) hc (stops c o)) (stops c o)
 
       first_by : (n : Node) (e : ℕ) → value k s p ≡ got n q → need_at s q 44 ≡ Value e → tuple_by (value k s) s at ≡ with (λ e. ◌∷◌ n) (list_by (value k s) s e 41)
@@ -159,8 +159,8 @@ module _ (k : ℕ) (s : List ℕ) (at : ℕ) where
       first_by n e hn he = rw (tuple_by, hg, hn, he)
 
       -- the first member is met, and the others are walked over after it
-      pub round_more : (e : ℕ) (d : Member) (u : ShapeVerdict) (r : ShapeJudged) → c ≡ Value e → SizeAt s p d → outlined u ≡ then v (λ o. each (extended_by o) (member_answer d))
-          → WalksMembers (outlined u) (list_by (value k s) s e 41) r → WalksMembers v (tuple_by (value k s) s at) r
+      pub round_more : (e : ℕ) (d : Result ℕ Refusal) (u : Result Outline Refusal) (r : ShapeJudged) → c ≡ Value e → SizeAt s p d → answer u ≡ then v (λ o. each (extended_by o) (answer d))
+          → WalksMembers (answer u) (list_by (value k s) s e 41) r → WalksMembers v (tuple_by (value k s) s at) r
       round_more e d u r he hd hu w =
           let t = thing (value k s p) q (sym hq ∙ hx) in
           let b = first_by t.0 e t.1 (sym hc ∙ he) in
@@ -170,12 +170,12 @@ module _ (k : ℕ) (s : List ℕ) (at : ℕ) where
           }
 
 -- the verdict on a first member
-pub first_joined : (v u : ShapeVerdict) (d : Member) → v ≡ ShapeVerdict.Good (outline_of []) → outlined u ≡ then (outlined v) (λ o. each (extended_capped o) (member_answer d))
-    → (outlined u ≡ then (gives (outline_of [])) (λ o. each (extended_by o) (member_answer d))) × (rank_of u ≤ 1)
+pub first_joined : (v u : Result Outline Refusal) (d : Result ℕ Refusal) → v ≡ Ok (outline_of []) → answer u ≡ then (answer v) (λ o. each (extended_capped o) (answer d))
+    → (answer u ≡ then (gives (outline_of [])) (λ o. each (extended_by o) (answer d))) × (rank_of u ≤ 1)
 first_joined v u d hv hu =
     let z = nothing_rank v hv in
-    let joins = hu ∙ joined_below v (member_answer d) (omega arith) in
-    (joins ∙ ap (λ (x : ShapeVerdict). then (outlined x) (λ o. each (extended_by o) (member_answer d))) hv, omega (arith, rank_more v u d joins))
+    let joins = hu ∙ joined_below v (answer d) (omega arith) in
+    (joins ∙ ap (λ (x : Result Outline Refusal). then (answer x) (λ o. each (extended_by o) (answer d))) hv, omega (arith, rank_more v u d joins))
 
 -- ---- the value around them
 module _ (f : ℕ → List Node → Node) (same : (e : ℕ) (ns : List Node) → dimensions_at (got (f e ns) e) ≡ dimensions_of ns) where
@@ -237,10 +237,10 @@ module _ (s : List ℕ) (at : ℕ) where
     above : suc (k - 1) ≡ k
     above = omega arith
 
-    pub judged_square : byte_at s at ≡ 91 → (v : ShapeVerdict) → v ≡ ShapeVerdict.Good (outline_of []) → (r : ShapeJudged) → WalksMembers (outlined v) (list_by (value (k - 1) s) s (at + 1) 93) r → JudgesShape (value k s at) r
+    pub judged_square : byte_at s at ≡ 91 → (v : Result Outline Refusal) → v ≡ Ok (outline_of []) → (r : ShapeJudged) → WalksMembers (answer v) (list_by (value (k - 1) s) s (at + 1) 93) r → JudgesShape (value k s at) r
     judged_square h v hv r w =
         judged_around (λ e ns. list (span at e) (nodes ns)) (list_same at) (value k s at) (list_by (value (k - 1) s) s (at + 1) 93) r (ap (λ (j : ℕ). value j s at) (sym above) ∙ square_by (k - 1) h)
-        (subst (λ (x : Outcome Outline). WalksMembers x (list_by (value (k - 1) s) s (at + 1) 93) r) (ap outlined hv) w)
+        (subst (λ (x : Outcome Outline). WalksMembers x (list_by (value (k - 1) s) s (at + 1) 93) r) (ap answer hv) w)
 
     pub judged_round : (byte_at s at ≡ 91 → ⊥) → byte_at s at ≡ 40 → (r : ShapeJudged) → WalksMembers (gives (outline_of [])) (tuple_by (value (k - 1) s) s (at + 1)) r → JudgesShape (value k s at) r
     judged_round no_square h r w = judged_around (λ e ns. tuple (span at e) (nodes ns)) (tuple_same at) (value k s at) (tuple_by (value (k - 1) s) s (at + 1)) r (ap (λ (j : ℕ). value j s at) (sym above) ∙ round_by (k - 1) no_square h) w
@@ -268,10 +268,10 @@ module _ (k : ℕ) (s : List ℕ) (at : ℕ) (x : Parsed) (hx : x ≡ pos (value
   other_by (fault p) h z = refl
   other_by (deep p) h z = refl
 
-  pub judged_other : (byte_at s at ≡ 91 → ⊥) → (byte_at s at ≡ 40 → ⊥) → JudgesShape (value k s at) (record { ended = x; verdict = ShapeVerdict.Refused Refusal.NotShape })
+  pub judged_other : (byte_at s at ≡ 91 → ⊥) → (byte_at s at ≡ 40 → ⊥) → JudgesShape (value k s at) (record { ended = x; verdict = Err Refusal.NotShape })
   judged_other ns nr = record { ends = hx; says = other_by (value k s at) refl (no_closing (byte_at s at) ns nr) }
 
-pub judged_deep : (k : ℕ) (s : List ℕ) (at : ℕ) → k ≡ 0 → is_open (byte_at s at) ≡ true → JudgesShape (value k s at) (record { ended = Deep at; verdict = ShapeVerdict.Refused Refusal.NotShape })
+pub judged_deep : (k : ℕ) (s : List ℕ) (at : ℕ) → k ≡ 0 → is_open (byte_at s at) ≡ true → JudgesShape (value k s at) (record { ended = Deep at; verdict = Err Refusal.NotShape })
 judged_deep k s at z o =
     let e = value_deep s at k z o in
     record { ends = ap pos e; says = ap (λ (g : Got Node). each outline_of (dimensions_at g)) e }

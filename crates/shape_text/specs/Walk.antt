@@ -1,5 +1,6 @@
 -- The walk over the members of a list or tuple, from left to right: what it has met, and what it has yet to meet.
-use Rattle.std.specs.Prelude.{ℕ, ◌≡◌, List}
+use Rattle.refusal.specs.Answers.{answer}
+use Rattle.std.specs.Prelude.{ℕ, ◌≡◌, List, Err, Result}
 use Rattle.counts.specs.Outcome.{Outcome, refused, then, each}
 use Rattle.record.specs.Dimensions.{dimensions}
 use Rattle.literal_tokens.specs.Node.{Node, nodes}
@@ -9,10 +10,8 @@ use Rattle.literal_bytes.specs.declared.Parsed.TheVariants.{Value, Fault}
 use Rattle.literal_bytes.specs.declared.Gap.{Gap}
 use Rattle.literal_bytes.specs.declared.Gap.TheVariants.{Shut, Item, Stray}
 use Rattle.shape_verdict.specs.declared.Outline.{Outline}
-use Rattle.shape_verdict.specs.declared.ShapeVerdict.{ShapeVerdict}
 use Rattle.refusal.specs.declared.Refusal.{Refusal}
 use Rattle.shape_verdict.specs.Outline.{extends}
-use Rattle.shape_verdict.specs.Answer.{outlined}
 use Rattle.shape_text.specs.declared.ShapeJudged.{ShapeJudged}
 
 -- the dimensions of members
@@ -28,10 +27,10 @@ goes_on_to v (deep p) = refused 11
 -- the statement of a walk over members, after those of which v is the outline
 pub record WalksMembers (v : Outcome Outline) (g : Got (List Node)) (r : ShapeJudged) : Type 0 where
   pub ends : r.ended ≡ pos g
-  pub says : outlined r.verdict ≡ goes_on_to v g
+  pub says : answer r.verdict ≡ goes_on_to v g
 
 -- how a bracket ends at a gap with no member, where v is the verdict on its members
-abbrev pub judged_shut : Gap → ShapeVerdict → ShapeJudged
+abbrev pub judged_shut : Gap → Result Outline Refusal → ShapeJudged
 judged_shut (Shut e) v = record { ended = Value e; verdict = v }
-judged_shut (Item p) v = record { ended = Fault p; verdict = ShapeVerdict.Refused Refusal.NotShape }
-judged_shut (Stray p) v = record { ended = Fault p; verdict = ShapeVerdict.Refused Refusal.NotShape }
+judged_shut (Item p) v = record { ended = Fault p; verdict = Err Refusal.NotShape }
+judged_shut (Stray p) v = record { ended = Fault p; verdict = Err Refusal.NotShape }

@@ -2,7 +2,8 @@
 // dimensions. Called by descr_field and judge, which judge a header's text, and by header, which stores an accepted one.
 #![tactic(auto)]
 
-ghost use Rattle.std.specs.Prelude.{◌≡◌, false, [], ◌≤◌, set};
+ghost use Rattle.refusal.specs.Answers.{answer};
+ghost use Rattle.std.specs.Prelude.{◌≡◌, false, [], ◌≤◌, set, Ok};
 ghost use Rattle.decimal.specs.Decimal.{is_digit};
 ghost use Rattle.literal.specs.Literal.{value as value_of};
 ghost use Rattle.literal_bytes.specs.Got.{pos};
@@ -10,29 +11,29 @@ ghost use Rattle.literal_bytes.specs.Text.{byte_at};
 ghost use Rattle.shape_text.specs.Members.{closing_of, SizeAt, member_at};
 ghost use Rattle.counts.specs.Outcome.{gives};
 ghost use Rattle.literal.specs.Brackets.{list_by, tuple_by};
-ghost use Rattle.shape_verdict.specs.Answer.{outlined, rank_of};
+ghost use Rattle.shape_verdict.specs.Answer.{rank_of};
 ghost use Rattle.shape_verdict.specs.Outline.{outline_of};
 ghost use Rattle.shape_text.specs.Answer.{JudgesShape};
 ghost use Rattle.shape_text.specs.Walk.{judged_shut, WalksMembers};
 ghost use Rattle.shape_text.specs.Fill.{front_in, front_at, stop_in, stop_at, Stored};
 
-use counts::{ItemCount, Items};
+use counts::Items;
 use literal::value;
 use literal_bytes::{
     Gap, MINUS, Parsed, ROUND, SQUARE, ValueKind, gap_at, kind_at, need, peek, then_at,
 };
 use literal_tokens::numeral_at;
 use refusal::Refusal;
-use shape_verdict::{Member, Outline, ShapeVerdict, joined, negative, positive};
+use shape_verdict::{Outline, joined, negative, positive};
 
 // How the text of a member ends, and the dimension that it is.
 #[derive(Clone, Copy)]
 pub struct Item {
     pub ended: Parsed,
-    pub size: Member,
+    pub size: Result<u64, Refusal>,
 }
 
-// The bracket that closes a list or a tuple, by the kind of the byte that opens it; 0 for any other kind.
+// The bracket that closes a list or a tuple, by the kind of the byte that opens it; 0 for any other kind. (0 and no `Option`, as `closing_of` of the specs has it: a walk compares one byte.)
 pub fn closing(k: ValueKind) -> u8
     ensures { result ≡ closing_of k }
 {
@@ -78,7 +79,7 @@ fn other_at(text: &[u8], at: usize, room: usize) -> Item
     if peek(text, at) != MINUS {
         return Item {
             ended: value(text, at, room),
-            size: Member::Refused(Refusal::NotShape),
+            size: Err(Refusal::NotShape),
         };
     }
     let d = numeral_at(text, at + 1);
@@ -94,7 +95,7 @@ fn other_at(text: &[u8], at: usize, room: usize) -> Item
 #[derive(Clone, Copy)]
 pub struct ShapeJudged {
     pub ended: Parsed,
-    pub verdict: ShapeVerdict,
+    pub verdict: Result<Outline, Refusal>,
 }
 
 // How the value at `at` ends, where `room` brackets more may open at once, and what it is as a shape. Every member is read, and the first bad one decides.
@@ -105,13 +106,13 @@ pub fn judge(text: &[u8], at: usize, room: usize) -> ShapeJudged
     if !((b == SQUARE) | (b == ROUND)) {
         return ShapeJudged {
             ended: value(text, at, room),
-            verdict: ShapeVerdict::Refused(Refusal::NotShape),
+            verdict: Err(Refusal::NotShape),
         };
     }
     if room == 0 {
         return ShapeJudged {
             ended: Parsed::Deep(at),
-            verdict: ShapeVerdict::Refused(Refusal::NotShape),
+            verdict: Err(Refusal::NotShape),
         };
     }
     if b == SQUARE {
@@ -134,23 +135,29 @@ fn tuple(text: &[u8], from: usize, room: usize) -> ShapeJudged
     let Parsed::Value(q) = first else {
         return ShapeJudged {
             ended: first,
-            verdict: ShapeVerdict::Refused(Refusal::NotShape),
+            verdict: Err(Refusal::NotShape),
         };
     };
     let c = need(text, q, b',');
     let Parsed::Value(e) = c else {
         return ShapeJudged {
             ended: c,
-            verdict: ShapeVerdict::Refused(Refusal::NotShape),
+            verdict: Err(Refusal::NotShape),
         };
     };
     members(text, e, b')', room, joined(nothing(), size))
 }
 
 // The members from `from` up to the closing bracket, after those that `met` is the verdict on. The walk goes on after a bad one: a fault may follow.
-fn members(text: &[u8], from: usize, close: u8, room: usize, met: ShapeVerdict) -> ShapeJudged
+fn members(
+    text: &[u8],
+    from: usize,
+    close: u8,
+    room: usize,
+    met: Result<Outline, Refusal>,
+) -> ShapeJudged
     requires { rank_of met ≤ from }
-    ensures { WalksMembers (outlined met) (list_by (value_of room text.now) text.now from close) result }
+    ensures { WalksMembers (answer met) (list_by (value_of room text.now) text.now from close) result }
 {
     let mut g = gap_at(text, from, close);
     let mut verdict = met;
@@ -164,7 +171,7 @@ fn members(text: &[u8], from: usize, close: u8, room: usize, met: ShapeVerdict) 
         let Parsed::Value(q) = ended else {
             return ShapeJudged {
                 ended: ended,
-                verdict: ShapeVerdict::Refused(Refusal::NotShape),
+                verdict: Err(Refusal::NotShape),
             };
         };
         verdict = joined(verdict, size);
@@ -173,19 +180,19 @@ fn members(text: &[u8], from: usize, close: u8, room: usize, met: ShapeVerdict) 
 }
 
 // The verdict on no members.
-fn nothing() -> ShapeVerdict
-    ensures { result ≡ ShapeVerdict.Good (outline_of []) }
+fn nothing() -> Result<Outline, Refusal>
+    ensures { result ≡ Ok (outline_of []) }
 {
-    ShapeVerdict::Good(Outline {
+    Ok(Outline {
         rank: 0,
         empty: false,
-        before: ItemCount::Is(Items(1)),
-        after: ItemCount::Is(Items(1)),
+        before: Some(Items(1)),
+        after: Some(Items(1)),
     })
 }
 
 // How a bracket ends at a gap with no member: with the verdict where it is shut there, and with a fault elsewhere.
-fn shut(g: Gap, verdict: ShapeVerdict) -> ShapeJudged
+fn shut(g: Gap, verdict: Result<Outline, Refusal>) -> ShapeJudged
     ensures { result ≡ judged_shut g verdict }
 {
     match g {
@@ -196,11 +203,11 @@ fn shut(g: Gap, verdict: ShapeVerdict) -> ShapeJudged
         // not reached by its callers: they read the member there
         Gap::Item(p) => ShapeJudged {
             ended: Parsed::Fault(p),
-            verdict: ShapeVerdict::Refused(Refusal::NotShape),
+            verdict: Err(Refusal::NotShape),
         },
         Gap::Stray(p) => ShapeJudged {
             ended: Parsed::Fault(p),
-            verdict: ShapeVerdict::Refused(Refusal::NotShape),
+            verdict: Err(Refusal::NotShape),
         },
     }
 }
@@ -243,7 +250,7 @@ fn fill_members(text: &[u8], from: usize, close: u8, room: usize, out: &mut [u64
         let Parsed::Value(q) = ended else {
             return DimsStored { rank: i, stop: g };
         };
-        let Member::Is(n) = size else {
+        let Ok(n) = size else {
             return DimsStored { rank: i, stop: g };
         };
         put(out, i, n);

@@ -1,5 +1,6 @@
 -- The array levels of a sub-shape: their sizes, how many they are, and that of all their sizes the one from after the last 0 on is the largest. So 21
 -- of a field's levels is decided by the outline and the inner size alone. By recursion on the dimensions.
+use Rattle.std.specs.Prelude.{Some}
 use Prim.Native.Nat.{ℕ, zero, suc, ◌+◌, ◌*◌, ◌<◌, ◌≤◌, ◌^◌}
 use native.Mathlib.Omega.{arith}
 use native.Mathlib.Nat.{mul-suc}
@@ -12,7 +13,6 @@ use lib.Dec.{eqb, ltb}
 use borrow.Author.Tests.{eqb-true, eqb-false, le-leb, lt-leb, lt-ltb, le-ltb}
 use Rattle.counts.specs.Number.{number}
 use Rattle.counts.specs.Counts.{items, bytes}
-use Rattle.counts.specs.declared.ByteCount.{ByteCount}
 use Rattle.counts.proofs.Fits.{number_is}
 use Rattle.counts.proofs.Sides.{lt_or_ge}
 use Rattle.dtype.specs.Dtype.{Dtype, plain, array, record_of, size_of}
@@ -110,7 +110,7 @@ pub largest_is : (ns : List ℕ) (s : ℕ) → largest_in (outline_of ns) s ≡ 
 unfolding largest_in outline_of
 largest_is ns s = go (eqb s 0) refl
   where
-    go : (t : Bool) → eqb s 0 ≡ t → cond t (ByteCount.Is (record { 0 = 0 })) (bytes_of_items (items (number (after_zero ns))) s) ≡ bytes (number (after_zero ns * s))
+    go : (t : Bool) → eqb s 0 ≡ t → cond t (Some (record { 0 = 0 })) (bytes_of_items (items (number (after_zero ns))) s) ≡ bytes (number (after_zero ns * s))
     go true h =
         let z : after_zero ns * s ≡ 0 = ap (λ (x : ℕ). after_zero ns * x) (eqb-true s 0 h) ∙ omega arith in
         sym (ap (λ (x : ℕ). bytes (number x)) z ∙ ap bytes (number_is 0 (omega arith)))

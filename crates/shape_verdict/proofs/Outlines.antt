@@ -1,5 +1,9 @@
 -- The outline of dimensions, one dimension after the other: what is after the last 0 begins anew at a 0, and what is before the first 0 is left as it
 -- is from then on. A product that is over stays over, for no factor of it is 0.
+use Rattle.refusal.specs.Answers.{answer}
+use Rattle.refusal.specs.declared.Refusal.{Refusal}
+use Rattle.counts.specs.declared.Items.{Items}
+use Rattle.std.specs.Prelude.{Err, Ok, Some, Option, Result}
 use Prim.Native.Nat.{ℕ, zero, suc, ◌+◌, ◌*◌, ◌-◌, ◌<◌, ◌≤◌, ◌^◌}
 use native.Mathlib.Omega.{arith}
 use native.Mathlib.Nat.{mul-suc}
@@ -12,15 +16,11 @@ use lib.Dec.{eqb}
 use borrow.Author.Tests.{eqb-false, eq-eqb, ne_eqb}
 use Rattle.counts.specs.Number.{number, capped}
 use Rattle.counts.specs.Counts.{items, bytes}
-use Rattle.counts.specs.declared.ItemCount.{ItemCount}
 use Rattle.counts.proofs.Fits.{number_is, number_over}
 use Rattle.counts.specs.Outcome.{Outcome, gives, refused, then, each}
 use Rattle.counts.proofs.Sides.{lt_or_ge}
 use Rattle.shape_verdict.specs.declared.Outline.{Outline}
-use Rattle.shape_verdict.specs.declared.ShapeVerdict.{ShapeVerdict}
-use Rattle.shape_verdict.specs.declared.ShapeVerdict.TheVariants.{Good, Refused}
-use Rattle.shape_verdict.specs.declared.Member.{Member}
-use Rattle.shape_verdict.specs.Answer.{member_answer, outlined, rank_of}
+use Rattle.shape_verdict.specs.Answer.{rank_of}
 use Rattle.shape_verdict.specs.Outline.{has_zero, before_zero, after_zero, outline_of, scaled_by, bytes_of_items, extended_to, extended_by, extends, extended_capped}
 
 -- a product that fits or is over, where the new factor is not 0
@@ -91,21 +91,21 @@ outline_last us n = outline_eq (length-append us (n ∷ [])) (zero_last us n) (a
     before false true h = refl
     before false false h = items_scaled (before_zero us) n h
 
-    after : (z : Bool) → eqb n 0 ≡ z → items (number (cond z 1 (after_zero us * n))) ≡ cond z (ItemCount.Is (record { 0 = 1 })) (scaled_by (items (number (after_zero us))) n)
+    after : (z : Bool) → eqb n 0 ≡ z → items (number (cond z 1 (after_zero us * n))) ≡ cond z (Some (record { 0 = 1 })) (scaled_by (items (number (after_zero us))) n)
     after true h = ap items (number_is 1 (omega arith))
     after false h = items_scaled (after_zero us) n h
 
 -- by whether the new dimension is 0, and whether one before it is
 module _ (k : ℕ) (o : Outline) (n : ℕ) where
-  pub extended_zero : n ≡ 0 → record { rank = k; empty = true; before = o.before; after = ItemCount.Is (record { 0 = 1 }) } ≡ extended_to k o n
+  pub extended_zero : n ≡ 0 → record { rank = k; empty = true; before = o.before; after = Some (record { 0 = 1 }) } ≡ extended_to k o n
   unfolding extended_to
   extended_zero h = rw (eq-eqb n 0 h, or-true o.empty)
 
-  pub extended_empty : (b : ItemCount) → (n ≡ 0 → ⊥) → o.empty ≡ true → b ≡ scaled_by o.after n → record { rank = k; empty = true; before = o.before; after = b } ≡ extended_to k o n
+  pub extended_empty : (b : Option Items) → (n ≡ 0 → ⊥) → o.empty ≡ true → b ≡ scaled_by o.after n → record { rank = k; empty = true; before = o.before; after = b } ≡ extended_to k o n
   unfolding extended_to
   extended_empty b h e hb = rw (ne_eqb n 0 h, e, hb)
 
-  pub extended_more : (a b : ItemCount) → (n ≡ 0 → ⊥) → o.empty ≡ false → a ≡ scaled_by o.before n → b ≡ scaled_by o.after n
+  pub extended_more : (a b : Option Items) → (n ≡ 0 → ⊥) → o.empty ≡ false → a ≡ scaled_by o.before n → b ≡ scaled_by o.after n
       → record { rank = k; empty = false; before = a; after = b } ≡ extended_to k o n
   unfolding extended_to
   extended_more a b h e ha hb = rw (ne_eqb n 0 h, e, ha, hb)
@@ -120,14 +120,14 @@ pub outline_whole : (ns : List ℕ) → outline_of ns ≡ extends (outline_of []
 outline_whole ns = sym (extends_from [] ns)
 
 -- a good verdict and a dimension
-pub joined_good : (v : ShapeVerdict) (m : Member) (o r : Outline) (n : ℕ) → v ≡ Good o → m ≡ Member.Is n → r ≡ extended_capped o n
-    → gives r ≡ then (outlined v) (λ o. each (extended_capped o) (member_answer m))
+pub joined_good : (v : Result Outline Refusal) (m : Result ℕ Refusal) (o r : Outline) (n : ℕ) → v ≡ Ok o → m ≡ Ok n → r ≡ extended_capped o n
+    → gives r ≡ then (answer v) (λ o. each (extended_capped o) (answer m))
 joined_good v m o r n hv hm hr = rw (hv, hm) (ap gives hr)
 
 -- below 2^64-1 the rank that is held is the rank
-pub joined_below : (v : ShapeVerdict) (m : Outcome ℕ) → rank_of v < 2 ^ 64 - 1 → then (outlined v) (λ o. each (extended_capped o) m) ≡ then (outlined v) (λ o. each (extended_by o) m)
-joined_below (Good o) (gives n) lt =
+pub joined_below : (v : Result Outline Refusal) (m : Outcome ℕ) → rank_of v < 2 ^ 64 - 1 → then (answer v) (λ o. each (extended_capped o) m) ≡ then (answer v) (λ o. each (extended_by o) m)
+joined_below (Ok o) (gives n) lt =
     let e : capped (o.rank + 1) ≡ o.rank + 1 = omega arith in
     ap (λ (k : ℕ). gives (extended_to k o n)) e
-joined_below (Good o) (refused n) lt = refl
-joined_below (Refused why) m lt = refl
+joined_below (Ok o) (refused n) lt = refl
+joined_below (Err why) m lt = refl

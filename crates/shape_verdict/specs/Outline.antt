@@ -3,11 +3,11 @@
 -- that is on its other side: in C order stride k is the product of all dimensions after k, in Fortran order of all before k. So the largest of these
 -- products is that of the dimensions after the last 0, or before the first 0; that this decides 21 and 22 is proved in proofs/Levels.antt and
 -- proofs/Orders.antt.
-use Rattle.std.specs.Prelude.{ℕ, ◌+◌, ◌*◌, List, [], ◌∷◌, Bool, false, ◌||◌, cond, eqb, length}
+use Rattle.counts.specs.declared.Items.{Items}
+use Rattle.counts.specs.declared.Bytes.{Bytes}
+use Rattle.std.specs.Prelude.{ℕ, ◌+◌, ◌*◌, List, [], ◌∷◌, Bool, false, ◌||◌, cond, eqb, length, None, Some, Option}
 use Rattle.counts.specs.Number.{number, capped}
 use Rattle.counts.specs.Counts.{items, bytes, items_over}
-use Rattle.counts.specs.declared.ItemCount.{ItemCount}
-use Rattle.counts.specs.declared.ByteCount.{ByteCount}
 use Rattle.dtype.specs.declared.Order.{Order}
 use Rattle.dtype.specs.declared.Order.TheVariants.{C, Fortran}
 use Rattle.shape_verdict.specs.declared.Outline.{Outline}
@@ -32,9 +32,9 @@ unfoldable pub outline_of : List ℕ → Outline
 outline_of ns = record { rank = length ns; empty = has_zero ns; before = items (number (before_zero ns)); after = items (number (after_zero ns)) }
 
 -- a product, or over, times a dimension that is not 0
-unfoldable pub scaled_by : ItemCount → ℕ → ItemCount
-scaled_by (ItemCount.Is a) n = items (number (n * a.0))
-scaled_by ItemCount.Over n = ItemCount.Over
+unfoldable pub scaled_by : Option Items → ℕ → Option Items
+scaled_by (Some a) n = items (number (n * a.0))
+scaled_by None n = None
 
 -- the outline with one dimension more after the others, where that makes the rank k
 unfoldable pub extended_to : ℕ → Outline → ℕ → Outline
@@ -43,7 +43,7 @@ extended_to k o n =
       rank = k;
       empty = o.empty || eqb n 0;
       before = cond (o.empty || eqb n 0) o.before (scaled_by o.before n);
-      after = cond (eqb n 0) (ItemCount.Is (record { 0 = 1 })) (scaled_by o.after n);
+      after = cond (eqb n 0) (Some (record { 0 = 1 })) (scaled_by o.after n);
     }
 
 abbrev pub extended_by : Outline → ℕ → Outline
@@ -59,13 +59,13 @@ abbrev pub extended_capped : Outline → ℕ → Outline
 extended_capped o n = extended_to (capped (o.rank + 1)) o n
 
 -- so many items of s bytes, where s is not 0
-unfoldable pub bytes_of_items : ItemCount → ℕ → ByteCount
-bytes_of_items (ItemCount.Is a) s = bytes (number (a.0 * s))
-bytes_of_items ItemCount.Over s = ByteCount.Over
+unfoldable pub bytes_of_items : Option Items → ℕ → Option Bytes
+bytes_of_items (Some a) s = bytes (number (a.0 * s))
+bytes_of_items None s = None
 
 -- 21, by the outline: the largest size that an array level has, over items of s bytes
-unfoldable pub largest_in : Outline → ℕ → ByteCount
-largest_in o s = cond (eqb s 0) (ByteCount.Is (record { 0 = 0 })) (bytes_of_items o.after s)
+unfoldable pub largest_in : Outline → ℕ → Option Bytes
+largest_in o s = cond (eqb s 0) (Some (record { 0 = 0 })) (bytes_of_items o.after s)
 
 -- 22, by the outline
 abbrev pub over_in : Order → Outline → Bool

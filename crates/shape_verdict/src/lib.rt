@@ -2,15 +2,15 @@
 // shape_text for each member of a shape in a header's text, and by descr_totals and judge_limits for the finished outline.
 #![tactic(auto)]
 
-ghost use Rattle.std.specs.Prelude.{◌≡◌, true, false, ℕ, ◌+◌};
+ghost use Rattle.refusal.specs.Answers.{answer};
+ghost use Rattle.std.specs.Prelude.{◌≡◌, true, false, ℕ};
 ghost use Rattle.shape_verdict.specs.Outline.{scaled_by, bytes_of_items, largest_in, over_in, extended_capped};
-ghost use Rattle.counts.specs.Number.{number, capped};
+ghost use Rattle.counts.specs.Number.{number};
 ghost use Rattle.record.specs.Dimensions.{signed};
-ghost use Rattle.shape_verdict.specs.Answer.{member_answer, outlined};
 ghost use Rattle.shape_verdict.specs.Signs.{positive_of, negative_of};
 ghost use Rattle.counts.specs.Outcome.{then, each};
 
-use counts::{ByteCount, Bytes, ItemCount, Items, Number};
+use counts::{Bytes, Items};
 use dtype::Order;
 use refusal::Refusal;
 
@@ -19,142 +19,100 @@ use refusal::Refusal;
 pub struct Outline {
     pub rank: usize,
     pub empty: bool,
-    pub before: ItemCount,
-    pub after: ItemCount,
-}
-
-// A shape or sub-shape; or 11; or 12.
-#[derive(Clone, Copy)]
-pub enum ShapeVerdict {
-    Good(Outline),
-    Refused(Refusal),
-}
-
-// A dimension; or 11; or 12.
-#[derive(Clone, Copy)]
-pub enum Member {
-    Is(u64),
-    Refused(Refusal),
+    pub before: Option<Items>,
+    pub after: Option<Items>,
 }
 
 // Whether the item count or a stride of the order is over 2^64-1 (22).
 pub fn over(shape: Outline, order: Order) -> bool
     ensures { result ≡ over_in order shape }
 {
-    let before = shape.before;
-    let after = shape.after;
     match order {
-        Order::C => after.is_over(),
-        Order::Fortran => before.is_over(),
+        Order::C => shape.after.is_none(),
+        Order::Fortran => shape.before.is_none(),
     }
 }
 
 // The largest size that an array level of a sub-shape has, over items of `size` bytes (21).
-pub fn largest(levels: Outline, size: Bytes) -> ByteCount
+pub fn largest(levels: Outline, size: Bytes) -> Option<Bytes>
     ensures { result ≡ largest_in levels size.0 }
 {
-    let after = levels.after;
     if size.0 == 0 {
-        return ByteCount::Is(Bytes(0));
+        return Some(Bytes(0));
     }
-    bytes_of_items(after, size)
+    bytes_of_items(levels.after, size)
 }
 
 // The bytes of a product of dimensions, over items of `size` bytes.
-fn bytes_of_items(n: ItemCount, size: Bytes) -> ByteCount
+fn bytes_of_items(n: Option<Items>, size: Bytes) -> Option<Bytes>
     ensures { result ≡ bytes_of_items n size.0 }
 {
-    match n {
-        ItemCount::Is(n) => n.of_size(size),
-        ItemCount::Over => ByteCount::Over,
-    }
+    n?.of_size(size)
 }
 
 // A product times one more dimension.
-fn scaled(a: ItemCount, n: u64) -> ItemCount
+fn scaled(a: Option<Items>, n: u64) -> Option<Items>
     ensures { result ≡ scaled_by a n }
 {
-    match a {
-        ItemCount::Is(a) => a.times(n),
-        ItemCount::Over => ItemCount::Over,
-    }
+    a?.times(n)
 }
 
 // The dimension that a number without a `-` is: 12 where it is over 2^64-1.
-pub fn positive(n: Number) -> Member
-    ensures by_index { (m : ℕ) → n ≡ number m → member_answer result ≡ signed false m }
+pub fn positive(n: Option<u64>) -> Result<u64, Refusal>
+    ensures by_index { (m : ℕ) → n ≡ number m → answer result ≡ signed false m }
     ensures value { result ≡ positive_of n }
 {
-    match n {
-        Number::Is(n) => Member::Is(n),
-        Number::Over => Member::Refused(Refusal::LargeDimension),
-    }
+    n.ok_or(Refusal::LargeDimension)
 }
 
 // The dimension that a number after a `-` is: 11 unless it is 0.
-pub fn negative(n: Number) -> Member
-    ensures by_index { (m : ℕ) → n ≡ number m → member_answer result ≡ signed true m }
+pub fn negative(n: Option<u64>) -> Result<u64, Refusal>
+    ensures by_index { (m : ℕ) → n ≡ number m → answer result ≡ signed true m }
     ensures value { result ≡ negative_of n }
 {
     match n {
-        Number::Is(n) => {
-            if n == 0 {
-                Member::Is(0)
-            } else {
-                Member::Refused(Refusal::NotShape)
-            }
-        }
-        Number::Over => Member::Refused(Refusal::NotShape),
+        Some(0) => Ok(0),
+        _ => Err(Refusal::NotShape),
     }
 }
 
 // The verdict with one member more: the first refusal stays.
-pub fn joined(verdict: ShapeVerdict, member: Member) -> ShapeVerdict
-    ensures { outlined result ≡ then (outlined verdict) (λ o. each (extended_capped o) (member_answer member)) }
+pub fn joined(
+    verdict: Result<Outline, Refusal>,
+    member: Result<u64, Refusal>,
+) -> Result<Outline, Refusal>
+    ensures { answer result ≡ then (answer verdict) (λ o. each (extended_capped o) (answer member)) }
 {
-    let ShapeVerdict::Good(o) = verdict else {
-        return verdict;
-    };
-    match member {
-        Member::Is(n) => ShapeVerdict::Good(extended(o, n)),
-        Member::Refused(why) => ShapeVerdict::Refused(why),
-    }
+    let o = verdict?;
+    let n = member?;
+    Ok(extended(o, n))
 }
 
 // The outline with the dimension n after the others.
 fn extended(o: Outline, n: u64) -> Outline
     ensures { result ≡ extended_capped o n }
 {
-    let before = o.before;
-    let after = o.after;
-    let rank = next(o.rank);
+    let rank = o.rank.saturating_add(1);
     if n == 0 {
         return Outline {
-            rank: rank,
+            rank,
             empty: true,
-            before: before,
-            after: ItemCount::Is(Items(1)),
+            before: o.before,
+            after: Some(Items(1)),
         };
     }
     if o.empty {
         return Outline {
-            rank: rank,
+            rank,
             empty: true,
-            before: before,
-            after: scaled(after, n),
+            before: o.before,
+            after: scaled(o.after, n),
         };
     }
     Outline {
-        rank: rank,
+        rank,
         empty: false,
-        before: scaled(before, n),
-        after: scaled(after, n),
+        before: scaled(o.before, n),
+        after: scaled(o.after, n),
     }
-}
-
-// The rank plus 1, capped at 2^64-1, which no text reaches.
-fn next(rank: usize) -> usize
-    ensures { result ≡ capped (rank + 1) }
-{
-    if rank < usize::MAX { rank + 1 } else { rank }
 }

@@ -6,13 +6,11 @@ use mathlib.Core.Path.{◌≡◌, refl, sym, ap, ◌∙◌}
 use mathlib.Core.List.{List, [], ◌∷◌, ◌++◌, append_assoc, append-nil}
 use lib.ListN.{length, get_or, take, drop, set, replicate, length-append, length-replicate, length-set}
 use lib.Seq.{drop-cons, take-suc, length-take-le, set_at}
-use Rattle.counts.specs.Outcome.{gives}
 use Rattle.number_bytes.proofs.Runs.{length_out}
 use Rattle.type_letters.specs.declared.Endianness.{Endianness}
-use Rattle.string_value.specs.Elements.{trimmed, point, points, found}
+use Rattle.string_value.specs.Elements.{trimmed}
 use Rattle.string_value.specs.Runs.{zero_filled, point_bytes}
 use Rattle.string_value.proofs.Trims.{trim_zeros}
-use Rattle.string_value.proofs.Scalars.{found_at}
 
 -- ---- filled up
 pub length_filled : (size : ℕ) (value : List ℕ) → length value ≤ size → length (zero_filled size value) ≡ size
@@ -52,23 +50,21 @@ pub length_filled_points : (order : Endianness) (size : ℕ) (value : List ℕ) 
 length_filled_points order size value h = omega (arith, length_points order (zero_filled size value) [], length_filled size value h)
 
 -- ---- one number after another to the front of a room
-pub record Copying (ps : List ℕ) (n : ℕ) (old out : List ℕ) (at i : ℕ) : Type 0 where
+pub record Copying (ps : List ℕ) (n : ℕ) (old out : List ℕ) (i : ℕ) : Type 0 where
   pub inside : i ≤ n
-  pub four : at ≡ 4 * i
   pub same : length out ≡ length old
   pub holds : out ≡ take i ps ++ drop i old
 
-pub copying_start : (ps : List ℕ) (n : ℕ) (old : List ℕ) → Copying ps n old old 0 0
-copying_start ps n old = record { inside = omega arith; four = omega arith; same = refl; holds = refl }
+pub copying_start : (ps : List ℕ) (n : ℕ) (old : List ℕ) → Copying ps n old old 0
+copying_start ps n old = record { inside = omega arith; same = refl; holds = refl }
 
-pub copying_more : (ps : List ℕ) (n : ℕ) (old out : List ℕ) (at i p : ℕ) → Copying ps n old out at i → i < n → n ≤ length ps → n ≤ length old → p ≡ get_or ps i 0
-    → Copying ps n old (set out i p) (at + 4) (i + 1)
-copying_more ps n old out at i p j lt l m e =
+pub copying_more : (ps : List ℕ) (n : ℕ) (old out : List ℕ) (i p : ℕ) → Copying ps n old out i → i < n → n ≤ length ps → n ≤ length old → p ≡ get_or ps i 0
+    → Copying ps n old (set out i p) (i + 1)
+copying_more ps n old out i p j lt l m e =
     let lt₁ : i < length ps = omega arith in
     let lt₂ : i < length old = omega arith in
     record {
       inside = omega arith;
-      four = omega (arith, j.four);
       same = rw length-set j.same;
       holds =
           ap (λ (o : List ℕ). set o i p) (j.holds ∙ ap (λ (y : List ℕ). take i ps ++ y) (drop-cons old i 0 lt₂))
@@ -78,18 +74,7 @@ copying_more ps n old out at i p j lt l m e =
           ∙ ap (λ (k : ℕ). take k ps ++ drop k old) (sym (add-one i));
     }
 
-pub copying_end : (ps : List ℕ) (n : ℕ) (old out : List ℕ) (at i : ℕ) → Copying ps n old out at i → n ≤ i → out ≡ take n ps ++ drop n old
-copying_end ps n old out at i j h =
+pub copying_end : (ps : List ℕ) (n : ℕ) (old out : List ℕ) (i : ℕ) → Copying ps n old out i → n ≤ i → out ≡ take n ps ++ drop n old
+copying_end ps n old out i j h =
     let e : i ≡ n = omega (arith, j.inside) in
     j.holds ∙ ap (λ (k : ℕ). take k ps ++ drop k old) e
-
--- the code point that is to be read next
-pub record Next (order : Endianness) (run : List ℕ) (at i : ℕ) : Type 0 where
-  pub inside : at + 4 ≤ length run
-  pub is : point order (drop at run) ≡ gives (get_or (found (points order run)) i 0)
-
-pub four_at : (order : Endianness) (run : List ℕ) {n : ℕ} {old out : List ℕ} (at i : ℕ) → Copying (found (points order run)) n old out at i → i < n → n ≤ length (found (points order run))
-    → Next order run at i
-four_at order run at i j lt le =
-    let here = found_at order run i (omega arith) in
-    rw j.four (record { inside = here.inside; is = here.is })

@@ -6,12 +6,12 @@ use mathlib.Core.Path.{◌≡◌, refl, sym, ap, ◌∙◌}
 use mathlib.Core.Bool.{true, false}
 use mathlib.Core.List.{List, [], ◌∷◌, ◌++◌, append_assoc, append-nil}
 use lib.ListN.{length, get_or, take, drop, length-append, length-drop, drop_of_length-le}
-use lib.Seq.{drop-drop, drop-cons}
+use lib.Seq.{drop-drop}
 use borrow.Author.Tests.{lt-ltb, le-ltb}
 use Rattle.counts.specs.Outcome.{Outcome, gives, refused, then, each}
 use Rattle.counts.proofs.Apart.{gives_refused}
 use Rattle.number_bytes.specs.Numbers.{in_order}
-use Rattle.utf8_scalar.specs.Scalar.{is_scalar, all_scalars}
+use Rattle.utf8_scalar.specs.Scalar.{is_scalar}
 use Rattle.utf8_scalar.proofs.Scalars.{scalar_over}
 use Rattle.type_letters.specs.declared.Endianness.{Endianness}
 use Rattle.string_value.specs.Elements.{trimmed, scalar, point, points, found}
@@ -159,16 +159,6 @@ found_at order (a ∷ []) k h = absurd (omega arith)
 found_at order (a ∷ b ∷ []) k h = absurd (omega arith)
 found_at order (a ∷ b ∷ c ∷ []) k h = absurd (omega arith)
 found_at order (a ∷ b ∷ c ∷ d ∷ run) k h = at_four order a b c d run k h (λ j l. found_at order run j l)
-
--- ---- the numbers of a value, checked before it is written
-pub scalars_more : (value : List ℕ) (i : ℕ) → i < length value → is_scalar (get_or value i 0) ≡ true → all_scalars (drop i value) ≡ all_scalars (drop (suc i) value)
-scalars_more value i lt e = rw (drop-cons value i 0 lt, e)
-
-pub scalars_bad : (value : List ℕ) (i : ℕ) → i < length value → is_scalar (get_or value i 0) ≡ false → all_scalars (drop i value) ≡ false
-scalars_bad value i lt e = rw (drop-cons value i 0 lt, e)
-
-pub scalars_end : (value : List ℕ) (i : ℕ) → length value ≤ i → all_scalars (drop i value) ≡ true
-scalars_end value i ge = rw (drop_of_length-le value ge)
 
 -- ---- four bytes of a run, as they are read
 module _ (order : Endianness) (run : List ℕ) (at w : ℕ) (four : w ≡ 4) (inside : at + 4 ≤ length run) where

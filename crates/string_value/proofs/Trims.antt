@@ -1,6 +1,6 @@
 -- Dropping trailing zeros, at the end of a list: a zero there is dropped, and anything else stays with all before it. So a list is what is left of it and then
 -- zeros, and filling up with zeros changes nothing that is left.
-use Prim.Native.Nat.{ℕ, zero, suc, ◌-◌, ◌<◌, ◌≤◌}
+use Prim.Native.Nat.{ℕ, zero, suc, ◌+◌, ◌-◌, ◌<◌, ◌≤◌}
 use native.Mathlib.Omega.{arith}
 use mathlib.Core.Path.{◌≡◌, refl, sym, ap, ◌∙◌}
 use mathlib.Core.Bool.{Bool, true, false}
@@ -76,14 +76,17 @@ trimming_more run (suc n) h t z =
       left = sym (trim_zero (take n run)) ∙ ap (λ (b : ℕ). trimmed (take n run ++ b ∷ [])) (sym zero_at) ∙ ap (λ (m : List ℕ). trimmed m) (sym (take-suc run n 0 lt)) ∙ t.left;
     })
 
-pub trimming_stop : (run : List ℕ) (n : ℕ) → 0 < n → Trimming run n → (get_or run (n - 1) 0 ≡ 0 → ⊥) → n ≡ length (trimmed run)
+pub trimming_stop : (run : List ℕ) (n : ℕ) → 0 < n → Trimming run n → (get_or run (n - 1) 0 ≡ 0 → ⊥) → n - 1 + 1 ≡ length (trimmed run)
 trimming_stop run zero h t z = absurd (omega arith)
 trimming_stop run (suc n) h t z =
     let e : suc n - 1 ≡ n = omega arith in
     let some_at : (get_or run n 0 ≡ 0 → ⊥) = λ k. z (rw e k) in
     let lt : n < length run = omega (arith, t.inside) in
     let s = take-suc run n 0 lt in
-    sym (length-take-le (suc n) run t.inside) ∙ ap (λ (m : List ℕ). length m) (s ∙ sym (trim_last (take n run) (get_or run n 0) some_at) ∙ ap (λ (m : List ℕ). trimmed m) (sym s) ∙ t.left)
+    let back : suc n - 1 + 1 ≡ suc n = omega arith in
+    back
+    ∙ sym (length-take-le (suc n) run t.inside)
+    ∙ ap (λ (m : List ℕ). length m) (s ∙ sym (trim_last (take n run) (get_or run n 0) some_at) ∙ ap (λ (m : List ℕ). trimmed m) (sym s) ∙ t.left)
 
 pub trimming_end : (run : List ℕ) (n : ℕ) → n ≤ 0 → Trimming run n → 0 ≡ length (trimmed run)
 trimming_end run zero h t = ap (λ (m : List ℕ). length m) t.left

@@ -1,5 +1,6 @@
 -- The contract of each of the four functions at each of its ends. A type that no reading gives is 27 before all else; then the letter decides: only U has code points;
 -- then the value fits the room or does not.
+use Rattle.std.specs.Prelude.{None, Some, Option}
 use Prim.Native.Nat.{ℕ, ◌^◌, ◌<◌, ◌≤◌}
 use native.Mathlib.Omega.{arith}
 use mathlib.Core.Path.{◌≡◌, refl, sym, ap, ◌∙◌}
@@ -11,9 +12,7 @@ use borrow.Author.Tests.{lt-ltb, le-ltb, eq-eqb, ne_eqb}
 use Rattle.counts.specs.Outcome.{Outcome, gives, refused, then, each, unless}
 use Rattle.counts.specs.Number.{number}
 use Rattle.counts.specs.Counts.{bytes}
-use Rattle.counts.specs.declared.Number.{Number}
 use Rattle.counts.specs.declared.Bytes.{Bytes}
-use Rattle.counts.specs.declared.ByteCount.{ByteCount}
 use Rattle.counts.proofs.Fits.{number_is_back, number_over_back}
 use Rattle.counts.proofs.Apart.{gives_refused, each_none}
 use Rattle.utf8_scalar.specs.Scalar.{all_scalars}
@@ -164,19 +163,19 @@ module _ (t : TypeStr) (value : List ℕ) where
     points_fit s h = rw (points_out, u, s, le-ltb t.size (length value) h)
 
 -- ---- a count of bytes that fits, and one that does not
-pub bytes_over_lem : (n : ℕ) → bytes (number n) ≡ ByteCount.Over → 2 ^ 64 ≤ n
+pub bytes_over_lem : (n : ℕ) → bytes (number n) ≡ None → 2 ^ 64 ≤ n
 bytes_over_lem n e = go (number n) refl e
   where
-    go : (m : Number) → number n ≡ m → bytes m ≡ ByteCount.Over → 2 ^ 64 ≤ n
-    go (Number.Is k) r b = let z : ◌≡◌ {A = ℕ} 0 1 = cc in absurd (omega arith)
-    go Number.Over r b = number_over_back n r
+    go : (m : Option ℕ) → number n ≡ m → bytes m ≡ None → 2 ^ 64 ≤ n
+    go (Some k) r b = let z : ◌≡◌ {A = ℕ} 0 1 = cc in absurd (omega arith)
+    go None r b = number_over_back n r
 
-pub bytes_is : (n : ℕ) (b : Bytes) → bytes (number n) ≡ ByteCount.Is b → n ≡ b.0
+pub bytes_is : (n : ℕ) (b : Bytes) → bytes (number n) ≡ Some b → n ≡ b.0
 bytes_is n b e = go (number n) refl e
   where
-    same : (k : ℕ) → bytes (Number.Is k) ≡ ByteCount.Is b → k ≡ b.0
+    same : (k : ℕ) → bytes (Some k) ≡ Some b → k ≡ b.0
     same k e = cc
 
-    go : (m : Number) → number n ≡ m → bytes m ≡ ByteCount.Is b → n ≡ b.0
-    go (Number.Is k) r b = (number_is_back n k r).0 ∙ same k b
-    go Number.Over r b = let z : ◌≡◌ {A = ℕ} 0 1 = cc in absurd (omega arith)
+    go : (m : Option ℕ) → number n ≡ m → bytes m ≡ Some b → n ≡ b.0
+    go (Some k) r b = (number_is_back n k r).0 ∙ same k b
+    go None r b = let z : ◌≡◌ {A = ℕ} 0 1 = cc in absurd (omega arith)

@@ -9,13 +9,10 @@ ghost use Rattle.string_value.specs.Elements.{trimmed};
 pub fn kept(run: &[u8]) -> usize
     ensures { result ≡ length (trimmed run.now) }
 {
-    let mut n = run.len();
-    while n > 0 {
-        let last = n - 1;
+    for last in (0..run.len()).rev() {
         if run[last] != 0 {
-            return n;
+            return last + 1;
         }
-        n = last;
     }
     0
 }

@@ -1,4 +1,5 @@
 -- No second outcome satisfies a statement of this crate's public functions. Each result can be recovered from its outcome.
+use Rattle.std.specs.Prelude.{None, Some, Option}
 use Prim.Native.Nat.{ℕ}
 use mathlib.Core.Path.{◌≡◌, refl}
 use mathlib.Core.List.{List}
@@ -10,20 +11,19 @@ use Rattle.dtype.specs.declared.Entry.{Entry}
 use Rattle.dtype.specs.Agrees.{entry_at}
 use Rattle.table_entry.specs.EntryType.{type_of}
 use Rattle.table_entry.specs.Answer.{type_answer}
-use Rattle.table_entry.specs.declared.EntryType.{EntryType}
 use Rattle.type_units.specs.declared.TimeUnits.{TimeUnits}
 use Rattle.dtype.specs.TypeNumbers.{units_number}
 use Rattle.dtype.specs.Dtype.{plain}
 use Rattle.dtype.specs.EntryOf.{entry_of}
 
-type_back : Outcome TypeStr → EntryType
-type_back (gives t) = EntryType.Type t
-type_back (refused n) = EntryType.NoType
+type_back : Outcome TypeStr → Option TypeStr
+type_back (gives t) = Some t
+type_back (refused n) = None
 
-type_same : (r : EntryType) → type_back (type_answer r) ≡ r
+type_same : (r : Option TypeStr) → type_back (type_answer r) ≡ r
 unfolding type_back
-type_same (EntryType.Type t) = refl
-type_same EntryType.NoType = refl
+type_same (Some t) = refl
+type_same None = refl
 
 pub entry_at_one : (t : List ℕ) (e : ℕ) → OneOutcome {A = Entry} (λ r. r ≡ entry_at t e)
 entry_at_one t e = by_equation (entry_at t e)

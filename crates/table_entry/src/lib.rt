@@ -16,19 +16,9 @@ ghost use Rattle.dtype.specs.TypeNumbers.{units_number};
 
 use dtype::{Entry, PLAIN};
 use saturating::held_bytes;
-use type_letters::{Endianness, LetterRead, OrderRead, TypeChar};
+use type_letters::{Endianness, TypeChar};
 use type_str::TypeStr;
-use type_units::{TimeUnits, UnitsRead};
-
-// The largest number that is a byte's.
-const LAST_BYTE: u64 = u8::MAX as u64;
-
-// The type of a plain entry, or that no type string has it.
-#[derive(Clone, Copy)]
-pub enum EntryType {
-    Type(TypeStr),
-    NoType,
-}
+use type_units::TimeUnits;
 
 // Entry e of a table; a number that the table does not reach is 0.
 pub fn entry_at(table: &[u64], e: usize) -> Entry
@@ -55,77 +45,58 @@ fn number_at(table: &[u64], e: usize, k: usize) -> u64
     if table.len() / dtype::ENTRY < e {
         return 0;
     }
-    let at = dtype::ENTRY * e + k;
-    if table.len() <= at {
-        return 0;
-    }
-    table[at]
+    table.get(dtype::ENTRY * e + k).copied().unwrap_or(0)
 }
 
 // The type of a plain entry, from its numbers for order, letter, size and units.
-pub fn type_of(entry: Entry) -> EntryType
+pub fn type_of(entry: Entry) -> Option<TypeStr>
     ensures { type_answer result ≡ type_of entry }
 {
-    let OrderRead::Order(order) = order_of(entry.order) else {
-        return EntryType::NoType;
-    };
-    let LetterRead::Letter(letter) = letter_of(entry.letter) else {
-        return EntryType::NoType;
-    };
-    let UnitsRead::Units(units) = units_of(entry.units) else {
-        return EntryType::NoType;
-    };
+    let order = order_of(entry.order)?;
+    let letter = letter_of(entry.letter)?;
+    let units = units_of(entry.units)?;
     let found = TypeStr {
         order,
         letter,
         size: entry.number,
         units,
     };
-    if found.is_type() {
-        EntryType::Type(found)
-    } else {
-        EntryType::NoType
-    }
+    if found.is_type() { Some(found) } else { None }
 }
 
-fn order_of(n: u64) -> OrderRead
+fn order_of(n: u64) -> Option<Endianness>
     ensures { order_answer result ≡ order_of n }
 {
-    if LAST_BYTE < n {
-        return OrderRead::NoOrder;
-    }
-    Endianness::from_byte(n as u8)
+    Endianness::from_byte(u8::try_from(n).ok()?)
 }
 
-fn letter_of(n: u64) -> LetterRead
+fn letter_of(n: u64) -> Option<TypeChar>
     ensures { letter_answer result ≡ letter_of n }
 {
-    if LAST_BYTE < n {
-        return LetterRead::NoLetter;
-    }
-    TypeChar::from_byte(n as u8)
+    TypeChar::from_byte(u8::try_from(n).ok()?)
 }
 
 // The inverse of `units_number`.
-fn units_of(n: u64) -> UnitsRead
+#[tactic(auto, unfolding(crate::specs::EntryType::units_for))]
+fn units_of(n: u64) -> Option<TimeUnits>
     ensures { units_answer result ≡ units_for n }
 {
     match n {
-        0 => UnitsRead::Units(TimeUnits::Absent),
-        1 => UnitsRead::Units(TimeUnits::Year),
-        2 => UnitsRead::Units(TimeUnits::Month),
-        3 => UnitsRead::Units(TimeUnits::Week),
-        4 => UnitsRead::Units(TimeUnits::Day),
-        5 => UnitsRead::Units(TimeUnits::Hour),
-        6 => UnitsRead::Units(TimeUnits::Minute),
-        7 => UnitsRead::Units(TimeUnits::Second),
-        8 => UnitsRead::Units(TimeUnits::Millisecond),
-        9 => UnitsRead::Units(TimeUnits::Microsecond),
-        10 => UnitsRead::Units(TimeUnits::Nanosecond),
-        11 => UnitsRead::Units(TimeUnits::Picosecond),
-        12 => UnitsRead::Units(TimeUnits::Femtosecond),
-        13 => UnitsRead::Units(TimeUnits::Attosecond),
-        _ => UnitsRead::NoUnits,
+        0 => Some(TimeUnits::Absent),
+        1 => Some(TimeUnits::Year),
+        2 => Some(TimeUnits::Month),
+        3 => Some(TimeUnits::Week),
+        4 => Some(TimeUnits::Day),
+        5 => Some(TimeUnits::Hour),
+        6 => Some(TimeUnits::Minute),
+        7 => Some(TimeUnits::Second),
+        8 => Some(TimeUnits::Millisecond),
+        9 => Some(TimeUnits::Microsecond),
+        10 => Some(TimeUnits::Nanosecond),
+        11 => Some(TimeUnits::Picosecond),
+        12 => Some(TimeUnits::Femtosecond),
+        13 => Some(TimeUnits::Attosecond),
+        _ => None,
     }
 }
 
@@ -133,20 +104,16 @@ fn units_of(n: u64) -> UnitsRead
 pub fn plain_entry(t: TypeStr, parent: u64, name: u64) -> Entry
     ensures { result ≡ entry_of (plain t) parent name }
 {
-    let order = t.order;
-    let letter = t.letter;
-    let units = t.units;
-    let bytes = held_bytes(t);
     Entry {
-        parent: parent,
+        parent,
         kind: PLAIN,
-        order: order.to_byte() as u64,
-        letter: letter.to_byte() as u64,
+        order: t.order.to_byte() as u64,
+        letter: t.letter.to_byte() as u64,
         number: t.size,
-        units: units_number(units),
+        units: units_number(t.units),
         extent: 1,
-        bytes: bytes.0,
-        name: name,
+        bytes: held_bytes(t).0,
+        name,
     }
 }
 
@@ -154,20 +121,5 @@ pub fn plain_entry(t: TypeStr, parent: u64, name: u64) -> Entry
 pub fn units_number(u: TimeUnits) -> u64
     ensures { result ≡ units_number u }
 {
-    match u {
-        TimeUnits::Absent => 0,
-        TimeUnits::Year => 1,
-        TimeUnits::Month => 2,
-        TimeUnits::Week => 3,
-        TimeUnits::Day => 4,
-        TimeUnits::Hour => 5,
-        TimeUnits::Minute => 6,
-        TimeUnits::Second => 7,
-        TimeUnits::Millisecond => 8,
-        TimeUnits::Microsecond => 9,
-        TimeUnits::Nanosecond => 10,
-        TimeUnits::Picosecond => 11,
-        TimeUnits::Femtosecond => 12,
-        TimeUnits::Attosecond => 13,
-    }
+    u as u64
 }

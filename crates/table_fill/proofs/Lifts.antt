@@ -1,5 +1,6 @@
 -- Entries that are moved to make room for levels. A dtype's table from another entry on is that table with its parents shifted; the first entry gets the last
 -- level as its parent. Then the loops that move and adjust them, both from the last on: what comes before a run of stores can be read as it was.
+use Rattle.std.specs.List.{copy_within}
 use Prim.Native.Nat.{ℕ, zero, suc, ◌+◌, ◌-◌, ◌*◌, ◌/◌, ◌%◌, ◌^◌, ◌<◌, ◌≤◌}
 use native.Mathlib.Omega.{arith}
 use mathlib.Core.Path.{◌≡◌, refl, sym, ap, subst, ◌∙◌}
@@ -7,15 +8,19 @@ use mathlib.Core.List.{List, [], ◌∷◌, ◌++◌, append_assoc}
 use mathlib.Core.Bool.{Bool, cond}
 use lib.Dec.{eqb}
 use lib.ListN.{length, get_or, set, take, drop, length-set, length-drop}
-use lib.Seq.{sets, sets-eq, length-sets, length-take-le, take_at, drop_at, get_or-take, get_or-drop, drop-cons, drop-length, set-get_or}
+use lib.Seq.{sets, sets-eq, length-take-le, take_at, drop_at, get_or-take, get_or-drop, drop-cons, drop-length, set-get_or}
 use borrow.Author.Tests.{lt-ltb, le-ltb, eq-eqb, ne_eqb}
 use Rattle.dtype.specs.Dtype.{Dtype, Fields, plain, array, record_of, end_of_fields, field_then}
 use Rattle.dtype.specs.Entries.{entries_of, entries_in}
 use Rattle.counts.specs.Number.{capped}
 use Rattle.dtype.specs.Record.{entry_width, flat, flats}
 use Rattle.dtype.specs.EntryOf.{entry_of, entry_numbers}
-use Rattle.table_fill.specs.Lifted.{name_column, moved_number, moved_from, moved_on, relinked, lifted}
+use Rattle.table_fill.specs.Lifted.{name_column, moved_number, moved_from, relinked, lifted}
 use Rattle.table_fill.proofs.Stores.{set_sets, get_d_sets, sets_over}
+
+-- the table with `count` numbers copied from `from` on to `to` on
+abbrev moved_on : (table : List ℕ) (from to count : ℕ) → List ℕ
+moved_on table from to count = sets table to (take count (drop from table))
 
 -- ---- one number
 module _ (i n by up : ℕ) where
@@ -165,32 +170,12 @@ module _ (table0 due : List ℕ) (to : ℕ) where
       w.holds ∙ ap (λ (x : ℕ). sets table0 (to + x) (drop x due)) hi ∙ ap (λ (x : ℕ). sets table0 x due) z
 
 -- ---- numbers that are moved
-module _ (table0 : List ℕ) (from to count : ℕ) where
-  abbrev pub Moving : ℕ → List ℕ → Type 0
-  Moving i table = Storing table0 (take count (drop from table0)) to i table
-
-  module _ (later : from ≤ to) (room : to + count ≤ length table0) where
-    run_length : length (take count (drop from table0)) ≡ count
-    run_length = part_length table0 from count (omega arith)
-
-    pub moving_start : Moving count table0
-    moving_start = storing_start table0 (take count (drop from table0)) to count run_length
-
-    pub moving_low : (i : ℕ) (table : List ℕ) → Moving i table → i ≤ count
-    moving_low i table w = omega (arith, w.low, run_length)
-
-    pub moving_more : (i j : ℕ) → i ≡ suc j → (table : List ℕ) → Moving i table → (table' : List ℕ) → table' ≡ set table (to + j) (get_or table (from + j) 0) → Moving j table'
-    moving_more i j hi table w table' ht =
-        storing_more table0 (take count (drop from table0)) to i j hi table w (get_or table (from + j) 0)
-        (as_it_was table0 (take count (drop from table0)) to i j hi table w (from + j) (omega arith)
-        ∙ sym (get_or-take count (drop from table0) j 0 (omega (arith, w.low, run_length)) ∙ get_or-drop from table0 j 0))
-        table' ht
-
-  pub moving_all : (i : ℕ) (table : List ℕ) → Moving i table → i ≡ 0 → table ≡ moved_on table0 from to count
-  moving_all i table w hi = storing_all table0 (take count (drop from table0)) to i table w hi
-
-  pub moved_on_length : length (moved_on table0 from to count) ≡ length table0
-  moved_on_length = length-sets table0 to (take count (drop from table0))
+pub copied : (l : List ℕ) (from end to count : ℕ) → end ≡ from + count → end ≤ length l → to + count ≤ length l → copy_within l from end to ≡ moved_on l from to count
+copied l from end to count he hf ht =
+    let row = take count (drop from l) in
+    let n : end - from ≡ count = omega arith in
+    let long : length row ≡ count = part_length l from count (omega arith) in
+    rw n (sym (sets-eq row l to (omega (arith, long)) ∙ ap (λ (k : ℕ). take to l ++ row ++ drop (to + k) l) long))
 
 -- ---- entries that are adjusted
 module _ (table0 : List ℕ) (entry count by : ℕ) where

@@ -1,4 +1,6 @@
 -- No second outcome satisfies a statement of this crate's public functions: what is written and what is returned are equations.
+use Rattle.refusal.specs.declared.Refusal.{Refusal}
+use Rattle.std.specs.Prelude.{Result}
 use Prim.Native.Nat.{ℕ, ◌-◌}
 use mathlib.Core.Path.{◌≡◌, sym, ◌∙◌}
 use mathlib.Core.List.{List}
@@ -6,7 +8,6 @@ use Rattle.counts.specs.OneOutcome.{OneOutcome}
 use Rattle.counts.proofs.OneOutcome.{by_equation, pair_of}
 use Rattle.table_fill.specs.Lifted.{lifted}
 use Rattle.type_str.specs.declared.TypeStr.{TypeStr}
-use Rattle.type_str.specs.declared.TypeRead.{TypeRead}
 use Rattle.dtype.specs.Dtype.{plain, size_of}
 use Rattle.counts.specs.Number.{capped}
 use Rattle.counts.specs.Counts.{as_bytes}
@@ -20,7 +21,7 @@ lift_one table entry count by = by_equation (lifted table entry count by)
 pub entries_between_one : (at stop : ℕ) → OneOutcome {A = ℕ} (λ r. r ≡ stop - at)
 entries_between_one at stop = by_equation (stop - at)
 
-pub type_in_one : (r : TypeRead) → OneOutcome {A = TypeStr} (λ t. t ≡ type_in r)
+pub type_in_one : (r : Result TypeStr Refusal) → OneOutcome {A = TypeStr} (λ t. t ≡ type_in r)
 type_in_one r = by_equation (type_in r)
 
 -- an outcome is the result and the final table

@@ -18,10 +18,6 @@ abbrev pub moved_from : (i by up : ℕ) → List ℕ → List ℕ
 moved_from i by up [] = []
 moved_from i by up (n ∷ l) = moved_number i n by up ∷ moved_from (suc i) by up l
 
--- the table with `count` numbers copied from `from` on to `to` on
-abbrev pub moved_on : (table : List ℕ) (from to count : ℕ) → List ℕ
-moved_on table from to count = sets table to (take count (drop from table))
-
 -- the table with the parents and the name adjusted in `count` entries from `entry` on, which moved there by `by`; the first one's parent is the entry before it
 abbrev pub relinked : (table : List ℕ) (entry count by : ℕ) → List ℕ
 relinked table entry count by =

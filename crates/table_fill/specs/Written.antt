@@ -1,13 +1,13 @@
 -- The table after an entry was written for a plain type, for a record, or for the array levels of a sub-shape. Document 01, "The record": "The dtype table is
 -- listed depth first, left to right, parent first: one entry for each plain type, array level and record." Entries are defined in crate dtype: kind 1 is an array,
 -- kind 2 a record.
-use Rattle.std.specs.Prelude.{ℕ, zero, suc, ◌+◌, ◌-◌, ◌*◌, ◌/◌, List, [], ◌∷◌, cond, ltb, length}
+use Rattle.refusal.specs.declared.Refusal.{Refusal}
+use Rattle.std.specs.Prelude.{ℕ, zero, suc, ◌+◌, ◌-◌, ◌*◌, ◌/◌, List, [], ◌∷◌, cond, ltb, length, Err, Ok, Result}
 use Rattle.std.proofs.lemmas.List.Edits.{sets}
 use Rattle.type_letters.specs.declared.Endianness.TheVariants.{Irrelevant}
 use Rattle.type_letters.specs.declared.TypeChar.TheVariants.{Object}
 use Rattle.type_units.specs.declared.TimeUnits.TheVariants.{Absent}
 use Rattle.type_str.specs.declared.TypeStr.{TypeStr}
-use Rattle.type_str.specs.declared.TypeRead.{TypeRead}
 use Rattle.dtype.specs.declared.Entry.{Entry}
 use Rattle.counts.specs.Number.{capped}
 use Rattle.dtype.specs.Record.{entry_width}
@@ -19,9 +19,9 @@ abbrev pub no_type : TypeStr
 no_type = record { order = Irrelevant; letter = Object; size = 0; units = Absent }
 
 -- the type that was read, or the placeholder
-abbrev pub type_in : TypeRead → TypeStr
-type_in (TypeRead.Read t) = t
-type_in (TypeRead.Refused why) = no_type
+abbrev pub type_in : Result TypeStr Refusal → TypeStr
+type_in (Ok t) = t
+type_in (Err why) = no_type
 
 -- the table with e as its entry number `at`; unchanged where it has no room for that
 abbrev pub put : (table : List ℕ) (at : ℕ) → Entry → List ℕ

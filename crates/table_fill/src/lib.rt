@@ -5,18 +5,19 @@
 ghost use Rattle.std.specs.Prelude.{◌≡◌, ◌+◌, ◌-◌, ◌*◌, ◌≤◌, length};
 ghost use Rattle.dtype.specs.Record.{entry_width};
 ghost use Rattle.dtype.specs.EntryOf.{entry_of};
-ghost use Rattle.table_fill.specs.Lifted.{moved_on, relinked, lifted};
+ghost use Rattle.table_fill.specs.Lifted.{relinked, lifted};
 ghost use Rattle.dtype.specs.Dtype.{plain, size_of};
 ghost use Rattle.counts.specs.Number.{capped};
 ghost use Rattle.counts.specs.Counts.{as_bytes};
 ghost use Rattle.table_fill.specs.Written.{no_type, type_in, put, bare, up_of, name_of, size_over, levelled, above};
 
-use counts::{Bytes, Items, Number};
+use counts::{Bytes, Items};
 use dtype::{ARRAY, ENTRY, Entry, RECORD};
+use refusal::Refusal;
 use saturating::held_product;
 use table_entry::plain_entry;
 use type_letters::{Endianness, TypeChar};
-use type_str::{TypeRead, TypeStr};
+use type_str::TypeStr;
 use type_units::TimeUnits;
 
 // Which number of an entry is the length of its name: the last.
@@ -36,20 +37,8 @@ pub fn lift(table: &mut [u64], entry: usize, count: usize, by: usize)
     if all - count - by < entry {
         return;
     }
-    move_on(table, ENTRY * entry, ENTRY * (entry + by), ENTRY * count);
+    table.copy_within(ENTRY * entry..ENTRY * (entry + count), ENTRY * (entry + by));
     relink(table, entry + by, count, by);
-}
-
-// Copies `count` numbers to a later place, the last first, so that none is overwritten before it is copied.
-fn move_on(table: &mut [u64], from: usize, to: usize, count: usize)
-    requires { (from ≤ to) × (to + count ≤ length table.old) }
-    ensures { table.new ≡ moved_on table.old from to count }
-{
-    let mut i = count;
-    while 0 < i {
-        i -= 1;
-        table[to + i] = table[from + i];
-    }
 }
 
 // Adjusts `count` entries that were moved by `by` to `entry`: parent numbers get the shift; the first entry gets the entry before it as its parent, and no name.
@@ -57,13 +46,11 @@ fn relink(table: &mut [u64], entry: usize, count: usize, by: usize)
     requires { entry_width * (entry + count) ≤ length table.old }
     ensures { table.new ≡ relinked table.old entry count by }
 {
-    let mut k = count;
-    while 1 < k {
-        k -= 1;
+    for k in (1..count).rev() {
         let i = ENTRY * (entry + k);
-        table[i] = capped_sum(table[i], by as u64);
+        table[i] = table[i].saturating_add(by as u64);
     }
-    if k == 1 {
+    if count != 0 {
         let first = ENTRY * entry;
         table[first + NAME] = 0;
         table[first] = entries_between(1, entry);
@@ -74,31 +61,15 @@ fn relink(table: &mut [u64], entry: usize, count: usize, by: usize)
 pub fn entries_between(at: usize, stop: usize) -> u64
     ensures { result ≡ stop - at }
 {
-    if stop < at {
-        return 0;
-    }
-    (stop - at) as u64
-}
-
-// The sum of two numbers of entries, or 2^64-1 where it is larger: no table has so many.
-fn capped_sum(a: u64, b: u64) -> u64
-    ensures { result ≡ capped (a + b) }
-{
-    match counts::sum(a, b) {
-        Number::Is(n) => n,
-        Number::Over => u64::MAX,
-    }
+    stop.saturating_sub(at) as u64
 }
 
 // The type that was read, or a placeholder.
-pub fn type_in(r: TypeRead) -> TypeStr
+pub fn type_in(r: Result<TypeStr, Refusal>) -> TypeStr
     ensures { result ≡ type_in r }
 {
-    match r {
-        TypeRead::Read(t) => t,
-        // not reached by the only caller, header: its text was judged
-        TypeRead::Refused(_) => no_type(),
-    }
+    // the only caller, header, has judged its text
+    r.unwrap_or(no_type())
 }
 
 // The placeholder where no type was read.
@@ -120,7 +91,7 @@ fn parent(k: usize, entry: usize, up: u64) -> u64
     if k == 0 {
         return up;
     }
-    capped_sum(entry as u64, (k - 1) as u64)
+    (entry as u64).saturating_add((k - 1) as u64)
 }
 
 // The length of the name of level k of a field: only the outermost has one.
@@ -177,7 +148,7 @@ pub fn put_sub_shape(
         return size;
     }
     let count = entries_between(entry, stop) as usize;
-    let last = capped_sum(stop as u64, rank as u64) as usize;
+    let last = stop.saturating_add(rank);
     lift(table, entry, count, rank);
     put_levels(table, entry, up, name, shape, last, size)
 }
@@ -195,10 +166,8 @@ fn put_levels(
     ensures value { result ≡ as_bytes (size_over shape.now size.0) }
     ensures table_after { table.new ≡ levelled shape.now entry up name stop size.0 table.old }
 {
-    let mut k = shape.len();
     let mut held = size;
-    while 0 < k {
-        k -= 1;
+    for k in (0..shape.len()).rev() {
         held = held_product(Items(shape[k]), held);
         put_level(table, entry, k, up, name, shape[k], stop, held);
     }
@@ -260,13 +229,13 @@ fn bare_entry(kind: u64, up: u64, number: u64, extent: u64, size: Bytes, name: u
 {
     Entry {
         parent: up,
-        kind: kind,
+        kind,
         order: 0,
         letter: 0,
-        number: number,
+        number,
         units: 0,
-        extent: extent,
+        extent,
         bytes: size.0,
-        name: name,
+        name,
     }
 }

@@ -1,4 +1,5 @@
 -- No second outcome satisfies a statement of this crate's public functions. Each result can be recovered from its outcome.
+use Rattle.std.specs.Prelude.{None, Some, Option}
 use Prim.Native.Nat.{ℕ}
 use mathlib.Core.Path.{◌≡◌, refl}
 use Rattle.counts.specs.Outcome.{Outcome, gives, refused}
@@ -7,20 +8,18 @@ use Rattle.counts.proofs.OneOutcome.{by_equation, by_inverse}
 use Rattle.type_letters.specs.Letters.{order_byte, order_of, letter_byte, letter_of, is_object, is_unicode}
 use Rattle.type_letters.specs.Answer.{order_answer, letter_answer}
 use Rattle.type_letters.specs.declared.Endianness.{Endianness}
-use Rattle.type_letters.specs.declared.OrderRead.{OrderRead}
 use mathlib.Core.Bool.{Bool}
 use Rattle.type_letters.specs.declared.TypeChar.{TypeChar}
-use Rattle.type_letters.specs.declared.LetterRead.{LetterRead}
 
 -- ---- the result with a given outcome
-order_back : Outcome Endianness → OrderRead
-order_back (gives o) = OrderRead.Order o
-order_back (refused n) = OrderRead.NoOrder
+order_back : Outcome Endianness → Option Endianness
+order_back (gives o) = Some o
+order_back (refused n) = None
 
-order_same : (r : OrderRead) → order_back (order_answer r) ≡ r
+order_same : (r : Option Endianness) → order_back (order_answer r) ≡ r
 unfolding order_back
-order_same (OrderRead.Order o) = refl
-order_same OrderRead.NoOrder = refl
+order_same (Some o) = refl
+order_same None = refl
 
 -- ---- one outcome
 pub endianness_from_byte_one : (b : ℕ) → OneOutcome (λ r. order_answer r ≡ order_of b)
@@ -30,14 +29,14 @@ pub endianness_to_byte_one : (o : Endianness) → OneOutcome {A = ℕ} (λ r. r 
 endianness_to_byte_one o = by_equation (order_byte o)
 
 -- ---- the result with a given outcome
-letter_back : Outcome TypeChar → LetterRead
-letter_back (gives l) = LetterRead.Letter l
-letter_back (refused n) = LetterRead.NoLetter
+letter_back : Outcome TypeChar → Option TypeChar
+letter_back (gives l) = Some l
+letter_back (refused n) = None
 
-letter_same : (r : LetterRead) → letter_back (letter_answer r) ≡ r
+letter_same : (r : Option TypeChar) → letter_back (letter_answer r) ≡ r
 unfolding letter_back
-letter_same (LetterRead.Letter l) = refl
-letter_same LetterRead.NoLetter = refl
+letter_same (Some l) = refl
+letter_same None = refl
 
 -- ---- one outcome
 pub type_char_from_byte_one : (b : ℕ) → OneOutcome (λ r. letter_answer r ≡ letter_of b)

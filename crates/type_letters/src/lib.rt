@@ -7,117 +7,85 @@ ghost use Rattle.type_letters.specs.Letters.{order_byte, order_of, letter_byte, 
 ghost use Rattle.type_letters.specs.Answer.{order_answer, letter_answer};
 
 // `<`, `>` or `|`, in this order.
-#[derive(Clone, Copy)]
+#[derive(Clone, Copy, PartialEq, Eq, Debug)]
 pub enum Endianness {
-    Little,
-    Big,
-    Irrelevant,
-}
-
-#[derive(Clone, Copy)]
-pub enum OrderRead {
-    Order(Endianness),
-    NoOrder,
+    Little = b'<' as isize,
+    Big = b'>' as isize,
+    Irrelevant = b'|' as isize,
 }
 
 impl Endianness {
-    pub fn from_byte(b: u8) -> OrderRead
+    #[tactic(auto, unfolding(crate::specs::Letters::order_of))]
+    pub fn from_byte(b: u8) -> Option<Endianness>
         ensures { order_answer result ≡ order_of b }
     {
         match b {
-            b'<' => OrderRead::Order(Endianness::Little),
-            b'>' => OrderRead::Order(Endianness::Big),
-            b'|' => OrderRead::Order(Endianness::Irrelevant),
-            _ => OrderRead::NoOrder,
+            b'<' => Some(Endianness::Little),
+            b'>' => Some(Endianness::Big),
+            b'|' => Some(Endianness::Irrelevant),
+            _ => None,
         }
     }
 
     pub fn to_byte(self) -> u8
         ensures { result ≡ order_byte self }
     {
-        match self {
-            Endianness::Little => b'<',
-            Endianness::Big => b'>',
-            Endianness::Irrelevant => b'|',
-        }
+        self as u8
     }
 }
 
 // b i u f c m M S U O V, in this order.
-#[derive(Clone, Copy)]
+#[derive(Clone, Copy, PartialEq, Eq, Debug)]
 pub enum TypeChar {
-    Bool,
-    Int,
-    Uint,
-    Float,
-    Complex,
-    TimeDelta,
-    DateTime,
-    ByteStr,
-    UnicodeStr,
-    Object,
-    RawData,
-}
-
-#[derive(Clone, Copy)]
-pub enum LetterRead {
-    Letter(TypeChar),
-    NoLetter,
+    Bool = b'b' as isize,
+    Int = b'i' as isize,
+    Uint = b'u' as isize,
+    Float = b'f' as isize,
+    Complex = b'c' as isize,
+    TimeDelta = b'm' as isize,
+    DateTime = b'M' as isize,
+    ByteStr = b'S' as isize,
+    UnicodeStr = b'U' as isize,
+    Object = b'O' as isize,
+    RawData = b'V' as isize,
 }
 
 impl TypeChar {
-    pub fn from_byte(b: u8) -> LetterRead
+    #[tactic(auto, unfolding(crate::specs::Letters::letter_of))]
+    pub fn from_byte(b: u8) -> Option<TypeChar>
         ensures { letter_answer result ≡ letter_of b }
     {
         match b {
-            b'b' => LetterRead::Letter(TypeChar::Bool),
-            b'i' => LetterRead::Letter(TypeChar::Int),
-            b'u' => LetterRead::Letter(TypeChar::Uint),
-            b'f' => LetterRead::Letter(TypeChar::Float),
-            b'c' => LetterRead::Letter(TypeChar::Complex),
-            b'm' => LetterRead::Letter(TypeChar::TimeDelta),
-            b'M' => LetterRead::Letter(TypeChar::DateTime),
-            b'S' => LetterRead::Letter(TypeChar::ByteStr),
-            b'U' => LetterRead::Letter(TypeChar::UnicodeStr),
-            b'O' => LetterRead::Letter(TypeChar::Object),
-            b'V' => LetterRead::Letter(TypeChar::RawData),
-            _ => LetterRead::NoLetter,
+            b'b' => Some(TypeChar::Bool),
+            b'i' => Some(TypeChar::Int),
+            b'u' => Some(TypeChar::Uint),
+            b'f' => Some(TypeChar::Float),
+            b'c' => Some(TypeChar::Complex),
+            b'm' => Some(TypeChar::TimeDelta),
+            b'M' => Some(TypeChar::DateTime),
+            b'S' => Some(TypeChar::ByteStr),
+            b'U' => Some(TypeChar::UnicodeStr),
+            b'O' => Some(TypeChar::Object),
+            b'V' => Some(TypeChar::RawData),
+            _ => None,
         }
     }
 
     pub fn to_byte(self) -> u8
         ensures { result ≡ letter_byte self }
     {
-        match self {
-            TypeChar::Bool => b'b',
-            TypeChar::Int => b'i',
-            TypeChar::Uint => b'u',
-            TypeChar::Float => b'f',
-            TypeChar::Complex => b'c',
-            TypeChar::TimeDelta => b'm',
-            TypeChar::DateTime => b'M',
-            TypeChar::ByteStr => b'S',
-            TypeChar::UnicodeStr => b'U',
-            TypeChar::Object => b'O',
-            TypeChar::RawData => b'V',
-        }
+        self as u8
     }
 
     pub fn is_object(self) -> bool
         ensures { result ≡ is_object self }
     {
-        match self {
-            TypeChar::Object => true,
-            _ => false,
-        }
+        self == TypeChar::Object
     }
 
     pub fn is_unicode(self) -> bool
         ensures { result ≡ is_unicode self }
     {
-        match self {
-            TypeChar::UnicodeStr => true,
-            _ => false,
-        }
+        self == TypeChar::UnicodeStr
     }
 }

@@ -1,4 +1,5 @@
 -- A type's text, piece by piece: a type by its parts, and the whole to lent room.
+use Rattle.std.specs.Prelude.{Err, Ok}
 use Prim.Native.Nat.{ℕ, ◌-◌, ◌^◌, ◌<◌, ◌≤◌}
 use mathlib.Core.Path.{◌≡◌}
 use mathlib.Core.Bool.{true, false}
@@ -10,7 +11,6 @@ use Rattle.emit.specs.Emits.{Emits}
 use Rattle.emit.proofs.Pieces.{emits_then, emits_same}
 use Rattle.emit.proofs.Texts.{written_short, written_whole}
 use Rattle.refusal.specs.declared.Refusal.TheVariants.{NoReading, OutputRoom}
-use Rattle.refusal.specs.declared.BytesAnswer.TheVariants.{Is, Refused}
 use Rattle.type_letters.specs.Letters.{order_byte, letter_byte, is_object}
 use Rattle.type_units.specs.Units.{unit_text}
 use Rattle.type_str.specs.Text.{type_text, is_type, type_printed}
@@ -36,15 +36,15 @@ module _ (t : TypeStr) (old : List ℕ) (at : ℕ) (mid₁ : List ℕ) (p₁ : �
       (emits_then (λ x. order_byte t.order ∷ letter_byte t.letter ∷ x) (printed t.size) old at mid₂ p₂ mid₃ p₃ head_of c) d)
 
 -- ---- the whole, to lent room
-pub prints_none : (t : TypeStr) (room : List ℕ) → is_type t ≡ false → Prints t room (Refused NoReading) room
+pub prints_none : (t : TypeStr) (room : List ℕ) → is_type t ≡ false → Prints t room (Err NoReading) room
 unfolding type_printed
 prints_none t room h = rw (type_printed, h) (owes_refused 27 room)
 
 module _ (t : TypeStr) (scratch mid : List ℕ) (n : ℕ) (room : List ℕ) (fits : n < 2 ^ 64) (small : length room < 2 ^ 64 - 1) (h : is_type t ≡ true) (measured : Emits (type_text t) scratch 0 mid n) where
-  pub prints_short : length room < n → Prints t room (Refused OutputRoom) room
+  pub prints_short : length room < n → Prints t room (Err OutputRoom) room
   unfolding type_printed
   prints_short lt = rw (type_printed, h) (written_short (type_text t) scratch mid n room fits small measured lt)
 
-  pub prints_whole : (out : List ℕ) (q : ℕ) → n ≤ length room → Emits (type_text t) room 0 out q → Prints t room (Is (record { 0 = n })) out
+  pub prints_whole : (out : List ℕ) (q : ℕ) → n ≤ length room → Emits (type_text t) room 0 out q → Prints t room (Ok (record { 0 = n })) out
   unfolding type_printed
   prints_whole out q le e = rw (type_printed, h) (written_whole (type_text t) scratch mid n room fits small measured out q le e)

@@ -7,37 +7,34 @@ ghost use Rattle.type_str.specs.Text.{type_text};
 ghost use Rattle.type_print.specs.Printed.{Prints};
 
 use counts::Bytes;
-use refusal::{BytesAnswer, Refusal};
+use refusal::Refusal;
 use type_str::TypeStr;
 
 // Puts the type string at `at` and returns the place after it. Any type has a text, also one that no type string gives.
 pub fn put(t: TypeStr, out: &mut [u8], at: usize) -> usize
     ensures { Emits (type_text t) out.old at out.new result }
 {
-    let order = t.order;
-    let letter = t.letter;
-    let units = t.units;
-    let after_order = emit::put(out, at, order.to_byte());
-    let after_letter = emit::put(out, after_order, letter.to_byte());
-    if letter.is_object() {
-        return units.put(out, after_letter);
+    let after_order = emit::put(out, at, t.order.to_byte());
+    let after_letter = emit::put(out, after_order, t.letter.to_byte());
+    if t.letter.is_object() {
+        return t.units.put(out, after_letter);
     }
     let after_size = emit::put_count(out, after_letter, t.size);
-    units.put(out, after_size)
+    t.units.put(out, after_size)
 }
 
 // Puts the type string at the front of `out` and returns its length; or 27, 28.
-pub fn print(t: TypeStr, out: &mut [u8]) -> BytesAnswer
+pub fn print(t: TypeStr, out: &mut [u8]) -> Result<Bytes, Refusal>
     ensures { Prints t out.old result out.new }
 {
     if !t.is_type() {
-        return BytesAnswer::Refused(Refusal::NoReading);
+        return Err(Refusal::NoReading);
     }
     let mut scratch = [0u8; 1];
     let n = put(t, &mut scratch, 0);
     if out.len() < n {
-        return BytesAnswer::Refused(Refusal::OutputRoom);
+        return Err(Refusal::OutputRoom);
     }
     put(t, out, 0);
-    BytesAnswer::Is(Bytes(n as u64))
+    Ok(Bytes(n as u64))
 }

@@ -1,4 +1,3 @@
 pub mod Texts
 pub mod Outcomes
-pub mod Tags
 pub mod Tables

@@ -1,4 +1,5 @@
 -- No second outcome satisfies a statement of this crate's public functions. Each result of `from_text` can be recovered from its outcome.
+use Rattle.std.specs.Prelude.{None, Some, Option}
 use Prim.Native.Nat.{ℕ, ◌^◌, ◌<◌}
 use mathlib.Core.Path.{◌≡◌, refl}
 use mathlib.Core.Bool.{Bool}
@@ -11,7 +12,6 @@ use Rattle.type_units.specs.Units.{unit_name, unit_text, is_absent, units_of}
 use Rattle.type_units.specs.declared.TimeUnits.{TimeUnits}
 use Rattle.counts.specs.Outcome.{Outcome, gives, refused}
 use Rattle.type_units.specs.Answer.{units_answer}
-use Rattle.type_units.specs.declared.UnitsRead.{UnitsRead}
 
 pub is_absent_one : (u : TimeUnits) → OneOutcome {A = Bool} (λ r. r ≡ is_absent u)
 is_absent_one u = by_equation (is_absent u)
@@ -23,14 +23,14 @@ pub units_put_name_one : (u : TimeUnits) (old : List ℕ) (at : ℕ) → OneOutc
 units_put_name_one u = emits_one (λ x. unit_name u ++ x)
 
 -- the result with a given outcome
-units_back : Outcome TimeUnits → UnitsRead
-units_back (gives u) = UnitsRead.Units u
-units_back (refused n) = UnitsRead.NoUnits
+units_back : Outcome TimeUnits → Option TimeUnits
+units_back (gives u) = Some u
+units_back (refused n) = None
 
-units_same : (r : UnitsRead) → units_back (units_answer r) ≡ r
+units_same : (r : Option TimeUnits) → units_back (units_answer r) ≡ r
 unfolding units_back
-units_same (UnitsRead.Units u) = refl
-units_same UnitsRead.NoUnits = refl
+units_same (Some u) = refl
+units_same None = refl
 
 pub units_from_text_one : (text : List ℕ) → OneOutcome (λ r. units_answer r ≡ units_of text)
 units_from_text_one text = by_inverse units_answer units_back units_same (units_of text)

@@ -47,14 +47,6 @@ pub no_open : (a : ℕ) (s : List ℕ) → (a ≡ 91 → ⊥) → units_of (a �
 unfolding units_of
 no_open a s h = simp (units_of, ne_eqb a 91 h, and-false)
 
-pub no_shut_one : (a b c : ℕ) → (c ≡ 93 → ⊥) → units_of (a ∷ b ∷ c ∷ []) ≡ refused 15
-unfolding units_of
-no_shut_one a b c h = simp (units_of, ne_eqb c 93 h)
-
-pub no_shut_two : (a b c d : ℕ) → (d ≡ 93 → ⊥) → units_of (a ∷ b ∷ c ∷ d ∷ []) ≡ refused 15
-unfolding units_of
-no_shut_two a b c d h = simp (units_of, ne_eqb d 93 h)
-
 pub no_s_two : (a b c d : ℕ) → (c ≡ 115 → ⊥) → units_of (a ∷ b ∷ c ∷ d ∷ []) ≡ refused 15
 unfolding units_of
 no_s_two a b c d h = simp (units_of, ne_eqb c 115 h, and-false)
@@ -94,8 +86,3 @@ four_bytes (a ∷ b ∷ []) h = absurd (omega arith)
 four_bytes (a ∷ b ∷ c ∷ []) h = absurd (omega arith)
 four_bytes (a ∷ b ∷ c ∷ d ∷ []) h = refl
 four_bytes (a ∷ b ∷ c ∷ d ∷ e ∷ s) h = absurd (omega arith)
-
-pub empty_absent : (s : List ℕ) → length s ≡ 0 → units_of s ≡ gives Absent
-unfolding units_of
-empty_absent [] h = refl
-empty_absent (a ∷ s) h = absurd (omega arith)

@@ -1,6 +1,6 @@
 -- Document 01, "The record": "then optional units in brackets, one of `Y M W D h m s ms us ns ps fs as` (N)." One table: the name of each unit, and all units in the
 -- document's order. Any other text is a syntax fault, 15.
-use Rattle.std.specs.Prelude.{ℕ, List, [], ◌∷◌, ◌++◌, Bool, true, false}
+use Rattle.std.specs.Prelude.{ℕ, List, [], ◌∷◌, ◌++◌, Bool}
 use Rattle.counts.specs.Outcome.{Outcome}
 use Rattle.counts.specs.Lists.{same}
 use Rattle.type_letters.specs.Letters.{first_of}
@@ -23,12 +23,6 @@ unit_name Nanosecond = 110 ∷ 115 ∷ []
 unit_name Picosecond = 112 ∷ 115 ∷ []
 unit_name Femtosecond = 102 ∷ 115 ∷ []
 unit_name Attosecond = 97 ∷ 115 ∷ []
-
--- whether a name is one letter
-abbrev pub is_one : List ℕ → Bool
-is_one [] = false
-is_one (b ∷ []) = true
-is_one (b ∷ c ∷ bs) = false
 
 -- no units, and then all in the document's order
 abbrev pub units : List TimeUnits

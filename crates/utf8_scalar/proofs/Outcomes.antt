@@ -1,6 +1,9 @@
 -- Document 01, "What counts as an answer": no second outcome meets the statement of any public function of crate utf8_scalar, since each is an equation on the outcome of
 -- the result, and no two results have the same outcome. And the numbers: 29 is given exactly if the number is no scalar value, 28 exactly if it is one and the room is too
 -- small for it.
+use Rattle.refusal.specs.declared.Refusal.{Refusal}
+use Rattle.counts.specs.declared.Bytes.{Bytes}
+use Rattle.std.specs.Prelude.{Result}
 use Prim.Native.Nat.{ℕ, ◌≤◌, ◌<◌}
 use mathlib.Core.Path.{◌≡◌, refl}
 use mathlib.Core.Bool.{Bool, true, false}
@@ -16,7 +19,6 @@ use Rattle.counts.proofs.Sides.{lt_or_ge}
 use Rattle.utf8_scalar.specs.Scalar.{is_scalar}
 use Rattle.utf8_scalar.specs.Encode.{encode}
 use Rattle.utf8_scalar.specs.Answer.{Encodes, encoding}
-use Rattle.refusal.specs.declared.BytesAnswer.{BytesAnswer}
 use Rattle.refusal.specs.Answers.{bytes_answer}
 use Rattle.refusal.proofs.Answers.{bytes_one}
 use Rattle.utf8_scalar.proofs.Writing.{encoding_not, encoding_short, encoding_fits}
@@ -27,7 +29,7 @@ pub is_scalar_one : (value : ℕ) → OneOutcome (λ r. r ≡ is_scalar value)
 is_scalar_one value = by_equation (is_scalar value)
 
 -- an outcome of writing is the answer and the room's final content
-pub encode_one : (value : ℕ) (room : List ℕ) → OneOutcome {A = BytesAnswer × List ℕ} (λ r. Encodes value room r.0 r.1)
+pub encode_one : (value : ℕ) (room : List ℕ) → OneOutcome {A = Result Bytes Refusal × List ℕ} (λ r. Encodes value room r.0 r.1)
 encode_one value room = owes_one bytes_answer bytes_one (encoding value room) room
 
 -- ---- given exactly when

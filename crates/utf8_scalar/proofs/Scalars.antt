@@ -6,6 +6,9 @@ use mathlib.Core.Logic.{⊎_elim}
 use native.Mathlib.Omega.{arith}
 use borrow.Author.Tests.{le-leb, lt-leb}
 use lib.Dec.{leb}
+use Rattle.std.specs.Prelude.{Option, None, Some, is_some}
+use Rattle.std.specs.Option.{MatchOption}
+use Rattle.std.specs.Char.{InScalarRange, OutOfScalarRange}
 use Rattle.counts.proofs.Sides.{lt_or_ge}
 use Rattle.utf8_scalar.specs.Scalar.{is_scalar}
 
@@ -31,3 +34,14 @@ scalar_over c h =
 
 pub scalar_below : (c : ℕ) → is_scalar c ≡ true → c < 0x110000
 scalar_below c s = ⊎_elim (λ h. h) (λ h. absurd (true≢false (sym s ∙ scalar_over c h))) (lt_or_ge c 0x110000)
+
+-- what the library's `char::from_u32` says of a number
+scalar_in : (c : ℕ) → InScalarRange c → is_scalar c ≡ true
+scalar_in c h = ⊎_elim (λ l. scalar_low c (omega arith)) (λ l. scalar_high c l.0 ∙ le-leb c 0x10FFFF l.1) h
+
+scalar_out : (c : ℕ) → OutOfScalarRange c → is_scalar c ≡ false
+scalar_out c h = ⊎_elim (λ l. scalar_not c (omega (arith, l.0)) (omega (arith, l.1))) (λ l. scalar_over c l) h
+
+pub char_or_none : (o : Option ℕ) (c : ℕ) → MatchOption o (OutOfScalarRange c) (λ x. InScalarRange c) → is_some o ≡ is_scalar c
+char_or_none None c h = sym (scalar_out c h)
+char_or_none (Some x) c h = sym (scalar_in c h)

@@ -1,4 +1,5 @@
 -- The number in a run of few bytes fits.
+use Rattle.std.specs.Prelude.{None, Some}
 use mathlib.Core.Path.{◌≡◌, refl, sym, ap, subst}
 use Prim.Native.Nat.{ℕ, suc, ◌-◌, ◌^◌, ◌<◌, ◌≤◌}
 use native.Mathlib.Nat.{lt_of_lt_of_le, pow-le-pow_right}
@@ -15,7 +16,6 @@ use mir.Val.{Fits, to_z, of_z}
 use Rattle.counts.specs.Lists.{AllBytes}
 use Rattle.counts.specs.Number.{number, number_by}
 use Rattle.counts.proofs.Alike.{or_elim}
-use Rattle.counts.specs.declared.Number.TheVariants.{Is, Over}
 use Rattle.number_bytes.specs.Numbers.{in_order}
 use Rattle.number_bytes.proofs.Widths.{in_below}
 use Rattle.type_letters.specs.declared.Endianness.{Endianness}
@@ -38,14 +38,14 @@ module _ (o : Endianness) (run : List ℕ) (h : (i : ℕ) → Fits w8 (get_or ru
   small : length run ≤ 8 → in_order o run < 2 ^ 64
   small l = lt_of_lt_of_le (in_below o run (all_bytes run h)) (powers (length run) 8 l)
 
-  pub number_is : length run ≤ 8 → number (in_order o run) ≡ Is (in_order o run)
+  pub number_is : length run ≤ 8 → number (in_order o run) ≡ Some (in_order o run)
   unfolding number
   number_is l = ap (λ (t : Bool). number_by t (in_order o run)) (lt-ltb (in_order o run) (2 ^ 64) (small l))
 
-  pub not_over : length run ≤ 8 → Over ≡ number (in_order o run) → ⊥
+  pub not_over : length run ≤ 8 → None ≡ number (in_order o run) → ⊥
   not_over l e = let f = number_is l in let z : ◌≡◌ {A = ℕ} 0 1 = cc in omega arith
 
-  pub is_number : length run ≤ 8 → (n : ℕ) → Is n ≡ number (in_order o run) → n ≡ in_order o run
+  pub is_number : length run ≤ 8 → (n : ℕ) → Some n ≡ number (in_order o run) → n ≡ in_order o run
   is_number l n e = let f = number_is l in cc
 
 -- one of four widths, each by itself

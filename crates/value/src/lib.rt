@@ -3,6 +3,7 @@
 // element_text and the C interface.
 #![tactic(auto)]
 
+ghost use Rattle.refusal.specs.Answers.{answer};
 ghost use Rattle.std.specs.Prelude.{◌≡◌, ◌≤◌, length};
 ghost use Rattle.number_bytes.specs.Numbers.{in_order};
 ghost use Rattle.counts.specs.Outcome.{gives};
@@ -10,9 +11,7 @@ ghost use Rattle.value_float.specs.Floats.{single_of, double_of};
 ghost use Rattle.value_float.specs.Half.{half_of};
 ghost use Rattle.value.specs.Values.{form_of, has_no_value, most_of, signed_by, signed_in, bool_in, single_pair, double_pair, value_by, read_value};
 ghost use Rattle.value.specs.Sizes.{IntegerSize, Sized};
-ghost use Rattle.value.specs.Answer.{value_answer};
 
-use counts::Number;
 use refusal::Refusal;
 use type_letters::{Endianness, TypeChar};
 use type_str::TypeStr;
@@ -32,13 +31,6 @@ pub enum Value {
     Time(i64, TimeUnits),
 }
 
-// A value; or 27, 31, 32.
-#[derive(Clone, Copy)]
-pub enum ValueAnswer {
-    Is(Value),
-    Refused(Refusal),
-}
-
 // How the bytes of a type are read.
 #[derive(Clone, Copy)]
 pub enum Form {
@@ -55,26 +47,24 @@ pub enum Form {
 }
 
 // The value in a run of bytes, by its type. The run has to be as long as the type.
-pub fn read(run: &[u8], t: TypeStr) -> ValueAnswer
-    ensures { value_answer result ≡ read_value t run.now }
+pub fn read(run: &[u8], t: TypeStr) -> Result<Value, Refusal>
+    ensures { answer result ≡ read_value t run.now }
 {
     if !t.is_type() {
-        return ValueAnswer::Refused(Refusal::NoReading);
+        return Err(Refusal::NoReading);
     }
-    let letter = t.letter;
-    let form = form_of(letter, t.size);
+    let form = form_of(t.letter, t.size);
     if has_no_value(form) {
-        return ValueAnswer::Refused(Refusal::NoValue);
+        return Err(Refusal::NoValue);
     }
     if run.len() as u64 != t.size {
-        return ValueAnswer::Refused(Refusal::NoReading);
+        return Err(Refusal::NoReading);
     }
-    let order = t.order;
-    let units = t.units;
-    value_by(form, run, order, units)
+    value_by(form, run, t.order, t.units)
 }
 
 // How the bytes of a letter and a size are read.
+#[tactic(auto, unfolding(crate::specs::Values::form_of))]
 fn form_of(letter: TypeChar, size: u64) -> Form
     ensures { result ≡ form_of letter size }
 {
@@ -93,72 +83,54 @@ fn form_of(letter: TypeChar, size: u64) -> Form
             16 => Form::DoublePair,
             _ => Form::NoValue,
         },
-        TypeChar::TimeDelta => Form::Time,
-        TypeChar::DateTime => Form::Time,
-        TypeChar::ByteStr => Form::NoValue,
-        TypeChar::UnicodeStr => Form::NoValue,
-        TypeChar::Object => Form::NoValue,
-        TypeChar::RawData => Form::NoValue,
+        TypeChar::TimeDelta | TypeChar::DateTime => Form::Time,
+        TypeChar::ByteStr | TypeChar::UnicodeStr | TypeChar::Object | TypeChar::RawData =>
+            Form::NoValue,
     }
 }
 
 fn has_no_value(form: Form) -> bool
     ensures { result ≡ has_no_value form }
 {
-    match form {
-        Form::Bool => false,
-        Form::Signed => false,
-        Form::Unsigned => false,
-        Form::Half => false,
-        Form::Single => false,
-        Form::Double => false,
-        Form::SinglePair => false,
-        Form::DoublePair => false,
-        Form::Time => false,
-        Form::NoValue => true,
-    }
+    matches!(form, Form::NoValue)
 }
 
 // The value in a run that is as long as its type.
-fn value_by(form: Form, run: &[u8], order: Endianness, units: TimeUnits) -> ValueAnswer
+fn value_by(form: Form, run: &[u8], order: Endianness, units: TimeUnits) -> Result<Value, Refusal>
     requires { Sized form (length run.now) }
-    ensures { value_answer result ≡ value_by form order units run.now }
+    ensures { answer result ≡ value_by form order units run.now }
 {
     match form {
         Form::Bool => bool_in(run, order),
-        Form::Signed => ValueAnswer::Is(Value::Signed(signed_in(run, order))),
-        Form::Unsigned => ValueAnswer::Is(Value::Unsigned(number_in(run, order))),
-        Form::Half => ValueAnswer::Is(Value::Single(half_in(run, order))),
-        Form::Single => ValueAnswer::Is(Value::Single(single_in(run, order))),
-        Form::Double => ValueAnswer::Is(Value::Double(double_in(run, order))),
+        Form::Signed => Ok(Value::Signed(signed_in(run, order))),
+        Form::Unsigned => Ok(Value::Unsigned(number_in(run, order))),
+        Form::Half => Ok(Value::Single(half_in(run, order))),
+        Form::Single => Ok(Value::Single(single_in(run, order))),
+        Form::Double => Ok(Value::Double(double_in(run, order))),
         Form::SinglePair => single_pair_in(run, order),
         Form::DoublePair => double_pair_in(run, order),
-        Form::Time => ValueAnswer::Is(Value::Time(signed_in(run, order), units)),
-        Form::NoValue => ValueAnswer::Refused(Refusal::NoValue),
+        Form::Time => Ok(Value::Time(signed_in(run, order), units)),
+        Form::NoValue => Err(Refusal::NoValue),
     }
 }
 
-// The number in a run of at most eight bytes.
+// The number in a run of at most eight bytes: it is below 2^64.
 fn number_in(run: &[u8], order: Endianness) -> u64
     requires { length run.now ≤ 8 }
     ensures { result ≡ in_order order run.now }
 {
-    let Number::Is(n) = number_bytes::read(run, order) else {
-        // not reached: the number in eight bytes is below 2^64
-        return 0;
-    };
-    n
+    number_bytes::read(run, order).unwrap()
 }
 
-fn bool_in(run: &[u8], order: Endianness) -> ValueAnswer
+fn bool_in(run: &[u8], order: Endianness) -> Result<Value, Refusal>
     requires { length run.now ≤ 8 }
-    ensures { value_answer result ≡ bool_in order run.now }
+    ensures { answer result ≡ bool_in order run.now }
 {
     let n = number_in(run, order);
     if 1 < n {
-        return ValueAnswer::Refused(Refusal::BoolByte);
+        return Err(Refusal::BoolByte);
     }
-    ValueAnswer::Is(Value::Bool(n == 1))
+    Ok(Value::Bool(n == 1))
 }
 
 // The number in a run of two's complement.
@@ -183,6 +155,7 @@ fn most_of(width: usize) -> u64
 }
 
 // The number whose two's complement is n, where `most` is the largest number of its width.
+// One rule for the four widths: by `cast_signed` each of them would be an arm with two casts of its own.
 fn signed(n: u64, most: u64) -> i64
     requires { n ≤ most }
     ensures { result ≡ signed_by most n }
@@ -194,6 +167,7 @@ fn signed(n: u64, most: u64) -> i64
     }
 }
 
+// Three short functions and no generic one: a float of each width is another type, made by another function.
 fn half_in(run: &[u8], order: Endianness) -> Single
     requires { length run.now ≡ 2 }
     ensures { result ≡ half_of (in_order order run.now) }
@@ -215,17 +189,17 @@ fn double_in(run: &[u8], order: Endianness) -> Double
     value_float::double_of(number_in(run, order))
 }
 
-// A pair, the real part first.
-fn single_pair_in(run: &[u8], order: Endianness) -> ValueAnswer
+// A pair, the real part first. (Two functions, as the pairs are two types with two widths.)
+fn single_pair_in(run: &[u8], order: Endianness) -> Result<Value, Refusal>
     requires { length run.now ≡ 8 }
-    ensures { value_answer result ≡ gives (single_pair order run.now) }
+    ensures { answer result ≡ gives (single_pair order run.now) }
 {
-    ValueAnswer::Is(Value::SinglePair(single_in(&run[..4], order), single_in(&run[4..], order)))
+    Ok(Value::SinglePair(single_in(&run[..4], order), single_in(&run[4..], order)))
 }
 
-fn double_pair_in(run: &[u8], order: Endianness) -> ValueAnswer
+fn double_pair_in(run: &[u8], order: Endianness) -> Result<Value, Refusal>
     requires { length run.now ≡ 16 }
-    ensures { value_answer result ≡ gives (double_pair order run.now) }
+    ensures { answer result ≡ gives (double_pair order run.now) }
 {
-    ValueAnswer::Is(Value::DoublePair(double_in(&run[..8], order), double_in(&run[8..], order)))
+    Ok(Value::DoublePair(double_in(&run[..8], order), double_in(&run[8..], order)))
 }

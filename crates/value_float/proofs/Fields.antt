@@ -1,6 +1,6 @@
 -- The fields of a half float: its digits and their shift by cases, and how large they are.
 use mathlib.Core.Path.{◌≡◌, refl}
-use Prim.Native.Nat.{ℕ, zero, suc, ◌+◌, ◌-◌, ◌^◌, ◌<◌, ◌≤◌}
+use Prim.Native.Nat.{ℕ, zero, suc, ◌+◌, ◌^◌, ◌<◌, ◌≤◌}
 use native.Mathlib.Omega.{arith}
 use mathlib.Core.Bool.{Bool, true, false}
 use Rattle.value_float.specs.Half.{digits, shift, sign_bits}
@@ -8,10 +8,6 @@ use Rattle.value_float.specs.Half.{digits, shift, sign_bits}
 pub digits_some : (x t : ℕ) → (x ≡ 0 → ⊥) → 1024 + t ≡ digits x t
 digits_some zero t n = absurd (n refl)
 digits_some (suc x) t n = refl
-
-pub shift_some : (x : ℕ) → (x ≡ 0 → ⊥) → x - 1 ≡ shift x
-shift_some zero n = absurd (n refl)
-shift_some (suc x) n = omega arith
 
 pub digits_few : (x t : ℕ) → t < 1024 → digits x t < 2 ^ 11
 digits_few zero t h = omega arith

@@ -49,7 +49,7 @@ pub fn single_of(bits: u32) -> Single
 {
     if INFINITY < bits % SIGN {
         return Single {
-            number: 0.0 / 0.0,
+            number: f32::NAN,
             bits,
         };
     }
@@ -59,13 +59,13 @@ pub fn single_of(bits: u32) -> Single
     }
 }
 
-// The double float of 64 bits.
+// The double float of 64 bits. (A function of its own: another type, and other constants.)
 pub fn double_of(bits: u64) -> Double
     ensures { result ≡ double_of bits }
 {
     if WIDE_INFINITY < bits % WIDE_SIGN {
         return Double {
-            number: 0.0 / 0.0,
+            number: f64::NAN,
             bits,
         };
     }
@@ -103,7 +103,7 @@ fn finite(negative: bool, exponent: u16, fraction: u16) -> Single
     let number = (digits_of(exponent, fraction) as f32) * unit(negative, shift_of(exponent));
     Single {
         number,
-        bits: f32::to_bits(number),
+        bits: number.to_bits(),
     }
 }
 
@@ -123,7 +123,7 @@ fn digits_of(exponent: u16, fraction: u16) -> u16
 fn shift_of(exponent: u16) -> u16
     ensures { result ≡ shift exponent }
 {
-    if exponent == 0 { 0 } else { exponent - 1 }
+    exponent.saturating_sub(1)
 }
 
 // 2 to the power of `place` - 24, or that negated: an exponent of `place` + 103, and a fraction of 0.

@@ -1,5 +1,7 @@
 -- What writing a record whose text can be printed answers, refusal by refusal, and what the room then holds: the header's own bytes at its front, where it is long
 -- enough. The text is as long as it was measured, and the version, the spaces and the lengths are those of its names and its length.
+use Rattle.counts.specs.declared.Bytes.{Bytes}
+use Rattle.std.specs.Prelude.{Err, Ok, Result}
 use Prim.Native.Nat.{ℕ, ◌+◌, ◌^◌, ◌<◌, ◌≤◌}
 use native.Mathlib.Omega.{arith}
 use mathlib.Core.Path.{◌≡◌, sym, ap, ◌∙◌, subst}
@@ -18,7 +20,6 @@ use Rattle.counts.proofs.Sides.{lt_or_ge}
 use Rattle.refusal.specs.Numbers.{number_of}
 use Rattle.refusal.specs.declared.Refusal.{Refusal}
 use Rattle.refusal.specs.declared.Refusal.TheVariants.{OutputRoom}
-use Rattle.refusal.specs.declared.BytesAnswer.{BytesAnswer}
 use Rattle.emit.specs.Emits.{Emits}
 use Rattle.literal_grammar.specs.Print.{spaces, print, value_of}
 use Rattle.dtype.specs.declared.Order.{Order}
@@ -35,7 +36,6 @@ use Rattle.check_record.specs.Checked.{checked_record}
 use Rattle.check_record.proofs.Accepts.{accepts_valid, checked_valid}
 use Rattle.write_depth.specs.Printable.{printable}
 use Rattle.write_depth.proofs.Views.{View, unread, too_deep_lem, shown, view}
-use Rattle.write_text.specs.declared.Printed.{Printed}
 use Rattle.write_text.specs.Prints.{PrintsText}
 use Rattle.write_text.proofs.Prints.{printed_end}
 use Rattle.write_padding.specs.declared.PaddingPlan.{PaddingPlan}
@@ -46,7 +46,7 @@ use Rattle.write.specs.Writes.{header_written, WritesHeader, WritesRecord}
 use Rattle.write.proofs.Ascii.{text_ascii}
 
 -- ---- 7, 4, 28, and the bytes, of a record within the limits
-refused_by : (r : Record) (room : List ℕ) (why : Refusal) → writing r room ≡ refused (number_of why) → WritesRecord r room (BytesAnswer.Refused why) room
+refused_by : (r : Record) (room : List ℕ) (why : Refusal) → writing r room ≡ refused (number_of why) → WritesRecord r room (Err why) room
 refused_by r room why e = owes_same _ _ room _ _ (sym e) (owes_refused (number_of why) room)
 
 module _ (r : Record) (room : List ℕ) (limits : limited r ≡ gives r) where
@@ -68,7 +68,7 @@ module _ (r : Record) (room : List ℕ) (limits : limited r ≡ gives r) where
       twenty_eight l = fits_is ∙ roomed_short 28 room (file_of r) (omega (arith, file_whole r))
 
       writing_all : header_length r ≤ length room → (n : ℕ) (out : List ℕ) → n ≡ header_length r → out ≡ at_front (file_of r) room
-          → WritesRecord r room (BytesAnswer.Is (record { 0 = n })) out
+          → WritesRecord r room (Ok (record { 0 = n })) out
       writing_all l n out z e =
           let len = file_whole r in
           owes_same _ _ room _ _ (sym (fits_is ∙ roomed_whole 28 room (file_of r) (omega arith))) (record { answered = ap gives (z ∙ sym len); room_after = e })
@@ -135,7 +135,7 @@ module _ (t ns s : List ℕ) (o : Order) (x : Record) (h : printable t ns s o �
     same_ascii : a ≡ is_ascii (bare_text x)
     same_ascii = ascii_is t ns s o x is_checked a ascii
 
-    pub record_4 : (why : Refusal) → refused (number_of why) ≡ planned a n → WritesRecord x room (BytesAnswer.Refused why) room
+    pub record_4 : (why : Refusal) → refused (number_of why) ≡ planned a n → WritesRecord x room (Err why) room
     unfolding text_length_of version
     record_4 why e =
         refused_by x room why
@@ -158,13 +158,13 @@ module _ (t ns s : List ℕ) (o : Order) (x : Record) (h : printable t ns s o �
       unfolding text_length_of version
       short = rw (same_ascii, length_is few) at (planned_fits a n p fit).1
 
-      pub record_28 : length room < p.whole → WritesRecord x room (BytesAnswer.Refused OutputRoom) room
+      pub record_28 : length room < p.whole → WritesRecord x room (Err OutputRoom) room
       record_28 l =
           refused_by x room OutputRoom (twenty_eight x room (limits_are t ns s o x is_checked) near_is short (omega (arith, plan_fits.whole_is)))
 
       pub record_written : p.whole ≤ length room → (out : List ℕ) (q : ℕ)
           → ((x : Record) → printable t ns s o ≡ gives x → Emits (λ z. file_by (version_is p.version) p.text (print (header_layout x) (spaces p.spaces (10 ∷ z)))) room 0 out q)
-          → WritesRecord x room (BytesAnswer.Is (record { 0 = p.whole })) out
+          → WritesRecord x room (Ok (record { 0 = p.whole })) out
       record_written l out q w =
           let room_fits : header_length x ≤ length room = omega (arith, plan_fits.whole_is) in
           writing_all x room (limits_are t ns s o x is_checked) near_is short room_fits p.whole out plan_fits.whole_is
@@ -172,28 +172,28 @@ module _ (t ns s : List ℕ) (o : Order) (x : Record) (h : printable t ns s o �
 
 -- ---- a caller's record
 module _ (t ns s : List ℕ) (o : Order) (room : List ℕ) where
-  header_by_lem : (x : Record) → checked_record t ns s o ≡ gives x → (w : BytesAnswer) (out : List ℕ) → WritesRecord x room w out → WritesHeader t ns s o room w out
+  header_by_lem : (x : Record) → checked_record t ns s o ≡ gives x → (w : Result Bytes Refusal) (out : List ℕ) → WritesRecord x room w out → WritesHeader t ns s o room w out
   unfolding header_written
   header_by_lem x e w out h = rw (header_written, e) h
 
-  no_record : (why : Refusal) → checked_record t ns s o ≡ refused (number_of why) → WritesHeader t ns s o room (BytesAnswer.Refused why) room
+  no_record : (why : Refusal) → checked_record t ns s o ≡ refused (number_of why) → WritesHeader t ns s o room (Err why) room
   unfolding header_written
   no_record why e = rw (header_written, e) (owes_refused (number_of why) room)
 
   -- what is not printed is not written
-  pub header_refused : (why : Refusal) → printable t ns s o ≡ refused (number_of why) → WritesHeader t ns s o room (BytesAnswer.Refused why) room
+  pub header_refused : (why : Refusal) → printable t ns s o ≡ refused (number_of why) → WritesHeader t ns s o room (Err why) room
   header_refused why h = go (view t ns s o)
     where
-      go : View t ns s o → WritesHeader t ns s o room (BytesAnswer.Refused why) room
+      go : View t ns s o → WritesHeader t ns s o room (Err why) room
       go (unread m e p) = let z : m ≡ number_of why = cc in no_record why (rw z at e)
       go (too_deep_lem x e far p) =
           let z : 7 ≡ number_of why = cc in
-          header_by_lem x e (BytesAnswer.Refused why) room (refused_by x room why (seven x room (limits_are t ns s o x e) far ∙ ap refused z))
+          header_by_lem x e (Err why) room (refused_by x room why (seven x room (limits_are t ns s o x e) far ∙ ap refused z))
       go (shown x e near p) = absurd (let z : ◌≡◌ {A = ℕ} 0 1 = cc in omega arith)
 
   -- and what was printed to scratch room is measured
-  pub header_measured : (bare : ℕ) → bare < 2 ^ 64 → (scratch mid : List ℕ) (r : Printed) → r ≡ Printed.End bare → PrintsText (printable t ns s o) scratch 0 r mid → (w : BytesAnswer) (out : List ℕ)
+  pub header_measured : (bare : ℕ) → bare < 2 ^ 64 → (scratch mid : List ℕ) (r : Result ℕ Refusal) → r ≡ Ok bare → PrintsText (printable t ns s o) scratch 0 r mid → (w : Result Bytes Refusal) (out : List ℕ)
       → ((x : Record) → printable t ns s o ≡ gives x → bare ≡ capped (length (bare_text x)) → WritesRecord x room w out) → WritesHeader t ns s o room w out
   header_measured bare small scratch mid r z h w out k =
-      let u = printed_end (printable t ns s o) scratch 0 bare mid (subst (λ (y : Printed). PrintsText (printable t ns s o) scratch 0 y mid) z h) in
+      let u = printed_end (printable t ns s o) scratch 0 bare mid (subst (λ (y : Result ℕ Refusal). PrintsText (printable t ns s o) scratch 0 y mid) z h) in
       header_by_lem u.0 (can_print t ns s o u.0 u.1).0 w out (k u.0 u.1 (omega (arith, u.2.after [])))

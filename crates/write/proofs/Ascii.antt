@@ -1,14 +1,14 @@
 -- A header's text is ASCII exactly where its names are (`text_ascii`): all else that is printed is ASCII, and an escape is as its byte.
 use Prim.Native.Nat.{ℕ, zero, suc, ◌+◌, ◌%◌, ◌<◌, ◌≤◌}
 use native.Mathlib.Omega.{arith}
-use native.Mathlib.Numerals.{add-one}
 use mathlib.Core.Path.{◌≡◌, refl, sym, ap, ◌∙◌}
-use mathlib.Core.Bool.{Bool, true, false, cond, ◌&&◌, and_assoc}
+use mathlib.Core.Bool.{Bool, true, false, cond, ◌&&◌, and_assoc, and-false}
 use mathlib.Core.List.{List, [], ◌∷◌, ◌++◌}
 use borrow.Author.Tests.{lt-ltb, le-ltb, eqb-true}
 use lib.Dec.{eqb, ltb}
-use lib.ListN.{length, get_or, drop, drop_of_length-le}
-use lib.Seq.{drop-cons}
+use lib.ListN.{get_or}
+use Rattle.std.specs.Bool.{MatchBool}
+use Rattle.std.specs.Str.{IsAscii, IsNotAscii}
 use Rattle.decimal.specs.Decimal.{printed}
 use Rattle.decimal.proofs.Prints.{by_tens, printed_low, printed_high}
 use Rattle.type_letters.specs.declared.Endianness.{Endianness}
@@ -32,19 +32,19 @@ use Rattle.record.specs.File.{bare_text}
 use Rattle.check_record.specs.Valid.{made}
 use Rattle.write_pieces.proofs.Types.{type_plain}
 
--- ---- the loop of `is_ascii`
-module _ (s : List ℕ) (i : ℕ) (inside : i < length s) (same : is_ascii s ≡ is_ascii (drop i s)) where
-  from_here : is_ascii s ≡ (ltb (get_or s i 0) 0x80 && is_ascii (drop (suc i) s))
-  from_here = same ∙ ap is_ascii (drop-cons s i 0 inside)
+-- ---- what the library's test says of each byte
+all_low : (s : List ℕ) → IsAscii s → true ≡ is_ascii s
+all_low [] h = refl
+all_low (b ∷ s) h = rw (lt-ltb b 0x80 (h 0)) (all_low s (λ i. h (suc i)))
 
-  pub ascii_not : 127 < get_or s i 0 → false ≡ is_ascii s
-  ascii_not h = sym (from_here ∙ ap (λ (b : Bool). b && is_ascii (drop (suc i) s)) (le-ltb (get_or s i 0) 0x80 (omega arith)))
+some_high : (s : List ℕ) (i : ℕ) → 0x80 ≤ get_or s i 0 → false ≡ is_ascii s
+some_high [] i h = absurd (omega arith)
+some_high (b ∷ s) zero h = rw (le-ltb b 0x80 h)
+some_high (b ∷ s) (suc i) h = sym (and-false (ltb b 0x80)) ∙ ap (λ (c : Bool). ltb b 0x80 && c) (some_high s i h)
 
-  pub ascii_more : get_or s i 0 ≤ 127 → is_ascii s ≡ is_ascii (drop (i + 1) s)
-  ascii_more h = rw (add-one i) (from_here ∙ ap (λ (b : Bool). b && is_ascii (drop (suc i) s)) (lt-ltb (get_or s i 0) 0x80 (omega arith)))
-
-pub ascii_end : (s : List ℕ) (i : ℕ) → length s ≤ i → is_ascii s ≡ is_ascii (drop i s) → true ≡ is_ascii s
-ascii_end s i h same = sym (same ∙ ap is_ascii (drop_of_length-le s {i = i} h))
+pub by_bytes : (s : List ℕ) (r : Bool) → MatchBool r (IsAscii s) (IsNotAscii s) → r ≡ is_ascii s
+by_bytes s true h = all_low s h
+by_bytes s false h = some_high s h.0 h.1
 
 -- ---- numbers, type strings, shapes
 low : (b : ℕ) (r : List ℕ) → b < 0x80 → is_ascii (b ∷ r) ≡ is_ascii r

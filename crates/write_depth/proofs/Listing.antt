@@ -1,7 +1,7 @@
 -- A dtype that is listed in a table, from one entry to the next: its kind, its room, what is listed inside it. And the loop that passes array levels, of any table.
 use Prim.Native.Nat.{ℕ, suc, ◌+◌, ◌*◌, ◌<◌, ◌≤◌}
 use native.Mathlib.Omega.{arith}
-use mathlib.Core.Path.{◌≡◌, refl, sym, ap, subst, ◌∙◌}
+use mathlib.Core.Path.{◌≡◌, refl, ap, subst, ◌∙◌}
 use mathlib.Core.Logic.{⊎_elim}
 use mathlib.Core.List.{List}
 use lib.ListN.{length, length-drop}
@@ -15,7 +15,6 @@ use Rattle.dtype.specs.Agrees.{entry_at}
 use Rattle.dtype.proofs.Flat.{some_entry_lem, flat_length}
 use Rattle.dtype.proofs.InTable.{in_table_entry, in_table_below, in_table_after}
 use Rattle.record.specs.Layout.{descr_layout}
-use Rattle.table_entry.proofs.Entry.{level_inside}
 use Rattle.write_depth.specs.Listed.{InTableAt, FieldsInTableAt, Under}
 use Rattle.write_depth.proofs.UnderLevels.{innermost_of, Innermost}
 
@@ -45,31 +44,10 @@ module _ (t : List ℕ) (e : ℕ) where
   listed_later name d fs l =
       record { up = l.up; rest = l.rest; is = in_table_after d t e l.up (length name) (flats fs (e + entries_of d) l.up l.rest) l.is }
 
--- ---- the loop of `innermost`: the entries that were passed are array levels, and the kind is that of the entry that comes next
-pub record Passed (t : List ℕ) (e c kind : ℕ) : Type 0 where
+-- ---- the loop of `innermost`: the entries that were passed are array levels
+pub record Passed (t : List ℕ) (e c : ℕ) : Type 0 where
   pub further : e ≤ c
   pub levelled : (i : ℕ) → e ≤ i → i < c → (entry_at t i).kind ≡ 1
-  pub kind_is : kind ≡ (entry_at t c).kind
-
-module _ (t : List ℕ) (e : ℕ) where
-  pub passed_start : (x : Entry) → x ≡ entry_at t e → Passed t e e x.kind
-  passed_start x q = record { further = omega arith; levelled = λ i l u. absurd (omega arith); kind_is = ap (λ (a : Entry). a.kind) q }
-
-  module _ (c kind : ℕ) (g : Passed t e c kind) where
-    pub passed_room : kind ≡ 1 → c < length t
-    passed_room k = level_inside t c (sym g.kind_is ∙ k)
-
-    pub passed_more : kind ≡ 1 → (y : Entry) → y ≡ entry_at t (c + 1) → Passed t e (c + 1) y.kind
-    passed_more k y q =
-        record {
-          further = omega (arith, g.further);
-          levelled = λ i l u.
-              ⊎_elim (λ (h : i < c). g.levelled i l h) (λ (h : c ≤ i). let z : i ≡ c = omega arith in rw z (sym g.kind_is ∙ k)) (lt_or_ge i c);
-          kind_is = ap (λ (a : Entry). a.kind) q;
-        }
-
-    pub passed_end : (kind ≡ 1 → ⊥) → Under t e c
-    passed_end k = record { further = g.further; levelled = g.levelled; no_level = λ z. k (g.kind_is ∙ z) }
 
 -- ---- where a dtype is listed, the entry after its levels is that of the type under them
 module _ (t : List ℕ) (e r : ℕ) (u : Under t e r) where

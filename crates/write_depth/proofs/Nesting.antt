@@ -71,13 +71,6 @@ module _ (t : List ℕ) (e r : ℕ) (under : (d : Dtype) → InTableAt t e d →
 abbrev pub opens : (kind : ℕ) → ℕ
 opens kind = cond (eqb kind 1) 2 1
 
-pub brackets_some : (kind : ℕ) → 1 ≤ opens kind
-brackets_some kind = go (eqb kind 1)
-  where
-    go : (b : Bool) → 1 ≤ cond b 2 1
-    go true = omega arith
-    go false = omega arith
-
 row_within : (j k : ℕ) (s : List ℕ) → all_within (values_of (dimension_row j s)) k ≡ true
 row_within j k [] = refl
 row_within j k (n ∷ s) = row_within j k s
@@ -113,29 +106,26 @@ field_as name (record_of fs) (suc k) h =
     rw z (and-true (within (value_of (descr_layout (record_of fs))) k))
 
 -- ---- `fields_within`: what is left of the fields decides
-pub record Passing (t : List ℕ) (e k c left : ℕ) (fs : Fields) : Type 0 where
+pub record Passing (t : List ℕ) (e k c i : ℕ) (fs : Fields) : Type 0 where
   pub still : Fields
   pub listed : FieldsInTableAt t c still
-  pub counted : left ≡ field_count still
+  pub counted : i + field_count still ≡ field_count fs
   pub further : e ≤ c
   pub decides : all_within (values_of (field_row fs)) k ≡ all_within (values_of (field_row still)) k
 
-pub passing_start : (t : List ℕ) (e k count : ℕ) (fs : Fields) → count ≡ field_count fs → FieldsInTableAt t e fs → Passing t e k e count fs
-passing_start t e k count fs n l = record { still = fs; listed = l; counted = n; further = omega arith; decides = refl }
-
-pub passing_end : (t : List ℕ) (e k c left : ℕ) (fs : Fields) → Passing t e k c left fs → left ≤ 0 → true ≡ all_within (values_of (field_row fs)) k
-passing_end t e k c left fs g none = go g.still g.counted g.decides
+pub passing_end : (t : List ℕ) (e k c i : ℕ) (fs : Fields) → Passing t e k c i fs → field_count fs ≤ i → true ≡ all_within (values_of (field_row fs)) k
+passing_end t e k c i fs g none = go g.still g.counted g.decides
   where
-    go : (gs : Fields) → left ≡ field_count gs → all_within (values_of (field_row fs)) k ≡ all_within (values_of (field_row gs)) k → true ≡ all_within (values_of (field_row fs)) k
+    go : (gs : Fields) → i + field_count gs ≡ field_count fs → all_within (values_of (field_row fs)) k ≡ all_within (values_of (field_row gs)) k → true ≡ all_within (values_of (field_row fs)) k
     go end_of_fields n d = sym d
     go (field_then name d gs) n u = absurd (omega arith)
 
-module _ (t : List ℕ) (e k c left : ℕ) (fs : Fields) (g : Passing t e k c left fs) (more : 0 < left) (x : Entry) (q : x ≡ entry_at t c) where
+module _ (t : List ℕ) (e k c i : ℕ) (fs : Fields) (g : Passing t e k c i fs) (more : i < field_count fs) (x : Entry) (q : x ≡ entry_at t c) where
   -- the dtype of the next field lies in the table
   pub passing_asks : (d : Dtype) × InTableAt t c d × (c + x.extent ≤ length t)
   passing_asks = go g.still g.counted g.listed
     where
-      go : (gs : Fields) → left ≡ field_count gs → FieldsInTableAt t c gs → (d : Dtype) × InTableAt t c d × (c + x.extent ≤ length t)
+      go : (gs : Fields) → i + field_count gs ≡ field_count fs → FieldsInTableAt t c gs → (d : Dtype) × InTableAt t c d × (c + x.extent ≤ length t)
       go end_of_fields n l = absurd (omega arith)
       go (field_then name d gs) n l =
           let f = listed_first t c name d gs l in
@@ -145,7 +135,7 @@ module _ (t : List ℕ) (e k c left : ℕ) (fs : Fields) (g : Passing t e k c le
   pub passing_few : k < opens x.kind → false ≡ all_within (values_of (field_row fs)) k
   passing_few h = go g.still g.counted g.listed g.decides
     where
-      go : (gs : Fields) → left ≡ field_count gs → FieldsInTableAt t c gs → all_within (values_of (field_row fs)) k ≡ all_within (values_of (field_row gs)) k
+      go : (gs : Fields) → i + field_count gs ≡ field_count fs → FieldsInTableAt t c gs → all_within (values_of (field_row fs)) k ≡ all_within (values_of (field_row gs)) k
           → false ≡ all_within (values_of (field_row fs)) k
       go end_of_fields n l u = absurd (omega arith)
       go (field_then name d gs) n l u =
@@ -162,17 +152,17 @@ module _ (t : List ℕ) (e k c left : ℕ) (fs : Fields) (g : Passing t e k c le
     pub passing_no : r ≡ false → false ≡ all_within (values_of (field_row fs)) k
     passing_no is_no = go g.still g.counted g.listed g.decides
       where
-        go : (gs : Fields) → left ≡ field_count gs → FieldsInTableAt t c gs → all_within (values_of (field_row fs)) k ≡ all_within (values_of (field_row gs)) k
+        go : (gs : Fields) → i + field_count gs ≡ field_count fs → FieldsInTableAt t c gs → all_within (values_of (field_row fs)) k ≡ all_within (values_of (field_row gs)) k
             → false ≡ all_within (values_of (field_row fs)) k
         go end_of_fields n l u = absurd (omega arith)
         go (field_then name d gs) n l u =
             sym (u ∙ ap (λ (b : Bool). b && all_within (values_of (field_row gs)) k) (first_is name d gs l ∙ is_no))
 
-    pub passing_more : r ≡ true → Passing t e k (c + x.extent) (left - 1) fs
+    pub passing_more : r ≡ true → Passing t e k (c + x.extent) (i + 1) fs
     passing_more is_yes = go g.still g.counted g.listed g.decides
       where
-        go : (gs : Fields) → left ≡ field_count gs → FieldsInTableAt t c gs → all_within (values_of (field_row fs)) k ≡ all_within (values_of (field_row gs)) k
-            → Passing t e k (c + x.extent) (left - 1) fs
+        go : (gs : Fields) → i + field_count gs ≡ field_count fs → FieldsInTableAt t c gs → all_within (values_of (field_row fs)) k ≡ all_within (values_of (field_row gs)) k
+            → Passing t e k (c + x.extent) (i + 1) fs
         go end_of_fields n l u = absurd (omega arith)
         go (field_then name d gs) n l u =
             let z : x.extent ≡ entries_of d = ap (λ (a : Entry). a.extent) (q ∙ listed_entry t c d (listed_first t c name d gs l)) in

@@ -1,4 +1,5 @@
 -- No second outcome satisfies a statement of this crate's public functions: an answer is check_record's, and there is one first entry that is no array level.
+use Rattle.refusal.specs.Answers.{answer}
 use Prim.Native.Nat.{ℕ, ◌<◌, ◌≤◌}
 use native.Mathlib.Omega.{arith}
 use mathlib.Core.Path.{◌≡◌}
@@ -8,7 +9,7 @@ use Rattle.counts.specs.Outcome.{each}
 use Rattle.counts.specs.OneOutcome.{OneOutcome}
 use Rattle.counts.proofs.Sides.{lt_or_ge}
 use Rattle.dtype.specs.declared.Order.{Order}
-use Rattle.check_record.specs.Answer.{summary, answer}
+use Rattle.check_record.specs.Answer.{summary}
 use Rattle.check_record.proofs.Outcomes.{checked_one}
 use Rattle.write_depth.specs.Listed.{Under}
 use Rattle.write_depth.specs.Printable.{printable}

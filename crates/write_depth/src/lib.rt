@@ -2,6 +2,7 @@
 // `fields_within` call each other in a cycle, once for each record; array levels are passed in a loop, `innermost`.
 #![tactic(auto)]
 
+ghost use Rattle.refusal.specs.Answers.{answer};
 ghost use Rattle.std.specs.Prelude.{◌≡◌, cond, eqb};
 ghost use Rattle.counts.specs.Outcome.{each};
 ghost use Rattle.literal_grammar.specs.Print.{value_of, values_of};
@@ -9,42 +10,35 @@ ghost use Rattle.dtype.specs.Dtype.{Dtype, Fields};
 ghost use Rattle.dtype.specs.Entries.{field_count};
 ghost use Rattle.record.specs.Layout.{descr_layout, field_row};
 ghost use Rattle.record.specs.Within.{within as is_within, all_within};
-ghost use Rattle.check_record.specs.Answer.{summary, answer};
+ghost use Rattle.check_record.specs.Answer.{summary};
 ghost use Rattle.write_depth.specs.Listed.{InTableAt, FieldsInTableAt, Under};
 ghost use Rattle.write_depth.specs.Printable.{printable};
 
-use check_record::Checked;
-use dtype::{ARRAY, Order, PLAIN};
+use check_record::Summary;
+use dtype::{ARRAY, GivenRecord, PLAIN};
 use refusal::Refusal;
 
 // How many brackets may be open at once inside the dict's own.
 const IN_DICT: u64 = literal_grammar::MOST_OPEN as u64 - 1;
 
 // The check of check_record, and then 7.
-pub fn check(table: &[u64], names: &[u8], shape: &[u64], order: Order) -> Checked
-    ensures { answer result ≡ each summary (printable table.now names.now shape.now order) }
+pub fn check(given: GivenRecord<'_>) -> Result<Summary, Refusal>
+    ensures { answer result ≡ each summary (printable given.entry.table.now given.entry.names.now given.entry.shape.now given.entry.order) }
 {
-    let checked = check_record::check(table, names, shape, order);
-    let Checked::Accepted(_) = checked else {
-        return checked;
-    };
-    if !within(table, 0, IN_DICT) {
-        return Checked::Refused(Refusal::Depth);
+    let checked = check_record::check(given)?;
+    if !within(given.table, 0, IN_DICT) {
+        return Err(Refusal::Depth);
     }
-    checked
+    Ok(checked)
 }
 
-// The first entry from e on that is no array level: e itself where there is no level.
+// The first entry from e on that is no array level: e itself where there is no level. (A `while`: no range has its end before it is met.)
 pub fn innermost(table: &[u64], e: usize) -> usize
     ensures { Under table.now e result }
 {
     let mut c = e;
-    let first = table_entry::entry_at(table, e);
-    let mut kind = first.kind;
-    while kind == ARRAY {
+    while table_entry::entry_at(table, c).kind == ARRAY {
         c += 1;
-        let next = table_entry::entry_at(table, c);
-        kind = next.kind;
     }
     c
 }
@@ -57,13 +51,7 @@ fn within(table: &[u64], e: usize, k: u64) -> bool
 {
     let under = innermost(table, e);
     let entry = table_entry::entry_at(table, under);
-    if entry.kind == PLAIN {
-        return true;
-    }
-    if k == 0 {
-        return false;
-    }
-    fields_within(table, entry.number, under + 1, k - 1)
+    entry.kind == PLAIN || k > 0 && fields_within(table, entry.number, under + 1, k - 1)
 }
 
 // The same for `count` fields, the first at entry e.
@@ -73,17 +61,12 @@ fn fields_within(table: &[u64], count: u64, e: usize, k: u64) -> bool
     ensures { (fs : Fields) → count ≡ field_count fs → FieldsInTableAt table.now e fs → result ≡ all_within (values_of (field_row fs)) k }
 {
     let mut c = e;
-    let mut left = count;
-    while 0 < left {
+    for _ in 0..count {
         let field = table_entry::entry_at(table, c);
-        if k < brackets(field.kind) {
-            return false;
-        }
-        if !within(table, c, k - 1) {
+        if k < brackets(field.kind) || !within(table, c, k - 1) {
             return false;
         }
         c += field.extent as usize;
-        left -= 1;
     }
     true
 }

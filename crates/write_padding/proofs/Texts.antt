@@ -1,5 +1,5 @@
 -- What is put around a text: the spaces, which a loop writes, and the prefix.
-use Prim.Native.Nat.{ℕ, zero, suc, ◌+◌, ◌-◌, ◌<◌, ◌≤◌}
+use Prim.Native.Nat.{ℕ, suc, ◌+◌, ◌-◌, ◌<◌, ◌≤◌}
 use native.Mathlib.Omega.{arith}
 use mathlib.Core.Path.{◌≡◌, refl, ap, ◌∙◌}
 use mathlib.Core.List.{List, ◌∷◌, ◌++◌}
@@ -41,13 +41,11 @@ still_end f g old at out p e s =
       after = λ x. ap (λ (y : List ℕ). capped (p + length y)) (e x) ∙ s.after x;
     }
 
-pub spaces_next : (left : ℕ) (x : List ℕ) → 0 < left → 32 ∷ spaces (left - 1) x ≡ spaces left x
-spaces_next zero x h = absurd (omega arith)
-spaces_next (suc k) x h = let z : suc k - 1 ≡ k = omega arith in rw z
+pub spaces_next : (n i : ℕ) (x : List ℕ) → i < n → 32 ∷ spaces (n - (i + 1)) x ≡ spaces (n - i) x
+spaces_next n i x h = let z : n - i ≡ suc (n - (i + 1)) = omega arith in rw z
 
-pub spaces_none : (left : ℕ) (x : List ℕ) → left ≤ 0 → x ≡ spaces left x
-spaces_none zero x h = refl
-spaces_none (suc k) x h = absurd (omega arith)
+pub spaces_none : (n i : ℕ) (x : List ℕ) → n ≤ i → x ≡ spaces (n - i) x
+spaces_none n i x h = let z : n - i ≡ 0 = omega arith in rw z
 
 -- ---- the prefix
 width_fits : (v : Version) → length_width v < 256

@@ -2,14 +2,12 @@
 -- the padded text is at most 65,535 bytes, else (2,0).", and 4 "text over 131,072 bytes"; for 16 document 02, "Wish 4. Sixty-four, as NumPy says.", has 64. The parts are
 -- record's Padding.antt; its `padding_unit` is the code's PADDING_UNIT.
 use Rattle.std.specs.Prelude.{ℕ, ◌+◌, Bool, ltb}
-use Rattle.counts.specs.Outcome.{Outcome, gives, refused, unless}
+use Rattle.counts.specs.Outcome.{Outcome, gives, unless}
 use Rattle.record.specs.Prefix.{Version, one_zero, two_zero, three_zero, text_start, most_text}
 use Rattle.record.specs.Padding.{spaces_after, padded_length, version_for}
-use Rattle.refusal.specs.Numbers.{number_of}
 use Rattle.header_prefix.specs.declared.Version.{Version as Chosen}
 use Rattle.header_prefix.specs.declared.Version.TheVariants.{OneZero, TwoZero, ThreeZero}
 use Rattle.write_padding.specs.declared.PaddingPlan.{PaddingPlan}
-use Rattle.write_padding.specs.declared.Planned.{Planned}
 
 -- a version as the code names it; the way back is `version_is` of header_prefix
 abbrev pub chosen : Version → Chosen
@@ -24,7 +22,3 @@ plan_with v n = record { version = chosen v; spaces = spaces_after (text_start v
 -- how a text of n bytes is written, or 4
 unfoldable pub planned : (ascii : Bool) → ℕ → Outcome PaddingPlan
 planned ascii n = unless (ltb most_text (padded_length (version_for ascii n) n)) 4 (gives (plan_with (version_for ascii n) n))
-
-abbrev pub answer : Planned → Outcome PaddingPlan
-answer (Planned.Fits p) = gives p
-answer (Planned.Refused why) = refused (number_of why)

@@ -2,6 +2,7 @@
 // (document 01, "Header bytes out", and document 02, "Wish 4"). write calls it.
 #![tactic(auto)]
 
+ghost use Rattle.refusal.specs.Answers.{answer};
 ghost use Rattle.std.specs.Prelude.{◌≤◌, ◌≡◌, ◌∷◌};
 ghost use Rattle.emit.specs.Emits.{Emits};
 ghost use Rattle.literal_grammar.specs.Print.{spaces};
@@ -9,7 +10,7 @@ ghost use Rattle.record.specs.File.{file_by};
 ghost use Rattle.record.specs.Padding.{spaces_after, version_for};
 ghost use Rattle.record.specs.Prefix.{most_text};
 ghost use Rattle.header_prefix.specs.Answer.{version_is};
-ghost use Rattle.write_padding.specs.Plan.{chosen, planned, answer};
+ghost use Rattle.write_padding.specs.Plan.{chosen, planned};
 
 use header_prefix::{MOST_TEXT, Version};
 use refusal::Refusal;
@@ -36,13 +37,6 @@ pub struct PaddingPlan {
     pub whole: usize,
 }
 
-// A plan, or 4.
-#[derive(Clone, Copy)]
-pub enum Planned {
-    Fits(PaddingPlan),
-    Refused(Refusal),
-}
-
 // The fewest spaces after n bytes of prefix and text that make a multiple of the unit, with one LF.
 fn spaces_after(n: usize) -> usize
     ensures { result ≡ spaces_after n }
@@ -66,21 +60,21 @@ fn chosen_version(ascii: bool, n: usize) -> Version
 }
 
 // How a text of n bytes is written; or 4.
-pub fn plan_for(ascii: bool, n: usize) -> Planned
+pub fn plan_for(ascii: bool, n: usize) -> Result<PaddingPlan, Refusal>
     ensures { answer result ≡ planned ascii n }
 {
     if LONGEST < n {
-        return Planned::Refused(Refusal::LongText);
+        return Err(Refusal::LongText);
     }
     let version = chosen_version(ascii, n);
     let start = 8 + version.length_width();
     let spaces = spaces_after(start + n);
     let text = n + (spaces + 1);
     if LONGEST < text {
-        return Planned::Refused(Refusal::LongText);
+        return Err(Refusal::LongText);
     }
     let whole = start + text;
-    Planned::Fits(PaddingPlan {
+    Ok(PaddingPlan {
         version,
         spaces,
         text,
@@ -109,10 +103,8 @@ fn put_spaces(out: &mut [u8], at: usize, n: usize) -> usize
     ensures { Emits (spaces n) out.old at out.new result }
 {
     let mut p = at;
-    let mut left = n;
-    while 0 < left {
+    for _ in 0..n {
         p = emit::put(out, p, b' ');
-        left -= 1;
     }
     p
 }

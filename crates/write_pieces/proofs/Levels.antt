@@ -28,60 +28,60 @@ module _ (t : List ℕ) (e : ℕ) where
   levels_none zero h = refl
   levels_none (suc k) h = simp (levels_from, ne_eqb (entry_at t e).kind 1 h)
 
--- ---- the loop of `put_levels`: the kind and the number are those of the entry that comes next
+-- ---- the loop of `put_levels`: `level` is the entry that comes next
 abbrev row : List ℕ → List ℕ → List ℕ
 row s x = print_row (dimension_row 0 s) x
 
-pub record Levels (t : List ℕ) (e : ℕ) (old : List ℕ) (at : ℕ) (out : List ℕ) (p c kind number : ℕ) : Type 0 where
+pub record Levels (t : List ℕ) (e : ℕ) (old : List ℕ) (at : ℕ) (out : List ℕ) (p c : ℕ) (level : Entry) : Type 0 where
   pub most : ℕ
   pub enough : most + c ≡ length t + e
-  pub kind_is : kind ≡ (entry_at t c).kind
-  pub number_is : number ≡ (entry_at t c).number
+  pub level_is : level ≡ entry_at t c
   pub same : length out ≡ length old
   pub stored : (x : List ℕ) → sets out p (row (levels_from most t c) x) ≡ sets old at (row (levels_at t e) x)
   pub after : (x : List ℕ) → capped (p + length (row (levels_from most t c) x)) ≡ capped (at + length (row (levels_at t e) x))
 
-pub levels_start : (t : List ℕ) (e : ℕ) (old : List ℕ) (at : ℕ) (x : Entry) → x ≡ entry_at t e → Levels t e old at old at e x.kind x.number
+pub levels_start : (t : List ℕ) (e : ℕ) (old : List ℕ) (at : ℕ) (x : Entry) → x ≡ entry_at t e → Levels t e old at old at e x
 levels_start t e old at x q =
     record {
       most = length t;
       enough = refl;
-      kind_is = ap (λ (a : Entry). a.kind) q;
-      number_is = ap (λ (a : Entry). a.number) q;
+      level_is = q;
       same = refl;
       stored = λ y. refl;
       after = λ y. refl;
     }
 
-module _ (t : List ℕ) (e : ℕ) (old : List ℕ) (at : ℕ) (out : List ℕ) (p c kind number : ℕ) (w : Levels t e old at out p c kind number) where
-  pub levels_room : kind ≡ 1 → c < length t
-  levels_room k = level_inside t c (sym w.kind_is ∙ k)
+module _ (t : List ℕ) (e : ℕ) (old : List ℕ) (at : ℕ) (out : List ℕ) (p c : ℕ) (level : Entry) (w : Levels t e old at out p c level) where
+  kind_is : level.kind ≡ (entry_at t c).kind
+  kind_is = ap (λ (a : Entry). a.kind) w.level_is
 
-  pub levels_next : kind ≡ 1 → (out' : List ℕ) (p' : ℕ) → Emits (λ x. printed number (44 ∷ x)) out p out' p' → (y : Entry) → y ≡ entry_at t (c + 1)
-      → Levels t e old at out' p' (c + 1) y.kind y.number
+  pub levels_room : level.kind ≡ 1 → c < length t
+  levels_room k = level_inside t c (sym kind_is ∙ k)
+
+  pub levels_next : level.kind ≡ 1 → (out' : List ℕ) (p' : ℕ) → Emits (λ x. printed level.number (44 ∷ x)) out p out' p' → (y : Entry) → y ≡ entry_at t (c + 1)
+      → Levels t e old at out' p' (c + 1) y
   levels_next k out' p' h y q = go w.most w.enough w.stored w.after
     where
       go : (m : ℕ) → m + c ≡ length t + e
           → ((x : List ℕ) → sets out p (row (levels_from m t c) x) ≡ sets old at (row (levels_at t e) x))
           → ((x : List ℕ) → capped (p + length (row (levels_from m t c) x)) ≡ capped (at + length (row (levels_at t e) x)))
-          → Levels t e old at out' p' (c + 1) y.kind y.number
+          → Levels t e old at out' p' (c + 1) y
       go zero n s b = absurd (omega (arith, levels_room k))
       go (suc m) n s b =
           let rest = levels_from m t (c + 1) in
-          let here : number ∷ rest ≡ levels_from (suc m) t c = ap (λ (a : ℕ). a ∷ rest) w.number_is ∙ sym (levels_more t c m (sym w.kind_is ∙ k)) in
+          let here : level.number ∷ rest ≡ levels_from (suc m) t c = ap (λ (a : Entry). a.number ∷ rest) w.level_is ∙ sym (levels_more t c m (sym kind_is ∙ k)) in
           record {
             most = m;
             enough = omega arith;
-            kind_is = ap (λ (a : Entry). a.kind) q;
-            number_is = ap (λ (a : Entry). a.number) q;
+            level_is = q;
             same = emits_length _ out p out' p' h ∙ w.same;
             stored = λ x. h.stored (row rest x) ∙ ap (λ (l : List ℕ). sets out p (row l x)) here ∙ s x;
             after = λ x. h.after (row rest x) ∙ ap (λ (l : List ℕ). capped (p + length (row l x))) here ∙ b x;
           }
 
-  pub levels_end : (kind ≡ 1 → ⊥) → Emits (print_row (dimension_row 0 (levels_at t e))) old at out p
+  pub levels_end : (level.kind ≡ 1 → ⊥) → Emits (print_row (dimension_row 0 (levels_at t e))) old at out p
   levels_end k =
-      let none : [] ≡ levels_from w.most t c = sym (levels_none t c w.most (λ z. k (w.kind_is ∙ z))) in
+      let none : [] ≡ levels_from w.most t c = sym (levels_none t c w.most (λ z. k (kind_is ∙ z))) in
       record {
         stored = λ x. ap (λ (l : List ℕ). sets out p (row l x)) none ∙ w.stored x;
         after = λ x. ap (λ (l : List ℕ). capped (p + length (row l x))) none ∙ w.after x;

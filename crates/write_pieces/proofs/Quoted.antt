@@ -1,7 +1,7 @@
 -- A byte as it is spelled, a name in its quotes and a shape in its brackets, each from the pieces that the code puts.
-use Prim.Native.Nat.{ℕ, zero, suc}
+use Prim.Native.Nat.{ℕ, zero, suc, ◌<◌}
 use native.Mathlib.Omega.{arith}
-use mathlib.Core.Path.{◌≡◌, refl, ap, subst}
+use mathlib.Core.Path.{◌≡◌, refl, sym, ap, subst}
 use mathlib.Core.List.{List, [], ◌∷◌, ◌++◌}
 use Rattle.decimal.specs.Decimal.{printed}
 use Rattle.emit.specs.Emits.{Emits}
@@ -10,16 +10,15 @@ use Rattle.literal_grammar.specs.Print.{escape_of, spelled_byte, print, print_ro
 use Rattle.record.specs.Layout.{dimension_row, shape_layout}
 use Rattle.write_pieces.specs.Pieces.{numbers_between}
 
-pub spelled_raw : (b e : ℕ) (old : List ℕ) (at : ℕ) (out : List ℕ) (p : ℕ) → e ≡ escape_of b → e ≡ 0 → Emits (λ x. b ∷ x) old at out p
+pub spelled_raw : (b : ℕ) (old : List ℕ) (at : ℕ) (out : List ℕ) (p : ℕ) → escape_of b ≡ 0 → Emits (λ x. b ∷ x) old at out p
     → Emits (spelled_byte (escape_of b) b) old at out p
-spelled_raw b zero old at out p e z h = subst (λ (c : ℕ). Emits (spelled_byte c b) old at out p) e h
-spelled_raw b (suc c) old at out p e z h = absurd (let y : ◌≡◌ {A = ℕ} 0 1 = cc in omega arith)
+spelled_raw b old at out p z h = subst (λ (c : ℕ). Emits (spelled_byte c b) old at out p) (sym z) h
 
-pub spelled_escape : (b e : ℕ) (old : List ℕ) (at : ℕ) (mid : List ℕ) (p : ℕ) (out : List ℕ) (q : ℕ) → e ≡ escape_of b → (e ≡ 0 → ⊥)
+pub spelled_escape : (b e : ℕ) (old : List ℕ) (at : ℕ) (mid : List ℕ) (p : ℕ) (out : List ℕ) (q : ℕ) → 0 < e → escape_of b ≡ e
     → Emits (λ x. 92 ∷ x) old at mid p → Emits (λ x. e ∷ x) mid p out q → Emits (spelled_byte (escape_of b) b) old at out q
-spelled_escape b zero old at mid p out q e n h k = absurd (n refl)
-spelled_escape b (suc c) old at mid p out q e n h k =
-    subst (λ (i : ℕ). Emits (spelled_byte i b) old at out q) e (emits_then (λ x. 92 ∷ x) (λ x. suc c ∷ x) old at mid p out q h k)
+spelled_escape b zero old at mid p out q n e h k = absurd (omega arith)
+spelled_escape b (suc c) old at mid p out q n e h k =
+    subst (λ (i : ℕ). Emits (spelled_byte i b) old at out q) (sym e) (emits_then (λ x. 92 ∷ x) (λ x. suc c ∷ x) old at mid p out q h k)
 
 -- a piece between two bytes
 pub between : (a b : ℕ) (f : List ℕ → List ℕ) (old : List ℕ) (at : ℕ) (m₁ : List ℕ) (p₁ : ℕ) (m₂ : List ℕ) (p₂ : ℕ) (out : List ℕ) (q : ℕ)

@@ -2,7 +2,7 @@
 // type, and what comes after the descr. Each is put at `at`, as emit puts, and the place after it is returned. write_text calls it, and the listing for names and numbers.
 #![tactic(auto)]
 
-ghost use Rattle.std.specs.Prelude.{◌≡◌, ◌∷◌, ◌++◌};
+ghost use Rattle.std.specs.Prelude.{◌≡◌, ◌<◌, ◌∷◌, ◌++◌, IfSome, unwrap_or};
 ghost use Rattle.decimal.specs.Decimal.{printed};
 ghost use Rattle.emit.specs.Emits.{Emits};
 ghost use Rattle.literal_grammar.specs.Print.{escape_of, spelled_byte, escapes, quote, print, print_row, word_text};
@@ -11,18 +11,18 @@ ghost use Rattle.table_entry.specs.EntryType.{type_of};
 ghost use Rattle.write_pieces.specs.Pieces.{numbers_between, type_piece, levels_at, open_text, close_text, rest_text};
 
 use dtype::{ARRAY, Entry, Order};
-use table_entry::EntryType;
 
-// The letter after the backslash of a byte that is escaped, or 0.
-fn escape_of(b: u8) -> u8
-    ensures { result ≡ escape_of b }
+// The letter after the backslash of a byte that is escaped.
+fn escape_of(b: u8) -> Option<u8>
+    ensures is { unwrap_or result 0 ≡ escape_of b }
+    ensures some { IfSome result (λ letter. 0 < letter) }
 {
     match b {
-        b'\\' => b'\\',
-        b'\'' => b'\'',
-        b'\r' => b'r',
-        b'\n' => b'n',
-        _ => 0,
+        b'\\' => Some(b'\\'),
+        b'\'' => Some(b'\''),
+        b'\r' => Some(b'r'),
+        b'\n' => Some(b'n'),
+        _ => None,
     }
 }
 
@@ -30,10 +30,9 @@ fn escape_of(b: u8) -> u8
 fn put_spelled(out: &mut [u8], at: usize, b: u8) -> usize
     ensures { Emits (spelled_byte (escape_of b) b) out.old at out.new result }
 {
-    let letter = escape_of(b);
-    if letter == 0 {
+    let Some(letter) = escape_of(b) else {
         return emit::put(out, at, b);
-    }
+    };
     let after_backslash = emit::put(out, at, b'\\');
     emit::put(out, after_backslash, letter)
 }
@@ -43,10 +42,8 @@ fn put_escaped(out: &mut [u8], at: usize, name: &[u8]) -> usize
     ensures { Emits (escapes name.now) out.old at out.new result }
 {
     let mut p = at;
-    let mut i: usize = 0;
-    while i < name.len() {
-        p = put_spelled(out, p, name[i]);
-        i += 1;
+    for b in name {
+        p = put_spelled(out, p, *b);
     }
     p
 }
@@ -74,10 +71,8 @@ pub fn put_numbers(out: &mut [u8], at: usize, before: &[u8], numbers: &[u64], af
     ensures { Emits (numbers_between before.now after.now numbers.now) out.old at out.new result }
 {
     let mut p = at;
-    let mut i: usize = 0;
-    while i < numbers.len() {
-        p = put_between(out, p, before, numbers[i], after);
-        i += 1;
+    for n in numbers {
+        p = put_between(out, p, before, *n, after);
     }
     p
 }
@@ -95,7 +90,7 @@ fn put_shape(out: &mut [u8], at: usize, shape: &[u64]) -> usize
 pub fn put_type(out: &mut [u8], at: usize, entry: Entry) -> usize
     ensures { Emits (type_piece (type_of entry)) out.old at out.new result }
 {
-    let EntryType::Type(t) = table_entry::type_of(entry) else {
+    let Some(t) = table_entry::type_of(entry) else {
         return at;
     };
     let inside = emit::put(out, at, b'\'');
@@ -126,15 +121,11 @@ fn put_levels(out: &mut [u8], at: usize, table: &[u64], e: usize) -> usize
 {
     let mut p = at;
     let mut c = e;
-    let first = table_entry::entry_at(table, e);
-    let mut kind = first.kind;
-    let mut number = first.number;
-    while kind == ARRAY {
-        p = put_dimension(out, p, number);
+    let mut level = table_entry::entry_at(table, e);
+    while level.kind == ARRAY {
+        p = put_dimension(out, p, level.number);
         c += 1;
-        let next = table_entry::entry_at(table, c);
-        kind = next.kind;
-        number = next.number;
+        level = table_entry::entry_at(table, c);
     }
     p
 }

@@ -1,5 +1,8 @@
 -- Which record is printed and which refusal applies, from the answers of the functions that are called: write_depth's check, the dict's text. Then the way back, for a
 -- caller who has the answer.
+use Rattle.refusal.specs.Answers.{answer}
+use Rattle.refusal.specs.declared.Refusal.{Refusal}
+use Rattle.std.specs.Prelude.{Ok, Result}
 use Prim.Native.Nat.{ℕ}
 use native.Mathlib.Omega.{arith}
 use mathlib.Core.Path.{◌≡◌, refl, sym, ap, ◌∙◌, subst}
@@ -19,16 +22,15 @@ use Rattle.check_record.specs.Valid.{made}
 use Rattle.check_record.proofs.Accepts.{accepts_valid}
 use Rattle.write_depth.specs.Printable.{printable}
 use Rattle.write_depth.proofs.Views.{same_number, valid_listed, View, unread, too_deep_lem, shown, view}
-use Rattle.write_text.specs.declared.Printed.{Printed}
 use Rattle.write_text.specs.Walk.{ListedNamed}
-use Rattle.write_text.specs.Prints.{answer, PrintsText}
+use Rattle.write_text.specs.Prints.{PrintsText}
 
 -- ---- an answer, once it is known what there is to print
 module _ (c : Outcome Record) (old : List ℕ) (at : ℕ) where
-  pub prints_refused : (w : Printed) (n : ℕ) → answer w ≡ refused n → c ≡ refused n → PrintsText c old at w old
+  pub prints_refused : (w : Result ℕ Refusal) (n : ℕ) → answer w ≡ refused n → c ≡ refused n → PrintsText c old at w old
   prints_refused w n a e = record { printed = λ x g. gives_refused (sym g ∙ e); unprinted = λ m g. (a ∙ same_number n m (sym e ∙ g), refl) }
 
-  prints_gives : (x : Record) → c ≡ gives x → (out : List ℕ) (p : ℕ) → Emits (print (header_layout x)) old at out p → PrintsText c old at (Printed.End p) out
+  prints_gives : (x : Record) → c ≡ gives x → (out : List ℕ) (p : ℕ) → Emits (print (header_layout x)) old at out p → PrintsText c old at (Ok p) out
   prints_gives x e out p h =
       record {
         printed = λ y g. (p, refl, subst (λ (z : Record). Emits (print (header_layout z)) old at out p) (gives_apart (sym e ∙ g)) h);
@@ -59,27 +61,27 @@ module _ (t ns s : List ℕ) (o : Order) where
       go (refused m) e = same_number m k (sym e)
 
   pub accepted_text : (f : Summary) → gives f ≡ each summary (printable t ns s o) → (old : List ℕ) (at : ℕ) (out : List ℕ) (p : ℕ)
-      → ((d : Dtype) → ListedNamed t ns 0 0 d → Emits (print (header_layout (made d s o))) old at out p) → PrintsText (printable t ns s o) old at (Printed.End p) out
+      → ((d : Dtype) → ListedNamed t ns 0 0 d → Emits (print (header_layout (made d s o))) old at out p) → PrintsText (printable t ns s o) old at (Ok p) out
   accepted_text f h old at out p e =
       let u = accepted f h in
       prints_gives (printable t ns s o) old at (made u.0 s o) u.1 out p (e u.0 u.2)
 
 -- ---- what there is to print, once the answer is known
-place_one : (p q : ℕ) → Printed.End p ≡ Printed.End q → p ≡ q
+place_one : (p q : ℕ) → ◌≡◌ {A = Result ℕ Refusal} (Ok p) (Ok q) → p ≡ q
 place_one p q e = cc
 
 module _ (c : Outcome Record) (old : List ℕ) (at : ℕ) where
-  pub text_at : (x : Record) → c ≡ gives x → (r : Printed) (p : ℕ) → r ≡ Printed.End p → (out : List ℕ) → PrintsText c old at r out → Emits (print (header_layout x)) old at out p
+  pub text_at : (x : Record) → c ≡ gives x → (r : Result ℕ Refusal) (p : ℕ) → r ≡ Ok p → (out : List ℕ) → PrintsText c old at r out → Emits (print (header_layout x)) old at out p
   text_at x e r p z out h = let u = h.printed x e in subst (λ (q : ℕ). Emits (print (header_layout x)) old at out q) (place_one u.0 p (sym u.1 ∙ z)) u.2
 
-  pub printed_end : (p : ℕ) (out : List ℕ) → PrintsText c old at (Printed.End p) out → (x : Record) × (c ≡ gives x) × Emits (print (header_layout x)) old at out p
+  pub printed_end : (p : ℕ) (out : List ℕ) → PrintsText c old at (Ok p) out → (x : Record) × (c ≡ gives x) × Emits (print (header_layout x)) old at out p
   printed_end p out h = go c refl
     where
       go : (b : Outcome Record) → c ≡ b → (x : Record) × (c ≡ gives x) × Emits (print (header_layout x)) old at out p
-      go (gives x) e = (x, e, text_at x e (Printed.End p) p refl out h)
+      go (gives x) e = (x, e, text_at x e (Ok p) p refl out h)
       go (refused n) e = gives_refused (h.unprinted n e).0
 
-  pub unprinted_refused : (w : Printed) (n : ℕ) (out : List ℕ) → answer w ≡ refused n → PrintsText c old at w out → c ≡ refused n
+  pub unprinted_refused : (w : Result ℕ Refusal) (n : ℕ) (out : List ℕ) → answer w ≡ refused n → PrintsText c old at w out → c ≡ refused n
   unprinted_refused w n out a h = go c refl
     where
       go : (b : Outcome Record) → c ≡ b → c ≡ refused n

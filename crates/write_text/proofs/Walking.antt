@@ -131,21 +131,16 @@ field_text name l [] z = refl
 field_text name l (n ∷ s) z = refl
 
 -- what is left of the fields, and where they are
-pub record Going (t ns : List ℕ) (e b : ℕ) (old : List ℕ) (at : ℕ) (out : List ℕ) (c start p left : ℕ) (fs : Fields) : Type 0 where
+pub record Going (t ns : List ℕ) (e b : ℕ) (old : List ℕ) (at : ℕ) (out : List ℕ) (c start p i : ℕ) (fs : Fields) : Type 0 where
   pub still : Fields
   pub there : ListedNamedIn t ns c start still
-  pub counted : left ≡ field_count still
+  pub counted : i + field_count still ≡ field_count fs
   pub further : e ≤ c
   pub entries : c + entries_in still ≡ e + entries_in fs
   pub bytes : start + name_bytes_in still ≡ b + name_bytes_in fs
   pub same : length out ≡ length old
   pub stored : (z : List ℕ) → sets out p (print_row (field_row still) z) ≡ sets old at (print_row (field_row fs) z)
   pub after : (z : List ℕ) → capped (p + length (print_row (field_row still) z)) ≡ capped (at + length (print_row (field_row fs) z))
-
-pub going_start : (t ns : List ℕ) (e b : ℕ) (old : List ℕ) (at count : ℕ) (fs : Fields) → count ≡ field_count fs → ListedNamedIn t ns e b fs
-    → Going t ns e b old at old e b at count fs
-going_start t ns e b old at count fs n s =
-    record { still = fs; there = s; counted = n; further = omega arith; entries = refl; bytes = refl; same = refl; stored = λ z. refl; after = λ z. refl }
 
 -- the next field: its name's place, and its dtype after that
 pub record Next (t ns : List ℕ) (c start : ℕ) (x : Entry) (name : List ℕ) (d : Dtype) : Type 0 where
@@ -191,12 +186,12 @@ module _ (t ns : List ℕ) (c start : ℕ) (x : Entry) (q : x ≡ entry_at t c) 
         typed = or_right (untyped d) (some_entry_in (plain_only (λ ty. not (is_type ty))) fs) s.typed;
       })
 
-  module _ (e b : ℕ) (old : List ℕ) (at : ℕ) (out : List ℕ) (p left : ℕ) (fs : Fields) (g : Going t ns e b old at out c start p left fs) (more : 0 < left) where
+  module _ (e b : ℕ) (old : List ℕ) (at : ℕ) (out : List ℕ) (p i : ℕ) (fs : Fields) (g : Going t ns e b old at out c start p i fs) (more : i < field_count fs) where
     -- what the calls of a turn ask
     pub going_next : (name : List ℕ) × (d : Dtype) × Next t ns c start x name d
     going_next = go g.still g.counted g.there
       where
-        go : (gs : Fields) → left ≡ field_count gs → ListedNamedIn t ns c start gs → (name : List ℕ) × (d : Dtype) × Next t ns c start x name d
+        go : (gs : Fields) → i + field_count gs ≡ field_count fs → ListedNamedIn t ns c start gs → (name : List ℕ) × (d : Dtype) × Next t ns c start x name d
         go end_of_fields n s = absurd (omega arith)
         go (field_then name d gs) n s = (name, d, next_of name d gs s)
 
@@ -215,13 +210,13 @@ module _ (t ns : List ℕ) (c start : ℕ) (x : Entry) (q : x ≡ entry_at t c) 
           (emits_then (head name) inner out p m₁ p₁ m₂ r.at open_is (walked d n.inner).emits)
           (subst (λ (l : List ℕ). Emits (λ z. sub_text l (41 ∷ 44 ∷ 32 ∷ z)) m₂ r.at out' p') (levels_listed (length t) t c d n.inner.listed (omega arith)) closed))
 
-      pub going_more : Going t ns e b old at out' r.entry r.byte p' (left - 1) fs
+      pub going_more : Going t ns e b old at out' r.entry r.byte p' (i + 1) fs
       going_more = go g.still g.counted g.there g.entries g.bytes g.stored g.after
         where
-          go : (gs : Fields) → left ≡ field_count gs → ListedNamedIn t ns c start gs → c + entries_in gs ≡ e + entries_in fs → start + name_bytes_in gs ≡ b + name_bytes_in fs
+          go : (gs : Fields) → i + field_count gs ≡ field_count fs → ListedNamedIn t ns c start gs → c + entries_in gs ≡ e + entries_in fs → start + name_bytes_in gs ≡ b + name_bytes_in fs
               → ((z : List ℕ) → sets out p (print_row (field_row gs) z) ≡ sets old at (print_row (field_row fs) z))
               → ((z : List ℕ) → capped (p + length (print_row (field_row gs) z)) ≡ capped (at + length (print_row (field_row fs) z)))
-              → Going t ns e b old at out' r.entry r.byte p' (left - 1) fs
+              → Going t ns e b old at out' r.entry r.byte p' (i + 1) fs
           go end_of_fields n s u v k l = absurd (omega arith)
           go (field_then name d gs) n s u v k l =
               let y = next_of name d gs s in
@@ -240,11 +235,11 @@ module _ (t ns : List ℕ) (c start : ℕ) (x : Entry) (q : x ≡ entry_at t c) 
                 after = λ z. f.after (print_row (field_row gs) z) ∙ l z;
               }
 
-pub going_end : (t ns : List ℕ) (e b : ℕ) (old : List ℕ) (at : ℕ) (out : List ℕ) (c start p left : ℕ) (fs : Fields) → Going t ns e b old at out c start p left fs → left ≤ 0
+pub going_end : (t ns : List ℕ) (e b : ℕ) (old : List ℕ) (at : ℕ) (out : List ℕ) (c start p i : ℕ) (fs : Fields) → Going t ns e b old at out c start p i fs → field_count fs ≤ i
     → Walked (print_row (field_row fs)) (entries_in fs) (name_bytes_in fs) old e b at out (record { entry = c; byte = start; at = p })
-going_end t ns e b old at out c start p left fs g none = go g.still g.counted g.entries g.bytes g.stored g.after
+going_end t ns e b old at out c start p i fs g none = go g.still g.counted g.entries g.bytes g.stored g.after
   where
-    go : (gs : Fields) → left ≡ field_count gs → c + entries_in gs ≡ e + entries_in fs → start + name_bytes_in gs ≡ b + name_bytes_in fs
+    go : (gs : Fields) → i + field_count gs ≡ field_count fs → c + entries_in gs ≡ e + entries_in fs → start + name_bytes_in gs ≡ b + name_bytes_in fs
         → ((z : List ℕ) → sets out p (print_row (field_row gs) z) ≡ sets old at (print_row (field_row fs) z))
         → ((z : List ℕ) → capped (p + length (print_row (field_row gs) z)) ≡ capped (at + length (print_row (field_row fs) z)))
         → Walked (print_row (field_row fs)) (entries_in fs) (name_bytes_in fs) old e b at out (record { entry = c; byte = start; at = p })

@@ -10,7 +10,7 @@ ghost use Rattle.record.specs.Layout.{descr_layout, field_row, header_layout};
 ghost use Rattle.check_record.specs.Valid.{made};
 ghost use Rattle.write_text.specs.Walk.{ListedNamed, ListedNamedIn, Walked};
 
-use dtype::{Order, PLAIN};
+use dtype::{GivenRecord, PLAIN};
 
 // The entry and the name byte that come after a dtype's own, and the place after its text.
 #[derive(Clone, Copy)]
@@ -63,8 +63,7 @@ fn put_fields(
     let mut c = e;
     let mut start = b;
     let mut p = at;
-    let mut left = count;
-    while 0 < left {
+    for _ in 0..count {
         let field = table_entry::entry_at(table, c);
         let end = start + field.name as usize;
         let opened = write_pieces::open_field(out, p, &names[start..end]);
@@ -72,7 +71,6 @@ fn put_fields(
         p = write_pieces::close_field(out, inner.at, table, c);
         c = inner.entry;
         start = inner.byte;
-        left -= 1;
     }
     WalkEnd {
         entry: c,
@@ -82,18 +80,11 @@ fn put_fields(
 }
 
 // Puts the dict's text of a dtype that is listed in the table and the names.
-pub(crate) fn put_dict(
-    table: &[u64],
-    names: &[u8],
-    shape: &[u64],
-    order: Order,
-    out: &mut [u8],
-    at: usize,
-) -> usize
-    requires { (d : Dtype) × ListedNamed table.now names.now 0 0 d }
-    ensures { (d : Dtype) → ListedNamed table.now names.now 0 0 d → Emits (print (header_layout (made d shape.now order))) out.old at out.new result }
+pub(crate) fn put_dict(given: GivenRecord<'_>, out: &mut [u8], at: usize) -> usize
+    requires { (d : Dtype) × ListedNamed given.table.now given.names.now 0 0 d }
+    ensures { (d : Dtype) → ListedNamed given.entry.table.now given.entry.names.now 0 0 d → Emits (print (header_layout (made d given.entry.shape.now given.entry.order))) out.old at out.new result }
 {
     let after_key = emit::put_bytes(out, at, b"{'descr': ");
-    let descr = put_descr(table, names, 0, 0, out, after_key);
-    write_pieces::put_rest(out, descr.at, order, shape)
+    let descr = put_descr(given.table, given.names, 0, 0, out, after_key);
+    write_pieces::put_rest(out, descr.at, given.order, given.shape)
 }

@@ -1,4 +1,4 @@
--- `check_record::some_over` meets its contract. The loop keeps that no entry passed is over; the measure is what is left of the entries.
+-- `check_record::some_over` meets its contract. The loop keeps that no entry passed is over.
 use Rattle.table_entry.proofs.Walks.{none_passes, one_passes}
 use Rattle.dtype.specs.Seen.{over_at}
 use borrow.Author.Count.{below_more}

@@ -1,19 +1,13 @@
--- `check_scan::has_object` meets its contract. The loop keeps that no entry passed is an object; the measure is what is left of the entries.
-use Rattle.check_scan.proofs.Over.{object_here, no_object_here}
-use Rattle.table_entry.proofs.Walks.{none_passes, one_passes}
+-- `check_scan::has_object` meets its contract: `any` over the numbers from 0 on is whether one of these entries is an object.
+use Rattle.std.proofs.Common.{◌∙◌, arith, rules, tests}
+use Rattle.std.proofs.lemmas.Iterator.{YieldsList-from_range}
+use Rattle.std.proofs.lemmas.Iterator.Search.{any_from_yields_List}
 use Rattle.dtype.specs.Seen.{object_at}
-use borrow.Author.Count.{below_more}
-use native.Mathlib.Omega.{arith}
+use Rattle.check_scan.proofs.Over.{any_some}
 use Rattle.check_scan.proofs.has_object.Goals as goal
 
-pub loop-e-init : goal.loop-e-init
-loop-e-init c = (omega arith, λ k l. absurd (omega arith))
-
-pub returns-then-entry-eq-OBJECT : goal.returns-then-entry-eq-OBJECT
-returns-then-entry-eq-OBJECT c = let t = c.args.table.now in one_passes (object_at t) _ c.loop-e.e c.loop-e-test.true (object_here t c.loop-e.e _ c.entry_at-entry.ensures c.if-entry-eq-OBJECT.true)
-
-pub loop-e-preserved : goal.loop-e-preserved
-loop-e-preserved c = let t = c.args.table.now in (omega arith, below_more _ _ c.loop-e.invariant.1 (no_object_here t c.loop-e.e _ c.entry_at-entry.ensures c.if-entry-eq-OBJECT.false))
-
 pub returns : goal.returns
-returns c = none_passes (object_at c.args.table.now) c.args.n (λ k l. c.loop-e.invariant.1 k (omega (arith, c.loop-e-test.false)))
+returns c =
+    let object = object_at c.args.table.now in
+    any_from_yields_List object _ _ _ c.any.ensures.ran (YieldsList-from_range 0 c.args.n c.args.n (cc) (omega arith)) (λ x b q k. search (rules, tests))
+    ∙ any_some object c.args.n 0

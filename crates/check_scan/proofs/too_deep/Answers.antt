@@ -1,5 +1,5 @@
 -- `check_scan::too_deep` meets its contract. The loop, from the last entry back, keeps that no entry from e on begins more than 32 array levels, and that `levels` is how
--- many entry e begins (`Deepening`); the measure is how many entries are left.
+-- many entry e begins (`Deepening`).
 use native.Mathlib.Omega.{arith}
 use Rattle.check_scan.proofs.Levels.{deepening_start, deepening_over, deepening_next, deepening_end}
 use Rattle.check_scan.proofs.too_deep.Goals as goal

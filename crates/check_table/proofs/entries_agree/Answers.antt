@@ -1,4 +1,4 @@
--- `check_table::entries_agree` meets its contract. The loop keeps that each entry from e on agrees; the measure is e.
+-- `check_table::entries_agree` meets its contract. The loop keeps that each entry from e on agrees.
 use Rattle.check_table.proofs.Tests.{no, fails}
 use Rattle.table_entry.proofs.Walks.{one_more}
 use Rattle.check_table.specs.Decides.{SoundEntry}

@@ -1,5 +1,5 @@
 -- `check_table::names_match` meets its contract. The loop keeps that the names of the entries passed are well-formed, and that the next one begins at `start`, which is in
--- the names (`Naming`); the measure is how many entries are left.
+-- the names (`Naming`).
 use Rattle.check_table.proofs.Naming.{naming_start, name_past, name_ill, naming_next, naming_end}
 use Rattle.check_table.proofs.Tests.{no}
 use borrow.Author.Tests.{not-true, not-false}

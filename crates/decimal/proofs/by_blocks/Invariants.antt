@@ -5,8 +5,8 @@ use lib.ListN.{length}
 use Rattle.decimal.specs.Blocks.{read_on}
 use Rattle.decimal.proofs.by_blocks.Given as goal
 
-abbrev pub invariant-loop-number : goal.invariant-loop-number
-invariant-loop-number l = read_on l.text l.from l.initial.number ≡ read_on l.text l.count l.number
+abbrev pub invariant-loop-block : goal.invariant-loop-block
+invariant-loop-block l = read_on l.text l.from l.initial.number ≡ read_on l.text l.count l.number
 
-abbrev pub decreases-loop-number : goal.decreases-loop-number
-decreases-loop-number l = length l.text - l.count
+abbrev pub decreases-loop-block : goal.decreases-loop-block
+decreases-loop-block l = length l.text - l.count

@@ -1,40 +1,29 @@
--- `decimal::with_block` meets its contract. A number below `most`, the largest number divided by how many a block can write, has room for any block; a number above it is over with any;
--- and one that is equal is over with the larger blocks.
+-- `decimal::with_block` meets its contract: a product that does not fit is over with any block, and else the sum decides.
 use native.Mathlib.Omega.{arith}
-use Prim.Native.Nat.{◌+◌, ◌*◌, ◌^◌, ◌<◌}
-use mathlib.Core.Path.{◌≡◌, sym}
-use Rattle.counts.proofs.Fits.{number_is, number_over, product_fits}
+use Prim.Native.Nat.{ℕ, ◌+◌, ◌*◌, ◌^◌, ◌≤◌}
+use mathlib.Core.Path.{sym, ap, ◌∙◌}
+use mathlib.Core.Logic.{⊎_elim}
+use Rattle.std.specs.Prelude.{Option}
+use Rattle.counts.specs.Number.{number}
+use Rattle.counts.proofs.Fits.{number_over, number_checked}
+use Rattle.counts.proofs.Sides.{lt_or_ge}
 use Rattle.decimal.specs.Blocks.{with_block}
-use Rattle.decimal.proofs.Blocks.{block_fits, block_number, block_over}
+use Rattle.decimal.proofs.Blocks.{block_number}
 use Rattle.decimal.proofs.with_block.Goals as goal
 
-pub returns-in_default : goal.returns-in_default
+pub returns-in_err-number : goal.returns-in_err-number
 unfolding with_block
-returns-in_default c = cc
+returns-in_err-number c = c.from_residual.ensures ∙ ap (λ (x : Option ℕ). with_block x c.args.numbers c.args.block) (sym c.in_err-number.was)
 
-room : (c : goal.Then-n-most) → c.in-Is.n * c.args.numbers + c.args.block < 2 ^ 64
-room c =
+pub returns-in_err-checked_mul : goal.returns-in_err-checked_mul
+returns-in_err-checked_mul c =
+    let n = c.in_ok-number.field-0 in
     let a = c.args in
-    block_fits c.in-Is.n a.numbers a.block (omega (arith, c.if-n-most.true)) c.requires
-
-pub overflow_mul-result : goal.overflow_mul-result
-overflow_mul-result c = record { fits = omega (arith, room c) }
-
-pub overflow_add-result : goal.overflow_add-result
-overflow_add-result c = record { fits = room c }
-
-pub returns-then-n-most : goal.returns-then-n-most
-returns-then-n-most c = block_number _ _ _ _ _ c.in-Is.is (sym (number_is _ (room c)))
-
-pub returns-then-most-n : goal.returns-then-most-n
-returns-then-most-n c = block_number _ _ _ _ _ c.in-Is.is (sym (number_over _ (block_over _ _ _ c.if-most-n.true c.requires)))
-
--- a block is one of some
-some : (c : goal.Else-most-n) → c.args.numbers ≡ 0 → ⊥
-some c z = omega (arith, c.requires, z)
-
-pub overflow_mul-n : goal.overflow_mul-n
-overflow_mul-n c = record { fits = product_fits _ _ (some c) c.if-most-n.false }
+    let over : 2 ^ 64 ≤ n * a.numbers + a.block =
+    ⊎_elim (λ h. absurd (c.in_err-checked_mul.ensures h)) (λ h. omega (arith, h)) (lt_or_ge (n * a.numbers) (2 ^ 64)) in
+    block_number _ _ _ _ _ c.in_ok-number.was (c.from_residual-in_err-checked_mul.ensures ∙ sym (number_over _ over))
 
 pub returns : goal.returns
-returns c = block_number _ _ _ _ _ c.in-Is.is c.sum.ensures
+returns c =
+    block_number _ _ _ _ _ c.in_ok-number.was
+    (number_checked _ _ c.checked_add.ensures ∙ ap (λ (k : ℕ). number (k + c.args.block)) c.in_ok-checked_mul.ensures.1)

@@ -1,4 +1,5 @@
 -- A string is scanned once: its end and the length of its bytes; what is no string is read and refused.
+use Rattle.refusal.specs.Answers.{answer}
 use Prim.Native.Nat.{ℕ, ◌+◌}
 use native.Mathlib.Omega.{arith}
 use mathlib.Core.Path.{sym, ap, ◌∙◌}
@@ -8,7 +9,6 @@ use Rattle.literal_escapes.specs.Strings.{spelled}
 use Rattle.literal_escapes.specs.declared.Scan.{Scan}
 use Rattle.literal_bytes.proofs.Positions.{get_d_any}
 use Rattle.descr_totals.specs.Totals.{name_totals}
-use Rattle.descr_totals.specs.Verdict.{verdict}
 use Rattle.descr_field.proofs.Begins.{string_in}
 use Rattle.descr_field.proofs.Names.{string_ends, name_string, name_other}
 use Rattle.descr_field.proofs.name_at.Goals as goal
@@ -34,4 +34,4 @@ returns-then-string_at c =
 pub returns : goal.returns
 returns c =
     let a = c.args in
-    record { ended_value = c.wrong_form.ensures.ended_value ∙ c.value.ensures; verdict_value = ap verdict c.wrong_form.ensures.verdict_value ∙ name_other a.text.now a.at (sym c.string_at.ensures ∙ c.if-string_at.false) }
+    record { ended_value = c.wrong_form.ensures.ended_value ∙ c.value.ensures; verdict_value = ap answer c.wrong_form.ensures.verdict_value ∙ name_other a.text.now a.at (sym c.string_at.ensures ∙ c.if-string_at.false) }

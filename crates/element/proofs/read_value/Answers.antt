@@ -1,13 +1,15 @@
 -- `element::read_value` meets its contract: the place's refusal, or the reading of the part of the file that the place names.
+use Rattle.counts.proofs.HandedOn.{handed_on}
+use Rattle.refusal.specs.Answers.{answer}
 use Rattle.counts.proofs.OneOutcome.{matched}
-use Rattle.place.specs.Answer.{answer}
 use Rattle.element.proofs.Placed.{value_refused, value_placed}
 use Rattle.element.proofs.read_value.Goals as goal
 
-pub returns-in-At : goal.returns-in-At
-returns-in-At c =
-    value_placed _ _ _ _ _ _ _ _ _ (matched answer c.place.ensures c.in-At.is)
+pub returns : goal.returns
+returns c =
+    value_placed _ _ _ _ _ _ _ _ _ (matched answer c.place_in.ensures c.in_ok-run.was)
     c.part.ensures c.read.ensures
 
-pub returns-in-Refused : goal.returns-in-Refused
-returns-in-Refused c = value_refused _ _ _ _ _ _ _ _ _ (matched answer c.place.ensures c.in-Refused.is)
+pub returns-in_err-run : goal.returns-in_err-run
+returns-in_err-run c = rw (handed_on _ c.in_err-run.field-0.0 c.from_residual.ensures)
+    (value_refused _ _ _ _ _ _ _ _ _ (matched answer c.place_in.ensures c.in_err-run.was))

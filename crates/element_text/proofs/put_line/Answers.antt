@@ -16,15 +16,15 @@ use Rattle.element_text.proofs.put_line.Goals as goal
 pub returns-then-not-is_type : goal.returns-then-not-is_type
 returns-then-not-is_type c = puts_same _ _ _ _ _ (sym (line_none _ c.args.run.now (sym c.is_type.ensures ∙ not-true _ c.if-not-is_type.true-raw))) (refl, refl)
 
-pub slice_bounds-put_bytes_line-end : goal.slice_bounds-put_bytes_line-end
-slice_bounds-put_bytes_line-end c = sym (length-take-le _ _ (omega (arith, c.kept-n.ensures, trim_length c.args.run.now)))
+pub slice_bounds-value-end : goal.slice_bounds-value-end
+slice_bounds-value-end c = sym (length-take-le _ _ (omega (arith, c.kept.ensures, trim_length c.args.run.now)))
 
 pub returns-in-UnicodeStr : goal.returns-in-UnicodeStr
 returns-in-UnicodeStr c = puts_same _ _ _ _ _ (line_text _ c.args.run.now (sym c.is_type.ensures ∙ not-false _ c.if-not-is_type.false-raw) c.in-UnicodeStr.is) c.put_points_line.ensures
 
 pub returns-in-ByteStr : goal.returns-in-ByteStr
 returns-in-ByteStr c = let a = c.args in
-    let left = ap (λ (n : ℕ). take n a.run.now) c.kept-n.ensures ∙ trim_take a.run.now in
+    let left = ap (λ (n : ℕ). take n a.run.now) c.kept.ensures ∙ trim_take a.run.now in
     puts_same _ _ _ _ _ (line_bytes _ a.run.now (sym c.is_type.ensures ∙ not-false _ c.if-not-is_type.false-raw) c.in-ByteStr.is) (bytes_known _ _ _ _ _ left c.put_bytes_line.ensures)
 
 pub returns-in-RawData : goal.returns-in-RawData

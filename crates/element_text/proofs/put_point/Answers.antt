@@ -12,10 +12,10 @@ pub returns-in_default : goal.returns-in_default
 returns-in_default c = encoded_always _ _ _ c.requires (omega arith) _ _ c.encode.ensures c.in_default.is
 
 pub slice_bounds-four-end : goal.slice_bounds-four-end
-slice_bounds-four-end c = (encoded _ _ _ c.requires (omega arith) _ _ c.encode.ensures c.in-Is.is).inside
+slice_bounds-four-end c = (encoded _ _ _ c.requires (omega arith) _ _ c.encode.ensures c.in-Ok.is).inside
 
 pub slice_bounds-put_bytes-end : goal.slice_bounds-put_bytes-end
-slice_bounds-put_bytes-end c = sym (length-take-le _ _ (encoded _ _ _ c.requires (omega arith) _ _ c.encode.ensures c.in-Is.is).inside)
+slice_bounds-put_bytes-end c = sym (length-take-le _ _ (encoded _ _ _ c.requires (omega arith) _ _ c.encode.ensures c.in-Ok.is).inside)
 
 pub returns : goal.returns
-returns c = point_high _ _ _ _ _ c.if-c-lt-FIRST_PRINTED.false _ (encoded _ _ _ c.requires (omega arith) _ _ c.encode.ensures c.in-Is.is).is c.put_bytes.ensures
+returns c = point_high _ _ _ _ _ c.if-c-lt-FIRST_PRINTED.false _ (encoded _ _ _ c.requires (omega arith) _ _ c.encode.ensures c.in-Ok.is).is c.put_bytes.ensures

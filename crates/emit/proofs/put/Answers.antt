@@ -7,4 +7,4 @@ pub returns-then-at-out : goal.returns-then-at-out
 returns-then-at-out c = emits_in _ _ _
 
 pub returns : goal.returns
-returns c = emits_out _ _ _ _ (omega arith) c.if-at-out.false c.place_after.ensures
+returns c = emits_out _ _ _ _ (omega arith) c.if-at-out.false c.saturating_add.ensures

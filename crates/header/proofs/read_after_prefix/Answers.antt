@@ -1,4 +1,5 @@
 -- The text is not all there, or it is read.
+use Rattle.counts.proofs.HandedOn.{handed_on}
 use Prim.Native.Nat.{◌+◌, ◌<◌}
 use native.Mathlib.Omega.{arith}
 use mathlib.Core.Path.{subst}
@@ -18,12 +19,11 @@ returns-then-file-end c =
     let a = c.args in
     after_missing a.longer a.file.now (prefix_is a.p) (lent a.table.now a.names.now a.shape.now) c.missing.result c.missing.ensures (subst (λ n. length a.file.now < n + a.p.length) c.text_start-start.ensures c.if-file-end.true)
 
-pub returns-in-Read : goal.returns-in-Read
-returns-in-Read c =
+pub returns : goal.returns
+returns c =
     let a = c.args in
-    after_read a.longer a.file.now a.p (lent a.table.now a.names.now a.shape.now) _ c.text_start-start.result c.text_start-start.ensures c.if-file-end.false c.read_text.result c.read_text.ensures _ c.in-Read.is
+    after_read a.longer a.file.now a.p (lent a.table.now a.names.now a.shape.now) _ c.text_start-start.result c.text_start-start.ensures c.if-file-end.false c.read_text.result c.read_text.ensures _ c.in_ok-info.was
 
-pub returns-in-Refused : goal.returns-in-Refused
-returns-in-Refused c =
-    let a = c.args in
-    after_refused a.longer a.file.now a.p (lent a.table.now a.names.now a.shape.now) _ c.text_start-start.result c.text_start-start.ensures c.if-file-end.false c.read_text.result c.read_text.ensures _ c.in-Refused.is
+pub returns-in_err-info : goal.returns-in_err-info
+returns-in_err-info c = let a = c.args in rw (handed_on _ c.in_err-info.field-0.0 c.from_residual.ensures)
+    (after_refused a.longer a.file.now a.p (lent a.table.now a.names.now a.shape.now) _ c.text_start-start.result c.text_start-start.ensures c.if-file-end.false c.read_text.result c.read_text.ensures _ c.in_err-info.was)

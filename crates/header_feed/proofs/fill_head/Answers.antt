@@ -22,14 +22,14 @@ returns-then-first-lt-FIRST c = λ was text taken h. first_short was text taken 
 pub grow-requires : goal.grow-requires
 grow-requires c = (omega (arith, c.start_in.ensures, start_bounds c.grow-a.result.head), omega (arith, c.grow-a.ensures.used_is))
 
-pub returns-in-Read : goal.returns-in-Read
-returns-in-Read c = λ was text taken h.
-    first_done was text taken _ _ h _ _ (up_to_eight c.grow-a.ensures (omega arith) (omega arith)) c.if-first-lt-FIRST.false _ c.prefix_in.ensures (read_no_three _ _ c.in-Read.is)
+pub returns-in-Ok : goal.returns-in-Ok
+returns-in-Ok c = λ was text taken h.
+    first_done was text taken _ _ h _ _ (up_to_eight c.grow-a.ensures (omega arith) (omega arith)) c.if-first-lt-FIRST.false _ c.prefix_in.ensures (read_no_three _ _ c.in-Ok.is)
 
 pub returns-then-is_incomplete : goal.returns-then-is_incomplete
 returns-then-is_incomplete c = λ was text taken h.
-    second_done was text taken _ _ h _ _ (up_to_eight c.grow-a.ensures (omega arith) (omega arith)) c.if-first-lt-FIRST.false (is_three _ _ _ _ c.prefix_in.ensures c.in-Refused.is c.is_incomplete.ensures c.if-is_incomplete.true) _ c.start_in.ensures _ c.grow.ensures
+    second_done was text taken _ _ h _ _ (up_to_eight c.grow-a.ensures (omega arith) (omega arith)) c.if-first-lt-FIRST.false (is_three _ _ _ _ c.prefix_in.ensures c.in-Err.is c.is_incomplete.ensures c.if-is_incomplete.true) _ c.start_in.ensures _ c.grow.ensures
 
 pub returns-else-is_incomplete : goal.returns-else-is_incomplete
 returns-else-is_incomplete c = λ was text taken h.
-    first_done was text taken _ _ h _ _ (up_to_eight c.grow-a.ensures (omega arith) (omega arith)) c.if-first-lt-FIRST.false _ c.prefix_in.ensures (other_no_three _ _ _ c.in-Refused.is c.is_incomplete.ensures c.if-is_incomplete.false)
+    first_done was text taken _ _ h _ _ (up_to_eight c.grow-a.ensures (omega arith) (omega arith)) c.if-first-lt-FIRST.false _ c.prefix_in.ensures (other_no_three _ _ _ c.in-Err.is c.is_incomplete.ensures c.if-is_incomplete.false)

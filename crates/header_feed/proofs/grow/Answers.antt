@@ -6,4 +6,4 @@ pub returns-then-upto-had : goal.returns-then-upto-had
 returns-then-upto-had c = grown_none _ _ _ _ _ c.if-upto-had.true
 
 pub returns : goal.returns
-returns c = grown_some c.args.head _ _ c.args.part.now c.args.used _ _ c.least-n.ensures c.copy.ensures
+returns c = grown_some c.args.head _ _ c.args.part.now c.args.used _ _ c.min-n.ensures c.copy.ensures

@@ -9,12 +9,12 @@ use Rattle.header_feed.proofs.prefix_in.Goals as goal
 use Rattle.header_feed.proofs.prefix_in.Goals.{Start}
 
 pub slice_bounds-head-end : goal.slice_bounds-head-end
-slice_bounds-head-end c = within c.args.head c.args.got _ _ c.least-n.ensures c.start_in.ensures c.well_formed.0.1.0.1
+slice_bounds-head-end c = within c.args.head c.args.got _ _ c.min-n.ensures c.start_in.ensures c.well_formed.0.1.0.1
 
 pub slice_bounds-read-end : goal.slice_bounds-read-end
-slice_bounds-read-end c = let p = (goal.at.slice_bounds-read-end c).Start in sym (length-take-le _ p.args.head (within p.args.head p.args.got _ _ c.least-n.ensures c.start_in.ensures p.well_formed.0.1.0.1))
+slice_bounds-read-end c = let p = (goal.at.slice_bounds-read-end c).Start in sym (length-take-le _ p.args.head (within p.args.head p.args.got _ _ c.min-n.ensures c.start_in.ensures p.well_formed.0.1.0.1))
 
 pub returns : goal.returns
 returns c =
     let p = (goal.at.returns c).Start in
-    c.read.ensures ∙ ap (λ (n : ℕ). prefix (take n p.args.head)) (c.least-n.ensures ∙ ap (min p.args.got) c.start_in.ensures)
+    c.read.ensures ∙ ap (λ (n : ℕ). prefix (take n p.args.head)) (c.min-n.ensures ∙ ap (min p.args.got) c.start_in.ensures)

@@ -17,7 +17,7 @@ returns-in_default c =
     let a = c.args in
     let v = version_is a.version in
     let le = subst (λ n. n ≤ length a.file.now) c.text_start-start.ensures c.if-file-start.false in
-    let h = field_number v a.file.now _ _ c.text_start-start.ensures c.read-n.ensures in
+    let h = field_number v a.file.now _ _ c.text_start-start.ensures c.read.ensures in
     sym (over_is_4 v a.file.now le (sym h ∙ c.in_default.is))
 
 pub returns-then-length-gt-MOST_TEXT : goal.returns-then-length-gt-MOST_TEXT
@@ -25,13 +25,13 @@ returns-then-length-gt-MOST_TEXT c =
     let a = c.args in
     let v = version_is a.version in
     let le = subst (λ n. n ≤ length a.file.now) c.text_start-start.ensures c.if-file-start.false in
-    let h = field_number v a.file.now _ _ c.text_start-start.ensures c.read-n.ensures in
-    sym (is_long_4 v a.file.now _ le (sym h ∙ c.in-Is.is) (omega (arith, c.if-length-gt-MOST_TEXT.true)))
+    let h = field_number v a.file.now _ _ c.text_start-start.ensures c.read.ensures in
+    sym (is_long_4 v a.file.now _ le (sym h ∙ c.in-Some.is) (omega (arith, c.if-length-gt-MOST_TEXT.true)))
 
 pub returns : goal.returns
 returns c =
     let a = c.args in
     let v = version_is a.version in
     let le = subst (λ n. n ≤ length a.file.now) c.text_start-start.ensures c.if-file-start.false in
-    let h = field_number v a.file.now _ _ c.text_start-start.ensures c.read-n.ensures in
-    sym (is_length v a.file.now _ le (sym h ∙ c.in-Is.is) (omega (arith, c.if-length-gt-MOST_TEXT.false)))
+    let h = field_number v a.file.now _ _ c.text_start-start.ensures c.read.ensures in
+    sym (is_length v a.file.now _ le (sym h ∙ c.in-Some.is) (omega (arith, c.if-length-gt-MOST_TEXT.false)))

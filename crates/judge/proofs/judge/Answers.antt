@@ -16,7 +16,7 @@ returns-in_default c =
 pub returns-in-Value : goal.returns-in-Value
 returns-in-Value c =
     let s = c.args.text.now in
-    let well = matched answer c.check.ensures.answered c.in-WellFormed.is in
+    let well = matched answer c.check.ensures.answered c.in-Ok.is in
     let at = c.blanks in
     let w = c.keys-walked in
     let e = sym c.in-Value.is ∙ ended_so s well _ _ at.result at.ensures w.ensures.ended c.whole.ensures in
@@ -26,7 +26,7 @@ returns-in-Value c =
 pub returns-in-Fault : goal.returns-in-Fault
 returns-in-Fault c =
     let s = c.args.text.now in
-    let well = matched answer c.check.ensures.answered c.in-WellFormed.is in
+    let well = matched answer c.check.ensures.answered c.in-Ok.is in
     let at = c.blanks in
     let e = ended_so s well _ _ at.result at.ensures c.keys-walked.ensures.ended c.whole.ensures in
     refused_by s (skip s 0) Refusal.Fault _ (fault_record s well _ (sym c.in-Fault.is ∙ e))
@@ -34,7 +34,7 @@ returns-in-Fault c =
 pub returns-in-Deep : goal.returns-in-Deep
 returns-in-Deep c =
     let s = c.args.text.now in
-    let well = matched answer c.check.ensures.answered c.in-WellFormed.is in
+    let well = matched answer c.check.ensures.answered c.in-Ok.is in
     let at = c.blanks in
     let e = ended_so s well _ _ at.result at.ensures c.keys-walked.ensures.ended c.whole.ensures in
     refused_by s (skip s 0) Refusal.Depth _ (deep_record s well _ (sym c.in-Deep.is ∙ e))

@@ -1,4 +1,5 @@
 -- 8, the three keys one after the other, and the limits: the first that refuses decides.
+use Rattle.counts.proofs.HandedOn.{handed_on}
 use mathlib.Core.Path.{sym, ◌∙◌}
 use borrow.Author.Tests.{not-true, not-false}
 use Rattle.refusal.specs.declared.Refusal.{Refusal}
@@ -10,37 +11,41 @@ use Rattle.judge.proofs.judge_keys.Goals as goal
 pub returns-then-not-walked : goal.returns-then-not-walked
 returns-then-not-walked c = λ text at h. refused_by text at Refusal.NotDict _ (not_dict text at (sym h.of_strings ∙ not-true _ c.if-not-walked.true))
 
-pub returns-in-Refused : goal.returns-in-Refused
-returns-in-Refused c =
+pub returns-in_err-order : goal.returns-in_err-order
+returns-in_err-order c =
     λ text at h.
     let all = sym h.of_strings ∙ not-false _ c.if-not-walked.false in
-    refused_by text at c.in-Refused.why _ (no_order text at all _ _ h.of_order c.in-Refused.is)
+    rw (handed_on _ c.in_err-order.field-0.0 c.from_residual.ensures)
+    (refused_by text at c.in_err-order.field-0.0 _ (no_order text at all _ _ h.of_order c.in_err-order.was))
 
-pub returns-in-Refused-shape_found : goal.returns-in-Refused-shape_found
-returns-in-Refused-shape_found c =
+pub returns-in_err-shape : goal.returns-in_err-shape
+returns-in_err-shape c =
     λ text at h.
     let all = sym h.of_strings ∙ not-false _ c.if-not-walked.false in
-    refused_by text at c.in-Refused-shape_found.why _ (no_shape text at all _ _ h.of_order c.in-Is.is _ (shape_refused text at _ h.of_shape _ c.in-Refused-shape_found.is))
+    rw (handed_on _ c.in_err-shape.field-0.0 c.from_residual-in_err-shape.ensures)
+    (refused_by text at c.in_err-shape.field-0.0 _ (no_shape text at all _ _ h.of_order c.in_ok-order.was _ (shape_refused text at _ h.of_shape _ c.in_err-shape.was)))
 
-pub returns-in-Refused-descr_found : goal.returns-in-Refused-descr_found
-returns-in-Refused-descr_found c =
+pub returns-in_err-descr : goal.returns-in_err-descr
+returns-in_err-descr c =
     λ text at h.
     let all = sym h.of_strings ∙ not-false _ c.if-not-walked.false in
-    let s = shape_is text at _ h.of_shape _ c.in-Is-shape_found.is in
-    refused_by text at c.in-Refused-descr_found.why _ (no_descr text at all _ _ h.of_order c.in-Is.is s.0 s.1 _ (descr_refused text at _ h.of_descr _ c.in-Refused-descr_found.is))
+    let s = shape_is text at _ h.of_shape _ c.in_ok-shape.was in
+    rw (handed_on _ c.in_err-descr.field-0.0 c.from_residual-in_err-descr.ensures)
+    (refused_by text at c.in_err-descr.field-0.0 _ (no_descr text at all _ _ h.of_order c.in_ok-order.was s.0 s.1 _ (descr_refused text at _ h.of_descr _ c.in_err-descr.was)))
 
-pub returns-in-Kept : goal.returns-in-Kept
-returns-in-Kept c =
+pub returns : goal.returns
+returns c =
     λ text at h.
     let all = sym h.of_strings ∙ not-false _ c.if-not-walked.false in
-    let s = shape_is text at _ h.of_shape _ c.in-Is-shape_found.is in
-    let d = descr_is text at _ h.of_descr _ c.in-Is-descr_found.is in
-    limit_kept text at s.0 d.0 _ _ _ s.2 d.2 _ c.within.ensures _ (with_descr text at all _ _ h.of_order c.in-Is.is s.0 s.1 d.0 d.1) c.in-Kept.is
+    let s = shape_is text at _ h.of_shape _ c.in_ok-shape.was in
+    let d = descr_is text at _ h.of_descr _ c.in_ok-descr.was in
+    limit_kept text at s.0 d.0 _ _ _ s.2 d.2 _ c.within.ensures _ (with_descr text at all _ _ h.of_order c.in_ok-order.was s.0 s.1 d.0 d.1) c.in_ok-within.was
 
-pub returns-in-Refused-within : goal.returns-in-Refused-within
-returns-in-Refused-within c =
+pub returns-in_err-within : goal.returns-in_err-within
+returns-in_err-within c =
     λ text at h.
     let all = sym h.of_strings ∙ not-false _ c.if-not-walked.false in
-    let s = shape_is text at _ h.of_shape _ c.in-Is-shape_found.is in
-    let d = descr_is text at _ h.of_descr _ c.in-Is-descr_found.is in
-    refused_by text at c.in-Refused-within.why _ (with_descr text at all _ _ h.of_order c.in-Is.is s.0 s.1 d.0 d.1 ∙ limit_broken text at s.0 d.0 _ _ _ s.2 d.2 _ c.within.ensures _ c.in-Refused-within.is)
+    let s = shape_is text at _ h.of_shape _ c.in_ok-shape.was in
+    let d = descr_is text at _ h.of_descr _ c.in_ok-descr.was in
+    rw (handed_on _ c.in_err-within.field-0.0 c.from_residual-in_err-within.ensures)
+    (refused_by text at c.in_err-within.field-0.0 _ (with_descr text at all _ _ h.of_order c.in_ok-order.was s.0 s.1 d.0 d.1 ∙ limit_broken text at s.0 d.0 _ _ _ s.2 d.2 _ c.within.ensures _ c.in_err-within.was))

@@ -7,4 +7,4 @@ pub returns-in_default : goal.returns-in_default
 returns-in_default c = absurd (never_refused _ _ _ _ (omega arith) c.report.ensures _ c.in_default.is)
 
 pub returns : goal.returns
-returns c = report_written _ _ _ _ (omega arith) c.report.ensures _ c.in-Is.is
+returns c = report_written _ _ _ _ (omega arith) c.report.ensures _ c.in-Ok.is

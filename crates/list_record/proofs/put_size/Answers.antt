@@ -6,4 +6,4 @@ pub returns-in_default : goal.returns-in_default
 returns-in_default c = size_known _ _ _ _ _ _ c.in_default.is c.put_bytes.ensures
 
 pub returns : goal.returns
-returns c = size_known _ _ _ _ _ _ c.in-Sized.is c.put_between.ensures
+returns c = size_known _ _ _ _ _ _ c.in-Some.is c.put_between.ensures

@@ -6,4 +6,4 @@ pub returns-in_default : goal.returns-in_default
 returns-in_default c = type_none _ _ _ _ c.type_of.ensures c.in_default.is
 
 pub returns : goal.returns
-returns c = type_given _ _ _ _ _ _ _ c.type_of.ensures c.in-Type.is c.put.ensures
+returns c = type_given _ _ _ _ _ _ _ c.type_of.ensures c.in-Some.is c.put.ensures

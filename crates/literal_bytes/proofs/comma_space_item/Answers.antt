@@ -9,9 +9,6 @@ use Rattle.literal_bytes.proofs.comma_space_item.Goals as goal
 pub returns-then-text-lt3 : goal.returns-then-text-lt3
 returns-then-text-lt3 c = rw (lt-leb (c.args.at + 3) (length c.args.text.now) (omega arith))
 
-pub returns-then-text-at : goal.returns-then-text-at
-returns-then-text-at c = rw (lt-leb (c.args.at + 3) (length c.args.text.now) (omega arith))
-
 pub returns : goal.returns
 returns c =
     let s = c.args.text.now in

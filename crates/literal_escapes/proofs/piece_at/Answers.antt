@@ -26,7 +26,7 @@ returns-in-8 c =
     let a = c.args in
     let lt = c.if-text-at.false in
     let fits : get_or a.text.now a.at 0 < 256 = omega (arith, c.shared_slice_known-2-1.given a.at) in
-    let known = of_backslash (get_or a.text.now a.at 0) _ fits c.class_of-class.ensures c.in-8.is in
+    let known = of_backslash (get_or a.text.now a.at 0) _ fits c.class_of.ensures c.in-8.is in
     simp (piece_at, lt-ltb _ _ lt, sym (get_d_any a.text.now a.at 0 256 lt), ne_eqb _ _ c.if-b-quote.false, known.0, known.1) c.escape_at.ensures
 
 pub returns-then-is_break : goal.returns-then-is_break
@@ -42,7 +42,7 @@ returns-else-is_break c =
     let a = c.args in
     let lt = c.if-text-at.false in
     let fits : get_or a.text.now a.at 0 < 256 = omega (arith, c.shared_slice_known-2-1.given a.at) in
-    let known = of_blank (get_or a.text.now a.at 0) _ fits c.class_of-class.ensures c.in-0.is in
+    let known = of_blank (get_or a.text.now a.at 0) _ fits c.class_of.ensures c.in-0.is in
     simp (piece_at, lt-ltb _ _ lt, sym (get_d_any a.text.now a.at 0 256 lt), ne_eqb _ _ c.if-b-quote.false, sym c.is_break.ensures, c.if-is_break.false, known)
 
 pub returns-in_default : goal.returns-in_default
@@ -51,5 +51,5 @@ returns-in_default c =
     let a = c.args in
     let lt = c.if-text-at.false in
     let fits : get_or a.text.now a.at 0 < 256 = omega (arith, c.shared_slice_known-2-1.given a.at) in
-    let known = of_another (get_or a.text.now a.at 0) _ fits c.class_of-class.ensures c.in_default.in_default-own.rest.0.1 c.in_default.in_default-own.rest.1 in
+    let known = of_another (get_or a.text.now a.at 0) _ fits c.class_of.ensures c.in_default.in_default-own.rest.0.1 c.in_default.in_default-own.rest.1 in
     simp (piece_at, lt-ltb _ _ lt, sym (get_d_any a.text.now a.at 0 256 lt), ne_eqb _ _ c.if-b-quote.false, known.0, known.1)

@@ -1,11 +1,8 @@
--- The invariant: the first low byte among those passed is at `first`; or none was, and the run continues.
-use Prim.Native.Nat.{◌-◌}
-use Rattle.literal_runs.specs.Low.{is_low}
-use Rattle.literal_runs.proofs.Firsts.{Found}
+-- The invariant: among the bytes from place i on the first low one is at `first`.
+use mathlib.Core.Path.{◌≡◌}
+use Rattle.literal_bytes.specs.Text.{past}
+use Rattle.literal_runs.specs.Low.{is_high}
 use Rattle.literal_runs.proofs.first_low.Given as goal
 
 abbrev pub invariant-loop-i : goal.invariant-loop-i
-invariant-loop-i l = Found is_low l.block l.i l.first
-
-abbrev pub decreases-loop-i : goal.decreases-loop-i
-decreases-loop-i l = 16 - l.i
+invariant-loop-i l = l.first ≡ past is_high l.block l.i

@@ -61,7 +61,7 @@ returns-in-Close c =
     let to = c.plain_to-to.result in
     let w = along_plain q s from l.at to l.invariant.0 l.escape c.plain_to-to.ensures l.invariant.2 in
     let n = plain_count q s l.at to c.plain_to-to.ensures l.invariant.0 l.len l.invariant.1 in
-    let e = along_close q s from to _ l.escape _ w (sym c.piece_at-p.ensures ∙ c.in-Close.is) in
+    let e = along_close q s from to _ l.escape _ w (sym c.piece_at.ensures ∙ c.in-Close.is) in
     rw n (sym (ap scanned e))
 
 pub returns-in-Bad : goal.returns-in-Bad
@@ -73,7 +73,7 @@ returns-in-Bad c =
     let to = c.plain_to-to.result in
     let w = along_plain q s from l.at to l.invariant.0 l.escape c.plain_to-to.ensures l.invariant.2 in
     let n = plain_count q s l.at to c.plain_to-to.ensures l.invariant.0 l.len l.invariant.1 in
-    let e = along_bad q s from to _ l.escape _ w (sym c.piece_at-p.ensures ∙ c.in-Bad.is) in
+    let e = along_bad q s from to _ l.escape _ w (sym c.piece_at.ensures ∙ c.in-Bad.is) in
     rw n (sym (ap scanned e))
 
 pub overflow_add-len-in-Byte : goal.overflow_add-len-in-Byte
@@ -85,14 +85,14 @@ overflow_add-len-in-Byte c =
     let to = c.plain_to-to.result in
     let w = along_plain q s from l.at to l.invariant.0 l.escape c.plain_to-to.ensures l.invariant.2 in
     let n = plain_count q s l.at to c.plain_to-to.ensures l.invariant.0 l.len l.invariant.1 in
-    let ahead = byte_ahead q s to _ _ (sym c.piece_at-p.ensures ∙ c.in-Byte.is) in
+    let ahead = byte_ahead q s to _ _ (sym c.piece_at.ensures ∙ c.in-Byte.is) in
     omega (arith, n, w.far)
 
 pub loop-escape-smaller : goal.loop-escape-smaller
 loop-escape-smaller c =
     let q = c.args.quote in
     let s = c.args.text.now in
-    let ahead = byte_ahead q s c.plain_to-to.result _ _ (sym c.piece_at-p.ensures ∙ c.in-Byte.is) in
+    let ahead = byte_ahead q s c.plain_to-to.result _ _ (sym c.piece_at.ensures ∙ c.in-Byte.is) in
     omega (arith, plain_from q s c.loop-escape.at c.plain_to-to.result c.plain_to-to.ensures)
 
 pub loop-escape-preserved : goal.loop-escape-preserved
@@ -104,7 +104,7 @@ loop-escape-preserved c =
     let to = c.plain_to-to.result in
     let w = along_plain q s from l.at to l.invariant.0 l.escape c.plain_to-to.ensures l.invariant.2 in
     let n = plain_count q s l.at to c.plain_to-to.ensures l.invariant.0 l.len l.invariant.1 in
-    let h = sym c.piece_at-p.ensures ∙ c.in-Byte.is in
+    let h = sym c.piece_at.ensures ∙ c.in-Byte.is in
     let us = l.invariant.0 ++ part s l.at to in
     let b = c.in-Byte.field-0 in
     let esc = ap (λ (x : Bool). l.escape || x) (plain_escape q s l.at to c.plain_to-to.ensures _ _ h) ∙ or-true l.escape in

@@ -1,4 +1,4 @@
--- The loop keeps that the first i numbers are the head's bytes, and the measure is how many are left.
+-- The first i numbers are the head's bytes.
 use native.Mathlib.Omega.{arith}
 use mathlib.Core.Path.{refl}
 use Rattle.header_feed.proofs.Copies.{copying_start}
@@ -10,7 +10,7 @@ pub loop-i-init : goal.loop-i-init
 loop-i-init c = copying_start _ 0 _ 12 (search rules) (omega (arith, c.well_formed.0.1.0.1))
 
 pub loop-i-preserved : goal.loop-i-preserved
-loop-i-preserved c = head_next _ _ _ _ c.loop-i.invariant c.loop-i-test.true
+loop-i-preserved c = head_next _ _ _ _ c.loop-i.invariant (omega arith)
 
 pub returns : goal.returns
-returns c = head_end _ c.args.head _ _ _ refl c.well_formed.0.1.0.1 c.loop-i.invariant c.loop-i-test.false
+returns c = head_end _ c.args.head _ _ _ refl c.well_formed.0.1.0.1 c.loop-i.invariant (omega arith)

@@ -1,10 +1,6 @@
--- The loop keeps that the first i numbers are the head's bytes, and the measure is how many are left.
-use Prim.Native.Nat.{◌-◌}
+-- The first i numbers are the head's bytes.
 use Rattle.header_feed.proofs.Copies.{Copying}
 use Rattle.npy_codes.proofs.with_head.Given as goal
 
 abbrev pub invariant-loop-i : goal.invariant-loop-i
 invariant-loop-i l = Copying l.initial.numbers 0 l.head 12 l.i l.numbers
-
-abbrev pub decreases-loop-i : goal.decreases-loop-i
-decreases-loop-i l = 12 - l.i

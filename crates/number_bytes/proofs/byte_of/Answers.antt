@@ -1,20 +1,18 @@
--- `number_bytes::byte_of` meets its contract: a division by 256 makes byte k into byte k - 1. The measure is what is left of k.
-use mathlib.Core.Path.{refl, sym, ◌∙◌}
+-- `number_bytes::byte_of` meets its contract: the library's eight bytes are the number's, and there are no others (`eight_bytes`).
+use Prim.Native.Nat.{ℕ}
+use mathlib.Core.Path.{ap, ◌∙◌}
+use mathlib.Core.List.{List}
 use native.Mathlib.Omega.{arith}
-use Rattle.number_bytes.proofs.Runs.{byte_less, byte_least}
+use lib.ListN.{get_or}
+use Rattle.std.specs.Prelude.{Option}
+use Rattle.std.specs.Option.{unwrap_or}
+use Rattle.number_bytes.proofs.Runs.{eight_bytes}
 use Rattle.number_bytes.proofs.byte_of.Goals as goal
 
-pub loop-left-init : goal.loop-left-init
-loop-left-init c = refl
-
-pub overflow_sub-left : goal.overflow_sub-left
-overflow_sub-left c = omega arith
-
-pub loop-left-smaller : goal.loop-left-smaller
-loop-left-smaller c = omega arith
-
-pub loop-left-preserved : goal.loop-left-preserved
-loop-left-preserved c = sym (byte_less _ _ c.loop-left-test.true) ∙ c.loop-left.invariant
-
 pub returns : goal.returns
-returns c = sym (byte_least _ _ c.loop-left-test.false) ∙ c.loop-left.invariant
+returns c =
+    c.unwrap_or.ensures
+    ∙ ap (λ (o : Option ℕ). unwrap_or o 0) c.copied.ensures
+    ∙ c.get.ensures.lookup.4 (omega arith) 0
+    ∙ ap (λ (l : List ℕ). get_or l c.args.k 0) c.to_le_bytes.ensures
+    ∙ eight_bytes c.args.k c.args.n c.ranges.n.fits

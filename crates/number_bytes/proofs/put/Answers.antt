@@ -1,20 +1,26 @@
--- `number_bytes::put` meets its contract: each turn writes one byte more. The measure is what is left of the width.
-use mathlib.Core.Path.{refl}
+-- `number_bytes::put` meets its contract: each turn writes one byte more.
+use Prim.Native.Nat.{ℕ}
+use mathlib.Core.Path.{◌≡◌, refl, sym, ap, ◌∙◌}
 use mathlib.Core.List.{◌∷◌, ◌++◌}
-use native.Mathlib.Omega.{arith}
 use Rattle.emit.proofs.Pieces.{left_start, left_more, left_end, emits_byte}
-use Rattle.number_bytes.specs.Numbers.{out_order}
-use Rattle.number_bytes.proofs.Runs.{length_out}
+use Rattle.number_bytes.specs.Numbers.{byte_of, out_order}
+use Rattle.number_bytes.proofs.Runs.{length_out, weight, weight_front, weight_back, out_at}
 use Rattle.number_bytes.proofs.put.Goals as goal
+use Rattle.number_bytes.proofs.put.Goals.{Joined-order, in-Little, in-Big}
 
 pub loop-i-init : goal.loop-i-init
 loop-i-init c = left_start ◌∷◌ ◌++◌ (λ x. refl) (λ b s x. refl) (out_order _ _ _) _ _
 
-pub loop-i-smaller : goal.loop-i-smaller
-loop-i-smaller c = omega arith
+which : (c : goal.Joined-order) → c.match-order.k ≡ weight c.args.order c.args.width c.loop-i.i
+which c = elim c.match-order.branch [
+  | in-Little w ↦ w.k-is ∙ sym (weight_front _ _ _ w.in-Little.is)
+  | in-Big w ↦ w.k-is ∙ sym (weight_back _ _ _ w.in-Big.is)
+]
 
 pub loop-i-preserved : goal.loop-i-preserved
-loop-i-preserved c = left_more ◌∷◌ ◌++◌ (λ x. refl) (λ b s x. refl) (out_order _ _ _) _ _ _ _ _ _ _ c.loop-i.invariant (rw length_out c.loop-i-test.true) (emits_byte _ _ _ _ _ _ c.byte_out.ensures c.put-p.ensures)
+loop-i-preserved c =
+    let byte = c.byte_of.ensures ∙ ap (λ (k : ℕ). byte_of k c.args.n) (which (goal.at.loop-i-preserved c).Joined-order) ∙ out_at _ _ _ _ c.loop-i-test.true in
+    left_more ◌∷◌ ◌++◌ (λ x. refl) (λ b s x. refl) (out_order _ _ _) _ _ _ _ _ _ _ c.loop-i.invariant (rw length_out c.loop-i-test.true) (emits_byte _ _ _ _ _ _ byte c.put-p.ensures)
 
 pub shape_of-out : goal.shape_of-out
 shape_of-out c = c.loop-i.invariant.same

@@ -1,5 +1,4 @@
--- `number_bytes::put` meets its contract: each turn writes one byte more. The measure is what is left of the width.
-use Prim.Native.Nat.{◌-◌}
+-- `number_bytes::put` meets its contract: each turn writes one byte more.
 use mathlib.Core.List.{◌++◌}
 use Rattle.emit.proofs.Pieces.{Left}
 use Rattle.number_bytes.specs.Numbers.{out_order}
@@ -7,6 +6,3 @@ use Rattle.number_bytes.proofs.put.Given as goal
 
 abbrev pub invariant-loop-i : goal.invariant-loop-i
 invariant-loop-i l = Left ◌++◌ (out_order l.order l.width l.n) l.initial.out l.at l.out l.p l.i
-
-abbrev pub decreases-loop-i : goal.decreases-loop-i
-decreases-loop-i l = l.width - l.i

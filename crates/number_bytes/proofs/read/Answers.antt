@@ -1,8 +1,11 @@
--- `number_bytes::read` meets its contract: n is the number in the bytes from k on, the least significant first. The measure is k.
-use mathlib.Core.Path.{sym, ◌∙◌}
+-- `number_bytes::read` meets its contract: n is the number in the bytes from k on, the least significant first.
+use Prim.Native.Nat.{ℕ, ◌-◌}
+use mathlib.Core.Path.{◌≡◌, sym, ap, ◌∙◌}
 use native.Mathlib.Omega.{arith}
-use Rattle.number_bytes.proofs.Runs.{length_least, reading_start, reading_more, reading_over, reading_end, judged}
+use lib.ListN.{length, get_or}
+use Rattle.number_bytes.proofs.Runs.{length_least, weight, weight_front, weight_back, in_at, reading_start, reading_more, reading_over, reading_end, judged}
 use Rattle.number_bytes.proofs.read.Goals as goal
+use Rattle.number_bytes.proofs.read.Goals.{Joined-order, in-Little, in-Big}
 
 pub loop-k-init : goal.loop-k-init
 loop-k-init c = reading_start _ _ (sym (length_least c.args.order c.args.run.now))
@@ -10,14 +13,17 @@ loop-k-init c = reading_start _ _ (sym (length_least c.args.order c.args.run.now
 pub returns-then-n-gt72057594037927935 : goal.returns-then-n-gt72057594037927935
 returns-then-n-gt72057594037927935 c = judged _ _ (reading_over _ _ _ c.loop-k-test.true c.loop-k.invariant c.if-n-gt72057594037927935.true)
 
-pub overflow_sub-k : goal.overflow_sub-k
-overflow_sub-k c = omega arith
-
-pub loop-k-smaller : goal.loop-k-smaller
-loop-k-smaller c = omega arith
+place : (c : goal.Joined-order) → c.match-order.place ≡ weight c.args.order (length c.args.run.now) (c.loop-k.k - 1)
+place c = elim c.match-order.branch [
+  | in-Little w ↦ w.place-is ∙ sym (weight_front _ _ _ w.in-Little.is)
+  | in-Big w ↦ w.place-is ∙ sym (weight_back _ _ _ w.in-Big.is)
+]
 
 pub loop-k-preserved : goal.loop-k-preserved
-loop-k-preserved c = reading_more _ _ _ _ c.loop-k-test.true c.loop-k.invariant (c.as_u64.ensures ∙ c.byte_in.ensures) (omega arith)
+loop-k-preserved c =
+    let run = c.args.run.now in
+    let byte = ap (λ (i : ℕ). get_or run i 0) (place (goal.at.loop-k-preserved c).Joined-order) ∙ in_at c.args.order run (c.loop-k.k - 1) (omega arith) in
+    reading_more _ _ _ _ c.loop-k-test.true c.loop-k.invariant byte (omega (arith, c.if-n-gt72057594037927935.false, c.type_inv.run c.match-order.place))
 
 pub returns : goal.returns
 returns c = judged _ _ (reading_end _ _ _ c.loop-k-test.false c.loop-k.invariant)

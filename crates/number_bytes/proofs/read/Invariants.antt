@@ -1,10 +1,7 @@
--- `number_bytes::read` meets its contract: n is the number in the bytes from k on, the least significant first. The measure is k.
+-- `number_bytes::read` meets its contract: n is the number in the bytes from k on, the least significant first.
 use Rattle.number_bytes.specs.Numbers.{least_first}
 use Rattle.number_bytes.proofs.Runs.{Reading}
 use Rattle.number_bytes.proofs.read.Given as goal
 
 abbrev pub invariant-loop-k : goal.invariant-loop-k
 invariant-loop-k l = Reading (least_first l.order l.run) l.k l.n
-
-abbrev pub decreases-loop-k : goal.decreases-loop-k
-decreases-loop-k l = l.k

@@ -17,7 +17,7 @@ pub returns-in_default : goal.returns-in_default
 returns-in_default c = into_over _ _ _ _ c.entry_at-entry.ensures c.if-entry-i.false c.if-entry-eq-ARRAY.true _ c.entry_at-inner.ensures (sym c.in_default.is ∙ c.of_size.ensures)
 
 pub returns-then-entry-eq-ARRAY : goal.returns-then-entry-eq-ARRAY
-returns-then-entry-eq-ARRAY c = into _ _ _ _ c.entry_at-entry.ensures c.if-entry-i.false c.if-entry-eq-ARRAY.true _ c.entry_at-inner.ensures _ (sym c.in-Is.is ∙ c.of_size.ensures)
+returns-then-entry-eq-ARRAY c = into _ _ _ _ c.entry_at-entry.ensures c.if-entry-i.false c.if-entry-eq-ARRAY.true _ c.entry_at-inner.ensures _ (sym c.in-Some.is ∙ c.of_size.ensures)
 
 pub field_at-requires : goal.field_at-requires
 field_at-requires c = field_asks _ _ _ _ c.entry_at-entry.ensures c.if-entry-i.false c.if-entry-eq-PLAIN.false c.if-entry-eq-ARRAY.false c.requires

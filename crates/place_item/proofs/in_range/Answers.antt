@@ -1,4 +1,4 @@
--- `place_item::in_range` meets its contract. The loop keeps that each number passed is in range; the measure is what is left of the rank.
+-- `place_item::in_range` meets its contract. The loop keeps that each number passed is in range.
 use Rattle.place_item.proofs.Sums.{wrong_length, out_at, all_in}
 use borrow.Author.Count.{below_more}
 use native.Mathlib.Omega.{arith}

@@ -5,4 +5,4 @@ use Rattle.counts.proofs.Counted.{held_bytes_lem}
 use Rattle.saturating.proofs.held_sum.Goals as goal
 
 pub returns : goal.returns
-returns c = c.held.ensures ∙ ap held_bytes c.plus-sum.ensures ∙ held_bytes_lem _
+returns c = c.held.ensures ∙ ap held_bytes c.plus.ensures ∙ held_bytes_lem _

@@ -58,4 +58,4 @@ pub loop-g-preserved : goal.loop-g-preserved
 loop-g-preserved c =
     let a = c.args in
     let l = c.loop-g in
-    filling_more a.room a.text.now a.close a.from a.out.now l.out l.g l.i l.invariant _ c.member_at-m.result.ended c.in-Item.is c.member_at-m.ensures.ended_value c.member_at-m.result.size c.member_at-m.ensures.size_at _ c.in-Value.is c.ranges.close.fits _ c.then_at-g.result _ c.in-Is.is c.put.ensures c.then_at-g.ensures
+    filling_more a.room a.text.now a.close a.from a.out.now l.out l.g l.i l.invariant _ c.member_at-m.result.ended c.in-Item.is c.member_at-m.ensures.ended_value c.member_at-m.result.size c.member_at-m.ensures.size_at _ c.in-Value.is c.ranges.close.fits _ c.then_at-g.result _ c.in-Ok.is c.put.ensures c.then_at-g.ensures

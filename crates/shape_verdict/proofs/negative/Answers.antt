@@ -1,14 +1,13 @@
--- By the two cases of the number, and whether it is 0.
-use mathlib.Core.Path.{sym, ap}
-use Rattle.shape_verdict.specs.Signs.{negative_of}
-use Rattle.shape_verdict.proofs.Signs.{negative_zero, negative_more, negative_over, zero_after, more_after}
+-- By whether there is a number, and whether it is 0.
+use mathlib.Core.Path.{sym, ◌∙◌}
+use Rattle.shape_verdict.proofs.Signs.{negative_zero, negative_more, negative_over}
 use Rattle.shape_verdict.proofs.negative.Goals as goal
 
-pub returns-then-n-eq0 : goal.returns-then-n-eq0
-returns-then-n-eq0 c = record { by_index = (λ m e. negative_zero _ _ m c.in-Is.is c.if-n-eq0.true e); value = zero_after _ _ c.in-Is.is c.if-n-eq0.true }
+pub returns-in-Some-eq0-clause-by_index : goal.returns-in-Some-eq0-clause-by_index
+returns-in-Some-eq0-clause-by_index c = λ m e. negative_zero _ _ m c.in-Some-eq0.is (sym c.in-Some-eq0.field-0-is ∙ c.in-Some-eq0.field-0-test) e
 
-pub returns-else-n-eq0 : goal.returns-else-n-eq0
-returns-else-n-eq0 c = record { by_index = (λ m e. negative_more _ _ m c.in-Is.is c.if-n-eq0.false e); value = more_after _ _ c.in-Is.is c.if-n-eq0.false }
+pub returns-in_default-clause-by_index : goal.returns-in_default-clause-by_index
+returns-in_default-clause-by_index c = λ m e. negative_more _ _ m c.in_default.is (λ z. c.in_default.field-0-test.1 (c.in_default.field-0-is ∙ z)) e
 
-pub returns-in-Over : goal.returns-in-Over
-returns-in-Over c = record { by_index = (λ m e. negative_over _ m c.in-Over.is e); value = ap negative_of (sym c.in-Over.is) }
+pub returns-in_default-2-clause-by_index : goal.returns-in_default-2-clause-by_index
+returns-in_default-2-clause-by_index c = λ m e. negative_over _ m c.in_default.is e

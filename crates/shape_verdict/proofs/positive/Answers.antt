@@ -1,11 +1,8 @@
--- By the two cases of the number.
-use mathlib.Core.Path.{sym, ap}
-use Rattle.shape_verdict.specs.Signs.{positive_of}
-use Rattle.shape_verdict.proofs.Signs.{positive_is, positive_over}
+-- The dimension is what `ok_or` says.
+use mathlib.Core.Path.{ap, ◌∙◌}
+use Rattle.refusal.specs.Answers.{answer}
+use Rattle.shape_verdict.proofs.Signs.{positive_signed}
 use Rattle.shape_verdict.proofs.positive.Goals as goal
 
-pub returns-in-Is : goal.returns-in-Is
-returns-in-Is c = record { by_index = (λ m e. positive_is _ _ m c.in-Is.is e); value = ap positive_of (sym c.in-Is.is) }
-
-pub returns-in-Over : goal.returns-in-Over
-returns-in-Over c = record { by_index = (λ m e. positive_over _ m c.in-Over.is e); value = ap positive_of (sym c.in-Over.is) }
+pub returns-clause-by_index : goal.returns-clause-by_index
+returns-clause-by_index c = λ m e. ap answer c.ok_or.ensures.value ∙ positive_signed _ m e

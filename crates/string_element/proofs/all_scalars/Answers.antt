@@ -1,28 +1,20 @@
--- `string_element::all_scalars` meets its contract: all is judged by what is left, since all that was passed are scalar values. The measure is what is left.
-use mathlib.Core.Path.{refl, sym, ◌∙◌}
-use native.Mathlib.Omega.{arith}
-use native.Mathlib.Numerals.{add-one}
-use borrow.Author.Tests.{not-true, not-false}
-use Rattle.string_value.proofs.Scalars.{scalars_more, scalars_bad, scalars_end}
+-- `string_element::all_scalars` meets its contract: its definition says by recursion what `all` says of each.
+use Prim.Native.Nat.{ℕ}
+use mathlib.Core.Path.{◌≡◌, refl, ap, ◌∙◌}
+use mathlib.Core.Bool.{Bool, ◌&&◌}
+use mathlib.Core.List.{List, [], ◌∷◌}
+use borrow.Author.Tests.{tests}
+use Rattle.std.specs.List.{list_all}
+use Rattle.std.proofs.Common.{rules}
+use Rattle.std.proofs.lemmas.Iterator.{YieldsList-from_slice}
+use Rattle.std.proofs.lemmas.Iterator.Search.{all_from_yields_List}
+use Rattle.utf8_scalar.specs.Scalar.{is_scalar, all_scalars}
 use Rattle.string_element.proofs.all_scalars.Goals as goal
 
-pub loop-i-init : goal.loop-i-init
-loop-i-init c = (omega arith, refl)
-
-pub bounds-value-i : goal.bounds-value-i
-bounds-value-i c = omega arith
-
-pub returns-then-not-is_scalar : goal.returns-then-not-is_scalar
-returns-then-not-is_scalar c = sym (c.loop-i.invariant.1 ∙ scalars_bad _ _ c.loop-i-test.true (sym c.is_scalar.ensures ∙ not-true _ c.if-not-is_scalar.true-raw))
-
-pub overflow_add-i : goal.overflow_add-i
-overflow_add-i c = omega arith
-
-pub loop-i-smaller : goal.loop-i-smaller
-loop-i-smaller c = omega arith
-
-pub loop-i-preserved : goal.loop-i-preserved
-loop-i-preserved c = (omega arith, rw add-one (c.loop-i.invariant.1 ∙ scalars_more _ _ c.loop-i-test.true (sym c.is_scalar.ensures ∙ not-false _ c.if-not-is_scalar.false-raw)))
+by_each : (l : List ℕ) → list_all is_scalar l ≡ all_scalars l
+by_each [] = refl
+by_each (c ∷ l) = ap (λ (b : Bool). is_scalar c && b) (by_each l)
 
 pub returns : goal.returns
-returns c = sym (c.loop-i.invariant.1 ∙ scalars_end _ _ c.loop-i-test.false)
+returns c =
+    all_from_yields_List is_scalar _ _ c.all.result c.all.ensures.ran (YieldsList-from_slice c.args.value.now cc) (λ x b q k. search (rules, tests)) ∙ by_each _

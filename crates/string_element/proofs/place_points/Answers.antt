@@ -11,9 +11,9 @@ pub returns-in_default : goal.returns-in_default
 returns-in_default c = owes_short 28 _ _ (omega (arith, length_filled_points c.args.order c.args.size.0 c.args.value.now c.requires, bytes_over_lem _ (sym c.in_bytes.ensures ∙ c.in_default.is)))
 
 pub returns-then-out-bytes : goal.returns-then-out-bytes
-returns-then-out-bytes c = owes_short 28 _ _ (omega (arith, length_filled_points c.args.order c.args.size.0 c.args.value.now c.requires, bytes_is _ _ (sym c.in_bytes.ensures ∙ c.in-Is.is)))
+returns-then-out-bytes c = owes_short 28 _ _ (omega (arith, length_filled_points c.args.order c.args.size.0 c.args.value.now c.requires, bytes_is _ _ (sym c.in_bytes.ensures ∙ c.in-Some.is)))
 
 pub returns : goal.returns
 returns c = let long = length_filled_points c.args.order c.args.size.0 c.args.value.now c.requires in
-    let fits = bytes_is _ _ (sym c.in_bytes.ensures ∙ c.in-Is.is) in
+    let fits = bytes_is _ _ (sym c.in_bytes.ensures ∙ c.in-Some.is) in
     owes_emitted 28 _ _ _ _ _ _ refl c.put_points.ensures (omega arith) (sym (long ∙ fits))

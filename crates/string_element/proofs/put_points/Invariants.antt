@@ -1,11 +1,7 @@
--- `string_element::put_points` meets its contract: each turn writes one code point more of the value filled up. The measure is what is left of the size.
-use Prim.Native.Nat.{◌-◌}
+-- `string_element::put_points` meets its contract: each turn writes one code point more of the value filled up.
 use Rattle.emit.proofs.Pieces.{Left}
 use Rattle.string_value.specs.Runs.{zero_filled, point_bytes}
 use Rattle.string_element.proofs.put_points.Given as goal
 
 abbrev pub invariant-loop-i : goal.invariant-loop-i
-invariant-loop-i l = Left (point_bytes l.order) (zero_filled l.size.0 l.value) l.initial.out 0 l.out l.p l.i
-
-abbrev pub decreases-loop-i : goal.decreases-loop-i
-decreases-loop-i l = l.size.0 - l.i
+invariant-loop-i l = Left (point_bytes l.order) (zero_filled l.fn.size.0 l.value) l.initial.out 0 l.out l.p l.i

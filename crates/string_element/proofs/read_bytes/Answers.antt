@@ -25,12 +25,12 @@ typed : (c : goal.Else-not-is_type) → is_type c.args.t ≡ true
 typed c = sym c.is_type.ensures ∙ not-false _ c.if-not-is_type.false-raw
 
 pub slice_bounds-copy-end : goal.slice_bounds-copy-end
-slice_bounds-copy-end c = sym (length-take-le _ _ (omega (arith, c.kept-n.ensures, trim_length c.args.run.now)))
+slice_bounds-copy-end c = sym (length-take-le _ _ (omega (arith, c.kept.ensures, trim_length c.args.run.now)))
 
 pub returns-in-ByteStr : goal.returns-in-ByteStr
 returns-in-ByteStr c =
     let a = c.args in
-    let left = ap (λ (n : ℕ). take n a.run.now) c.kept-n.ensures ∙ trim_take a.run.now in
+    let left = ap (λ (n : ℕ). take n a.run.now) c.kept.ensures ∙ trim_take a.run.now in
     owes_same _ _ _ _ _
     (read_bytes_by a.t a.run.now _ (typed (goal.at.returns-in-ByteStr c).Else-not-is_type) _ (in_bytes _ _ c.in-ByteStr.is))
     (rw left at c.copy.ensures)

@@ -1,4 +1,5 @@
 -- `string_element::read_points` meets its contract: 27; only U has code points; then what was judged, and the room.
+use Rattle.counts.proofs.HandedOn.{handed_on}
 use mathlib.Core.Path.{◌≡◌, sym, ◌∙◌}
 use mathlib.Core.Bool.{true}
 use borrow.Author.Tests.{not-true, not-false}
@@ -24,26 +25,25 @@ typed c = sym c.is_type.ensures ∙ not-false _ c.if-not-is_type.false-raw
 unicode : (c : goal.Else-not-is_unicode) → is_unicode c.args.t.letter ≡ true
 unicode c = sym c.is_unicode.ensures ∙ not-false _ c.if-not-is_unicode.false-raw
 
-pub returns-in_default : goal.returns-in_default
-returns-in_default c =
-    rw c.in_default.is
-    (owes_same _ _ _ _ _ (read_points_bad _ _ _ (typed (goal.at.returns-in_default c).Else-not-is_unicode) (unicode (goal.at.returns-in_default c).Else-not-is_unicode) _ (matched points_answer c.judge-judged.ensures c.in_default.is)) (owes_refused _ _))
+pub returns-in_err-n : goal.returns-in_err-n
+returns-in_err-n c = rw (handed_on _ c.in_err-n.field-0.0 c.from_residual.ensures)
+    ((owes_same _ _ _ _ _ (read_points_bad _ _ _ (typed (goal.at.returns-in_err-n c).Else-not-is_unicode) (unicode (goal.at.returns-in_err-n c).Else-not-is_unicode) _ (matched points_answer c.judge.ensures c.in_err-n.was)) (owes_refused _ _)))
 
 pub returns-then-out-n : goal.returns-then-out-n
 returns-then-out-n c =
     read_points_short _ _ _ (typed (goal.at.returns-then-out-n c).Else-not-is_unicode) (unicode (goal.at.returns-then-out-n c).Else-not-is_unicode) _
-    (matched points_answer c.judge-judged.ensures c.in-Is.is) c.if-out-n.true
+    (matched points_answer c.judge.ensures c.in_ok-n.was) c.if-out-n.true
 
 pub copy_points-requires : goal.copy_points-requires
 copy_points-requires c =
     let a = c.args in (
       read_points_inside _ a.run.now a.out.now (typed (goal.at.copy_points-requires c).Else-not-is_unicode) (unicode (goal.at.copy_points-requires c).Else-not-is_unicode) _
-          (matched points_answer c.judge-judged.ensures c.in-Is.is),
+          (matched points_answer c.judge.ensures c.in_ok-n.was),
       c.if-out-n.false,
     )
 
 pub returns : goal.returns
 returns c =
     read_points_whole _ _ _ (typed (goal.at.returns c).Else-not-is_unicode) (unicode (goal.at.returns c).Else-not-is_unicode) _
-    (matched points_answer c.judge-judged.ensures c.in-Is.is) _ _
+    (matched points_answer c.judge.ensures c.in_ok-n.was) _ _
     c.if-out-n.false c.copy_points.ensures.0 c.copy_points.ensures.1

@@ -1,6 +1,7 @@
 -- `table_entry::order_of` meets its contract: no order is over 255.
+use native.Mathlib.Omega.{arith}
 use Rattle.table_entry.proofs.Types.{order_past}
 use Rattle.table_entry.proofs.order_of.Goals as goal
 
-pub returns-then-n-gt-LAST_BYTE : goal.returns-then-n-gt-LAST_BYTE
-returns-then-n-gt-LAST_BYTE c = order_past _ c.if-n-gt-LAST_BYTE.true
+pub returns-in_err-ok : goal.returns-in_err-ok
+returns-in_err-ok c = rw c.from_residual.ensures (order_past _ (grind arith))

@@ -16,9 +16,6 @@ bounds-shape-k c = omega (arith, c.loop-k.invariant.low, c.loop-k-test.true)
 pub bounds-shape-k-in-loop-k : goal.bounds-shape-k-in-loop-k
 bounds-shape-k-in-loop-k c = omega (arith, c.loop-k.invariant.low, c.loop-k-test.true)
 
-pub loop-k-smaller : goal.loop-k-smaller
-loop-k-smaller c = omega (arith, c.loop-k-test.true)
-
 pub loop-k-preserved : goal.loop-k-preserved
 loop-k-preserved c =
     let a = c.args in

@@ -10,4 +10,4 @@ returns-then-rank-eq0 c = let a = c.args in
 
 pub returns : goal.returns
 returns c =
-    let a = c.args in record { value = c.put_levels.ensures.value; table_after = (over_some a.shape.now a.entry a.up a.name a.stop a.size.0 a.table.now c.if-rank-eq0.false c.entries_between-count.result c.capped_sum-last.result _ _ c.entries_between-count.ensures c.capped_sum-last.ensures c.lift.ensures c.put_levels.ensures.table_after) }
+    let a = c.args in record { value = c.put_levels.ensures.value; table_after = (over_some a.shape.now a.entry a.up a.name a.stop a.size.0 a.table.now c.if-rank-eq0.false c.entries_between-count.result c.saturating_add-last.result _ _ c.entries_between-count.ensures c.saturating_add-last.ensures c.lift.ensures c.put_levels.ensures.table_after) }

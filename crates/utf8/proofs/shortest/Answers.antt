@@ -2,12 +2,13 @@
 use mathlib.Core.Path.{sym, ◌∙◌}
 use Rattle.utf8.proofs.Decoding.{shortest_is, shortest_low, shortest_not}
 use Rattle.utf8.proofs.shortest.Goals as goal
-
-pub returns-then-value-least : goal.returns-then-value-least
-returns-then-value-least c = sym (shortest_low _ _ _ c.if-value-least.true)
+use Rattle.utf8.proofs.shortest.Goals.{else-least-value-via-then-least-value+else-is_scalar, else-least-value-via-else-least-value}
 
 pub returns-then-is_scalar : goal.returns-then-is_scalar
-returns-then-is_scalar c = sym (shortest_is _ _ _ c.if-value-least.false (sym c.is_scalar.ensures ∙ c.if-is_scalar.true))
+returns-then-is_scalar c = sym (shortest_is _ _ _ c.if-least-value.true (sym c.is_scalar.ensures ∙ c.if-is_scalar.true))
 
-pub returns-else-is_scalar : goal.returns-else-is_scalar
-returns-else-is_scalar c = sym (shortest_not _ _ _ c.if-value-least.false (sym c.is_scalar.ensures ∙ c.if-is_scalar.false))
+pub returns-else-least-value : goal.returns-else-least-value
+returns-else-least-value c = elim c.else-least-value.branch [
+  | else-least-value-via-then-least-value+else-is_scalar w ↦ sym (shortest_not _ _ _ w.if-least-value.true (sym w.is_scalar.ensures ∙ w.if-is_scalar.false))
+  | else-least-value-via-else-least-value w ↦ sym (shortest_low _ _ _ w.if-least-value.false)
+]

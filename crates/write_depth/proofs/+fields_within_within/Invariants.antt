@@ -13,8 +13,5 @@ decreases-fields_within l = 2 * (length l.table.now - l.e) + 1
 abbrev pub decreases-within : goal.decreases-within
 decreases-within l = 2 * (length l.table.now - l.e)
 
-abbrev pub invariant-fields_within-loop-left : goal.invariant-fields_within-loop-left
-invariant-fields_within-loop-left l = (fs : Fields) → l.count ≡ field_count fs → FieldsInTableAt l.table l.e fs → Passing l.table l.e l.k l.c l.left fs
-
-abbrev pub decreases-fields_within-loop-left : goal.decreases-fields_within-loop-left
-decreases-fields_within-loop-left l = l.left
+abbrev pub invariant-fields_within-loop : goal.invariant-fields_within-loop
+invariant-fields_within-loop l = (fs : Fields) → l.count ≡ field_count fs → FieldsInTableAt l.table l.e fs → Passing l.table l.e l.k l.c l.counter fs

@@ -1,18 +1,20 @@
--- `write_padding::put_spaces` meets its contract: each turn writes one space. The measure is how many are left.
-use Prim.Native.Nat.{◌-◌}
+-- `write_padding::put_spaces` meets its contract: each turn writes one space.
+use Prim.Native.Nat.{◌+◌, ◌-◌}
+use mathlib.Core.Path.{◌≡◌}
 use mathlib.Core.List.{◌∷◌}
+use native.Mathlib.Omega.{arith}
 use Rattle.literal_grammar.specs.Print.{spaces}
 use Rattle.write_padding.proofs.Texts.{still_start, still_more, still_end, spaces_next, spaces_none}
 use Rattle.write_padding.proofs.put_spaces.Goals as goal
 
-pub loop-left-init : goal.loop-left-init
-loop-left-init c = still_start _ _ _
+pub loop-init : goal.loop-init
+loop-init c = let all : c.args.n - 0 ≡ c.args.n = omega arith in rw all (still_start _ _ _)
 
-pub loop-left-preserved : goal.loop-left-preserved
-loop-left-preserved c = let l = c.loop-left in still_more _ (spaces l.left) (λ x. 32 ∷ x) (spaces (l.left - 1)) _ _ _ _ _ _ (λ x. spaces_next l.left x c.loop-left-test.true) l.invariant c.put-p.ensures
-
-pub shape_of-out : goal.shape_of-out
-shape_of-out c = c.loop-left.invariant.same
+pub loop-preserved : goal.loop-preserved
+loop-preserved c =
+    let n = c.args.n in
+    let i = c.loop.counter in
+    still_more _ (spaces (n - i)) (λ x. 32 ∷ x) (spaces (n - (i + 1))) _ _ _ _ _ _ (λ x. spaces_next n i x c.loop-test.true) c.loop.invariant c.put-p.ensures
 
 pub returns : goal.returns
-returns c = let l = c.loop-left in still_end _ (spaces l.left) _ _ _ _ (λ x. spaces_none l.left x c.loop-left-test.false) l.invariant
+returns c = let n = c.args.n in let i = c.loop.counter in still_end _ (spaces (n - i)) _ _ _ _ (λ x. spaces_none n i x c.loop-test.false) c.loop.invariant

@@ -4,20 +4,17 @@ use native.Mathlib.Omega.{arith}
 use Rattle.write_pieces.proofs.Levels.{levels_start, levels_room, levels_next, levels_end}
 use Rattle.write_pieces.proofs.put_levels.Goals as goal
 
-pub loop-kind-init : goal.loop-kind-init
-loop-kind-init c = levels_start _ _ _ _ _ c.entry_at-first.ensures
+pub loop-level-init : goal.loop-level-init
+loop-level-init c = levels_start _ _ _ _ _ c.entry_at-level.ensures
 
 pub overflow_add-c : goal.overflow_add-c
-overflow_add-c c = let l = c.loop-kind in omega (arith, levels_room _ _ _ _ _ l.p l.c l.kind l.number l.invariant c.loop-kind-test.true)
+overflow_add-c c = let l = c.loop-level in omega (arith, levels_room _ _ _ _ _ l.p l.c l.level l.invariant c.loop-level-test.true)
 
-pub loop-kind-smaller : goal.loop-kind-smaller
-loop-kind-smaller c = let l = c.loop-kind in omega (arith, levels_room _ _ _ _ _ l.p l.c l.kind l.number l.invariant c.loop-kind-test.true)
+pub loop-level-smaller : goal.loop-level-smaller
+loop-level-smaller c = let l = c.loop-level in omega (arith, levels_room _ _ _ _ _ l.p l.c l.level l.invariant c.loop-level-test.true)
 
-pub loop-kind-preserved : goal.loop-kind-preserved
-loop-kind-preserved c = let l = c.loop-kind in levels_next _ _ _ _ _ l.p l.c l.kind l.number l.invariant c.loop-kind-test.true _ _ c.put_dimension-p.ensures _ c.entry_at-next.ensures
-
-pub shape_of-out : goal.shape_of-out
-shape_of-out c = c.loop-kind.invariant.same
+pub loop-level-preserved : goal.loop-level-preserved
+loop-level-preserved c = let l = c.loop-level in levels_next _ _ _ _ _ l.p l.c l.level l.invariant c.loop-level-test.true _ _ c.put_dimension-p.ensures _ c.entry_at-level-in-loop-level.ensures
 
 pub returns : goal.returns
-returns c = let l = c.loop-kind in levels_end _ _ _ _ _ l.p l.c l.kind l.number l.invariant c.loop-kind-test.false
+returns c = let l = c.loop-level in levels_end _ _ _ _ _ l.p l.c l.level l.invariant c.loop-level-test.false

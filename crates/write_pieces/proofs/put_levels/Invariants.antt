@@ -5,8 +5,8 @@ use lib.ListN.{length}
 use Rattle.write_pieces.proofs.Levels.{Levels}
 use Rattle.write_pieces.proofs.put_levels.Given as goal
 
-abbrev pub invariant-loop-kind : goal.invariant-loop-kind
-invariant-loop-kind l = Levels l.table l.e l.initial.out l.at l.out l.p l.c l.kind l.number
+abbrev pub invariant-loop-level : goal.invariant-loop-level
+invariant-loop-level l = Levels l.table l.e l.initial.out l.at l.out l.p l.c l.level
 
-abbrev pub decreases-loop-kind : goal.decreases-loop-kind
-decreases-loop-kind l = length l.table - l.c
+abbrev pub decreases-loop-level : goal.decreases-loop-level
+decreases-loop-level l = length l.table - l.c

@@ -9,4 +9,4 @@ pub returns-in_default : goal.returns-in_default
 returns-in_default c = no_type_lem _ _ _ (matched type_answer c.type_of.ensures c.in_default.is)
 
 pub returns : goal.returns
-returns c = type_quoted _ _ _ _ _ _ (matched type_answer c.type_of.ensures c.in-Type.is) (between _ _ _ _ _ _ _ _ _ _ _ c.put-inside.ensures c.put-after_type.ensures c.put.ensures)
+returns c = type_quoted _ _ _ _ _ _ (matched type_answer c.type_of.ensures c.in-Some.is) (between _ _ _ _ _ _ _ _ _ _ _ c.put-inside.ensures c.put-after_type.ensures c.put.ensures)

@@ -1,3 +1,4 @@
+use Rattle.refusal.specs.Answers.{answer}
 use Prim.Native.Nat.{◌+◌, ◌-◌}
 use borrow.Enum.Refused.{opened}
 use native.Mathlib.Omega.{arith}
@@ -8,7 +9,6 @@ use Rattle.literal.proofs.Ends.{value_ahead}
 use Rattle.literal_bytes.proofs.Ends.{stops}
 use Rattle.literal.proofs.Steps.{turn_less as literal_less}
 use Rattle.descr_field.proofs.Begins.{string_in}
-use Rattle.descr_totals.specs.Verdict.{verdict}
 use Rattle.descr.proofs.Adds.{field_by, descr_by}
 use Rattle.descr.proofs.Along.{turn_start, turn_stop, turn_more, turn_end}
 use Rattle.descr.proofs.Nodes.{type_judged, descr_no_form, field_no_form, bracket_in, bracket_small, too_deep_lem, field_judged, record_judged}
@@ -18,7 +18,7 @@ use Rattle.descr.proofs.inner.+field_fields_inner_at_judge.Goals as goal
 pub field-returns-then-close-eq0 : goal.field-returns-then-close-eq0
 field-returns-then-close-eq0 t c =
     let a = c.args in
-    field_no_form a.room a.text.now a.at c.wrong_form.result (c.wrong_form.ensures.ended_value ∙ c.value.ensures) (ap verdict c.wrong_form.ensures.verdict_value) (sym c.closing_at-close.ensures ∙ c.if-close-eq0.true)
+    field_no_form a.room a.text.now a.at c.wrong_form.result (c.wrong_form.ensures.ended_value ∙ c.value.ensures) (ap answer c.wrong_form.ensures.verdict_value) (sym c.closing_at-close.ensures ∙ c.if-close-eq0.true)
 
 pub field-returns-then-room-eq0 : goal.field-returns-then-room-eq0
 field-returns-then-room-eq0 t c =
@@ -36,7 +36,7 @@ field-returns-in_default t c =
     let a = c.args in
     let b = c.closing_at-close in
     field_judged a.room a.text.now a.at b.result b.ensures c.if-close-eq0.false c.if-room-eq0.false _
-    (items_empty (a.room - 1) a.text.now (a.at + 1) b.result c.gap_at-g1.result c.gap_at-g1.ensures c.wrong_form-in_default.result (opened c.in_default.in_default-own.keys2) (c.wrong_form-in_default.ensures.ended_value ∙ c.ended.ensures) (ap verdict c.wrong_form-in_default.ensures.verdict_value))
+    (items_empty (a.room - 1) a.text.now (a.at + 1) b.result c.gap_at-g1.result c.gap_at-g1.ensures c.wrong_form-in_default.result (opened c.in_default.in_default-own.keys2) (c.wrong_form-in_default.ensures.ended_value ∙ c.ended.ensures) (ap answer c.wrong_form-in_default.ensures.verdict_value))
 
 pub field-returns-in_default-e1 : goal.field-returns-in_default-e1
 field-returns-in_default-e1 t c =
@@ -50,7 +50,7 @@ field-returns-in_default-g2 t c =
     let a = c.args in
     let b = c.closing_at-close in
     field_judged a.room a.text.now a.at b.result b.ensures c.if-close-eq0.false c.if-room-eq0.false _
-    (items_alone (a.room - 1) a.text.now (a.at + 1) b.result c.gap_at-g1.result c.gap_at-g1.ensures _ c.in-Item.is c.name_at-name.result (c.name_at-name.ensures.ended_value, c.name_at-name.ensures.verdict_value) (bracket_small a.room a.text.now a.at b.result b.ensures c.if-close-eq0.false) _ c.in-Value.is c.second_at-g2.result c.second_at-g2.ensures c.wrong_form-in_default-g2.result (opened c.in_default-g2.in_default-g2-own.keys2) (c.wrong_form-in_default-g2.ensures.ended_value ∙ c.ended-in_default-g2.ensures) (ap verdict c.wrong_form-in_default-g2.ensures.verdict_value))
+    (items_alone (a.room - 1) a.text.now (a.at + 1) b.result c.gap_at-g1.result c.gap_at-g1.ensures _ c.in-Item.is c.name_at-name.result (c.name_at-name.ensures.ended_value, c.name_at-name.ensures.verdict_value) (bracket_small a.room a.text.now a.at b.result b.ensures c.if-close-eq0.false) _ c.in-Value.is c.second_at-g2.result c.second_at-g2.ensures c.wrong_form-in_default-g2.result (opened c.in_default-g2.in_default-g2-own.keys2) (c.wrong_form-in_default-g2.ensures.ended_value ∙ c.ended-in_default-g2.ensures) (ap answer c.wrong_form-in_default-g2.ensures.verdict_value))
 
 pub field-inner_at-inner-requires : goal.field-inner_at-inner-requires
 field-inner_at-inner-requires t c = omega arith
@@ -123,7 +123,7 @@ judge-returns-then-string_at t c =
 pub judge-returns-then-closing_at-ne93 : goal.judge-returns-then-closing_at-ne93
 judge-returns-then-closing_at-ne93 t c =
     let a = c.args in
-    descr_no_form a.room a.text.now a.at c.wrong_form.result (c.wrong_form.ensures.ended_value ∙ c.value.ensures) (ap verdict c.wrong_form.ensures.verdict_value) (sym c.string_at.ensures ∙ c.if-string_at.false) (λ z. c.if-closing_at-ne93.true (c.closing_at.ensures ∙ z))
+    descr_no_form a.room a.text.now a.at c.wrong_form.result (c.wrong_form.ensures.ended_value ∙ c.value.ensures) (ap answer c.wrong_form.ensures.verdict_value) (sym c.string_at.ensures ∙ c.if-string_at.false) (λ z. c.if-closing_at-ne93.true (c.closing_at.ensures ∙ z))
 
 pub judge-returns-then-room-eq0 : goal.judge-returns-then-room-eq0
 judge-returns-then-room-eq0 t c =

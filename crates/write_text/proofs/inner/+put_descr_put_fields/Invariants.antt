@@ -13,9 +13,6 @@ decreases-put_descr l = 2 * (length l.table.now - l.e)
 abbrev pub decreases-put_fields : goal.decreases-put_fields
 decreases-put_fields l = 2 * (length l.table.now - l.e) + 1
 
-abbrev pub invariant-put_fields-loop-left : goal.invariant-put_fields-loop-left
-invariant-put_fields-loop-left l =
-    (fs : Fields) → l.count ≡ field_count fs → ListedNamedIn l.table l.names l.e l.b fs → Going l.table l.names l.e l.b l.initial.out l.at l.out l.c l.start l.p l.left fs
-
-abbrev pub decreases-put_fields-loop-left : goal.decreases-put_fields-loop-left
-decreases-put_fields-loop-left l = l.left
+abbrev pub invariant-put_fields-loop : goal.invariant-put_fields-loop
+invariant-put_fields-loop l =
+    (fs : Fields) → l.count ≡ field_count fs → ListedNamedIn l.table l.names l.e l.b fs → Going l.table l.names l.e l.b l.initial.out l.at l.out l.c l.start l.p l.counter fs

@@ -1,9 +1,0 @@
--- The measure is what is left to print.
-use Rattle.std.proofs.Common.{◌-◌, ◌≤◌, length}
-use Rattle.run_feed.proofs.show_run.Given as goal
-
-abbrev pub invariant-loop-at : goal.invariant-loop-at
-invariant-loop-at g l = l.at ≤ length l.run
-
-abbrev pub decreases-loop-at : goal.decreases-loop-at
-decreases-loop-at g l = length l.run - l.at

@@ -1,9 +1,0 @@
--- The measure is what is left of the room.
-use Rattle.std.proofs.Common.{◌≡◌, ◌-◌, ◌≤◌, length}
-use Rattle.run_feed.proofs.store.Given as goal
-
-abbrev pub invariant-loop-i : goal.invariant-loop-i
-invariant-loop-i l = (l.i ≤ length l.initial.room) × (l.at ≤ length l.bytes) × (length l.room ≡ length l.initial.room)
-
-abbrev pub decreases-loop-i : goal.decreases-loop-i
-decreases-loop-i l = length l.initial.room - l.i
