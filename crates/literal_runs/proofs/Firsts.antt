@@ -1,35 +1,88 @@
 -- The first byte of a block that a test finds, looked for in one pass over the whole block; and the run of bytes that continues where none was found.
 use Prim.Native.Nat.{ℕ, zero, suc, ◌+◌, ◌-◌, ◌<◌, ◌≤◌}
 use native.Mathlib.Omega.{arith}
-use native.Mathlib.Nat.{zero-add}
+use native.Mathlib.Decide.{dec_lt}
+use native.Mathlib.Numerals.{add-one}
 use mathlib.Core.Path.{◌≡◌, refl, sym, ap, ◌∙◌}
 use mathlib.Core.List.{List, [], ◌∷◌}
-use mathlib.Core.Bool.{Bool, true, false, ◌&&◌, not, or-true}
-use lib.ListN.{length, get_or, take, drop}
-use lib.Seq.{drop-drop}
+use mathlib.Core.Bool.{Bool, true, false, ◌&&◌, not, cond, or-true}
+use lib.ListN.{length, get_or, take, drop, drop_of_length-le}
+use lib.Seq.{drop-cons, drop-drop}
 use lib.Dec.{eqb, ltb}
-use borrow.Author.Tests.{ltb-false, ne_eqb, not-true}
+use borrow.Author.Tests.{lt-ltb, le-ltb, ltb-false, ne_eqb, not-true}
 use Rattle.counts.proofs.Alike.{and_right, or_none}
 use Rattle.literal_grammar.specs.Bytes.{is_break}
-use Rattle.literal_bytes.proofs.Positions.{get_d_any, past_stop, past_more}
+use Rattle.literal_bytes.proofs.Positions.{past_stop}
 use Rattle.literal_bytes.specs.Text.{byte_at, part, run, past}
 use Rattle.literal_bytes.specs.Plain.{is_plain}
 use Rattle.literal_runs.specs.Low.{is_low, is_high}
 
--- the first low byte from place k on is at `first`, and i is the place before k: a low byte at i is the first one from there on
-module _ (l : List ℕ) (i k first : ℕ) (next : k ≡ i + 1) (lt : i < length l) (t : Bool) (said : t ≡ is_low (get_or l i 0)) (w : first ≡ past is_high l k) where
-  byte : is_high (byte_at l i) ≡ not t
-  byte = ap is_high (get_d_any l i 256 0 lt) ∙ ap not (sym said)
+-- the lesser of two numbers, where it is known which that is
+lesser_first : (a b c : ℕ) → c ≡ cond (ltb a b) a b → a < b → c ≡ a
+lesser_first a b c h lt = h ∙ rw (lt-ltb a b lt)
 
-  pub low_here : t ≡ true → i ≡ past is_high l i
-  low_here h = sym (past_stop is_high l i (byte ∙ ap not h))
+lesser_second : (a b c : ℕ) → c ≡ cond (ltb a b) a b → b ≤ a → c ≡ b
+lesser_second a b c h le = h ∙ rw (le-ltb a b le)
 
-  pub high_here : t ≡ false → first ≡ past is_high l i
-  high_here h = w ∙ ap (past is_high l) next ∙ sym (past_more is_high l i lt (byte ∙ ap not h))
+module _ (g : ℕ → Bool) (l : List ℕ) where
+  -- how many bytes come before the first that g finds
+  abbrev before : List ℕ → ℕ
+  before = run (λ b. not (g b))
 
-pub past_start : (f : ℕ → Bool) (l : List ℕ) (i : ℕ) → i ≤ 0 → past f l i ≡ run f l
-unfolding past
-past_start f l i le = let z : i ≡ 0 = omega arith in ap (past f l) z ∙ zero-add (run f l)
+  -- of the first i bytes of a block of 16 the first that g finds is at `first`; or there is none
+  pub record Found (i first : ℕ) : Type 0 where
+    pub few : first ≤ 16
+    pub found : first < i → before l ≡ first
+    pub none : i ≤ first → (first ≡ 16) × (before l ≡ i + before (drop i l))
+
+  pub found_none : Found 0 16
+  found_none = record { few = omega arith; found = λ h. absurd (omega arith); none = λ h. (refl, omega arith) }
+
+  module _ (i first place first' : ℕ) (lt : i < 16) (size : length l ≡ 16) (p : place ≡ cond (g (get_or l i 0)) i 16) (n : first' ≡ cond (ltb first place) first place) (w : Found i first) where
+    run_at : (t : Bool) → g (get_or l i 0) ≡ t → before (drop i l) ≡ cond t 0 (suc (before (drop (suc i) l)))
+    unfolding run
+    run_at true e = rw (drop-cons l i 0 (omega (arith, size)), run, e)
+    run_at false e = rw (drop-cons l i 0 (omega (arith, size)), run, e)
+
+    place_at : (t : Bool) → g (get_or l i 0) ≡ t → place ≡ cond t i 16
+    place_at t e = p ∙ ap (λ (x : Bool). cond x i 16) e
+
+    -- found before: the place is after it
+    earlier : i ≤ place → first < i → Found (i + 1) first'
+    earlier le h =
+        let e = lesser_first first place first' n (omega (arith, le)) in
+        let k = w.found h in
+        record { few = omega (arith, w.few, e); found = λ x. omega (arith, e, k); none = λ x. absurd (omega (arith, e)) }
+
+    now_found : g (get_or l i 0) ≡ true → i ≤ first → Found (i + 1) first'
+    now_found e h =
+        let q = place_at true e in
+        let f = lesser_second first place first' n (omega (arith, q)) in
+        let k = w.none h in
+        let r = run_at true e in
+        record { few = omega (arith, q, f); found = λ x. omega (arith, q, f, k.1, r); none = λ x. absurd (omega (arith, q, f)) }
+
+    not_yet : g (get_or l i 0) ≡ false → i ≤ first → Found (i + 1) first'
+    not_yet e h =
+        let q = place_at false e in
+        let k = w.none h in
+        let f = lesser_second first place first' n (omega (arith, q, k.0)) in
+        let r = run_at false e in
+        record { few = omega (arith, q, f); found = λ x. absurd (omega (arith, q, f, x)); none = λ x. (omega (arith, q, f), rw (add-one i) (omega (arith, k.1, r))) }
+
+    pub found_more : Found (i + 1) first'
+    found_more = go (g (get_or l i 0)) refl
+      where
+        go : (t : Bool) → g (get_or l i 0) ≡ t → Found (i + 1) first'
+        go true e = elim (dec_lt first i) [ yes h ↦ earlier (omega (arith, place_at true e)) h | no h ↦ now_found e (omega arith) ]
+        go false e = elim (dec_lt first i) [ yes h ↦ earlier (omega (arith, place_at false e)) h | no h ↦ not_yet e (omega arith) ]
+
+  pub found_end : (i first : ℕ) → 16 ≤ i → length l ≡ 16 → Found i first → first ≡ before l
+  unfolding run
+  found_end i first le size w =
+      let d : drop i l ≡ [] = drop_of_length-le l {i = i} (omega (arith, size)) in
+      let z : before (drop i l) ≡ 0 = rw d in
+      elim (dec_lt first i) [ yes h ↦ sym (w.found h) | no h ↦ let k = w.none (omega arith) in omega (arith, w.few, k.0, k.1, z) ]
 
 -- ---- bytes that are not low, in a string after a quote below `(`
 module _ (f g : ℕ → Bool) (so : (b : ℕ) → f b ≡ true → g b ≡ true) where

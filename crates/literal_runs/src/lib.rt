@@ -2,7 +2,7 @@
 // Called by literal_tokens and literal_decode. `quote` is the string's quote.
 #![tactic(auto)]
 
-ghost use Rattle.std.specs.Prelude.{◌≡◌, ◌&&◌, eqb, ltb, length};
+ghost use Rattle.std.specs.Prelude.{◌≡◌, ◌&&◌, eqb, ltb, length, cond};
 ghost use Rattle.std.proofs.Common.{rules};
 ghost use Rattle.literal_bytes.specs.Text.{byte_at, run, past};
 ghost use Rattle.literal_bytes.specs.Plain.{is_plain};
@@ -48,16 +48,28 @@ fn is_low(b: u8) -> bool
 // A string's first bytes are looked at together: this many.
 const FIRST: usize = 16;
 
-// The place of the first low byte of a block of 16, or 16 if none is: from the last byte to the first in one pass without an early end, so that no byte needs a branch.
-fn first_low(block: &[u8]) -> usize
+// The place i if the byte there is low, else 16.
+fn low_place(b: u8, i: u8) -> u8
+    ensures { result ≡ cond (is_low b) i 16 }
+{
+    if is_low(b) { i } else { FIRST as u8 }
+}
+
+// A comparison of its own: with `min` of the library, or with an `if` around a store, the compiler takes no whole block at a time, and the reader needs a third more time.
+fn lesser(a: u8, b: u8) -> u8
+    ensures { result ≡ cond (ltb a b) a b }
+{
+    if a < b { a } else { b }
+}
+
+// The place of the first low byte of a block of 16, or 16 if none is, in one pass without an early end, so that the compiler can take the whole block at a time.
+fn first_low(block: &[u8]) -> u8
     requires { length block.now ≡ 16 }
     ensures { result ≡ run is_high block.now }
 {
-    let mut first = FIRST;
-    for i in (0..FIRST).rev() {
-        if is_low(block[i]) {
-            first = i;
-        }
+    let mut first: u8 = FIRST as u8;
+    for i in 0..FIRST as u8 {
+        first = lesser(first, low_place(block[i as usize], i));
     }
     first
 }
@@ -77,7 +89,7 @@ pub fn plain_any(text: &[u8], from: usize, quote: u8) -> usize
     if b'\'' < quote || text.len() < FIRST || text.len() - FIRST < from {
         return past(text, from, plain);
     }
-    let at = from + first_low(&text[from..from + FIRST]);
+    let at = from + first_low(&text[from..from + FIRST]) as usize;
     if byte_is(text, at, quote) {
         return at;
     }

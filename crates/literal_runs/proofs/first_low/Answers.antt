@@ -1,24 +1,15 @@
--- The invariant: among the bytes from place i on the first low one is at `first`.
-use Prim.Native.Nat.{◌-◌}
-use mathlib.Core.Path.{sym, ◌∙◌}
-use native.Mathlib.Omega.{arith}
-use Rattle.literal_bytes.proofs.Positions.{past_end}
-use Rattle.literal_runs.specs.Low.{is_high}
-use Rattle.literal_runs.proofs.Firsts.{low_here, high_here, past_start}
+-- The invariant: the first low byte among those passed is at `first`; or none was, and the run continues.
+use Rattle.literal_runs.specs.Low.{is_low}
+use Rattle.literal_runs.proofs.Firsts.{found_none, found_more, found_end}
 use Rattle.literal_runs.proofs.first_low.Goals as goal
 
 pub loop-i-init : goal.loop-i-init
-loop-i-init c = sym (past_end is_high c.args.block.now 16 (omega (arith, c.requires)))
-
-pub loop-i-preserved-then-is_low : goal.loop-i-preserved-then-is_low
-loop-i-preserved-then-is_low c =
-    let l = c.loop-i in
-    low_here c.args.block.now (l.i - 1) l.i l.first (omega arith) (omega (arith, c.requires)) _ c.is_low.ensures l.invariant c.if-is_low.true
+loop-i-init c = found_none is_low _
 
 pub loop-i-preserved : goal.loop-i-preserved
 loop-i-preserved c =
     let l = c.loop-i in
-    high_here c.args.block.now (l.i - 1) l.i l.first (omega arith) (omega (arith, c.requires)) _ c.is_low.ensures l.invariant c.if-is_low.false
+    found_more is_low _ l.i l.first _ _ c.loop-i-test.true c.requires c.low_place.ensures c.lesser-first.ensures l.invariant
 
 pub returns : goal.returns
-returns c = c.loop-i.invariant ∙ past_start is_high c.args.block.now c.loop-i.i c.loop-i-test.false
+returns c = found_end is_low _ c.loop-i.i c.loop-i.first c.loop-i-test.false c.requires c.loop-i.invariant

@@ -1,8 +1,7 @@
--- The invariant: among the bytes from place i on the first low one is at `first`.
-use mathlib.Core.Path.{◌≡◌}
-use Rattle.literal_bytes.specs.Text.{past}
-use Rattle.literal_runs.specs.Low.{is_high}
+-- The invariant: the first low byte among those passed is at `first`; or none was, and the run continues.
+use Rattle.literal_runs.specs.Low.{is_low}
+use Rattle.literal_runs.proofs.Firsts.{Found}
 use Rattle.literal_runs.proofs.first_low.Given as goal
 
 abbrev pub invariant-loop-i : goal.invariant-loop-i
-invariant-loop-i l = l.first ≡ past is_high l.block l.i
+invariant-loop-i l = Found is_low l.block l.i l.first
