@@ -56,7 +56,10 @@ pub fn check_dtype(table: &[u64], names: &[u8], shape: &[u64]) -> Result<Option<
 pub fn check(given: GivenRecord<'_>) -> Result<Summary, Refusal>
     ensures { answer result ≡ each summary (checked_record given.entry.table.now given.entry.names.now given.entry.shape.now given.entry.order) }
 {
-    let size = check_dtype(given.table, given.names, given.shape)?;
+    let size = match check_dtype(given.table, given.names, given.shape) {
+        Ok(size) => size,
+        Err(why) => return Err(why),
+    };
     counted(
         given.table.len() / dtype::ENTRY,
         size,

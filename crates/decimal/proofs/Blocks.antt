@@ -1,8 +1,8 @@
 -- Digits in blocks. A text with k digits at its front begins with a block of k digits, and the digits after it are the others; a number with the digits of a block
 -- appended one after the other is the number shifted plus the block's. So `read_on` is the same before a digit or a block and after it.
 use Rattle.std.specs.Prelude.{None, Some, Option}
-use Prim.Native.Nat.{ℕ, zero, suc, ◌+◌, ◌*◌, ◌-◌, ◌^◌, ◌<◌, ◌≤◌}
-use native.Mathlib.Nat.{pow-suc, mul_assoc, mul-add, mul_comm, add_assoc, zero-add}
+use Prim.Native.Nat.{ℕ, zero, suc, ◌+◌, ◌*◌, ◌-◌, ◌/◌, ◌^◌, ◌<◌, ◌≤◌}
+use native.Mathlib.Nat.{pow-suc, mul_assoc, mul-add, mul_comm, suc-mul, le-div_iff_mul-le, add_assoc, zero-add}
 use native.Mathlib.Numerals.{add-one}
 use native.Mathlib.Omega.{arith}
 use mathlib.Core.Path.{◌≡◌, refl, sym, ap, ◌∙◌}
@@ -155,3 +155,8 @@ digit_block None d = refl
 pub block_number : (x r : Option ℕ) (n m b : ℕ) → x ≡ Some n → r ≡ number (n * m + b) → r ≡ with_block x m b
 unfolding with_block
 block_number x r n m b e h = h ∙ ap (λ (k : ℕ). number (k + b)) (mul_comm n m) ∙ ap (λ (y : Option ℕ). with_block y m b) (sym e)
+
+-- a number below the largest divided by m has room for what b < m appends
+pub block_fits : (n m b : ℕ) → n < 18446744073709551615 / m → b < m → n * m + b < 2 ^ 64
+block_fits n m b h k =
+    omega (arith, (le-div_iff_mul-le {k = m} {x = suc n} {y = 18446744073709551615} (omega (arith, k))).0 (omega (arith, h)), suc-mul n m, k)

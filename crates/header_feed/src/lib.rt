@@ -288,5 +288,7 @@ fn copy(out: &mut [u8], at: usize, from: &[u8], n: usize)
     requires { (at + n ≤ length out.old) × (n ≤ length from.now) }
     ensures { out.new ≡ paste out.old at from.now n }
 {
-    out[at..at + n].copy_from_slice(&from[..n]);
+    for i in 0..n {
+        out[at + i] = from[i];
+    }
 }

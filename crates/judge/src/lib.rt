@@ -64,7 +64,10 @@ fn judge_keys(walked: Walked) -> Result<FoundRecord, Refusal>
         return Err(Refusal::NotDict);
     }
     let order = walked.order?;
-    let shape = walked.shape?;
+    let shape = match walked.shape {
+        Ok(shape) => shape,
+        Err(why) => return Err(why),
+    };
     let descr = walked.descr?;
     within(order, shape.outline, descr.totals)?;
     Ok(FoundRecord {

@@ -27,7 +27,10 @@ fn put_some(out: &mut [u8], from: usize, run: &[u8])
         return;
     }
     let fit = run.len().min(out.len() - from);
-    out[from..from + fit].copy_from_slice(&run[..fit]);
+    // A loop: where the compiler does not know that two rooms are apart, it makes a copy of a slice a call of `memmove`, which the archive for C would then need from outside.
+    for i in 0..fit {
+        out[from + i] = run[i];
+    }
 }
 
 // The same, for runs that are mostly empty, as between two escapes.

@@ -3,23 +3,21 @@ use Prim.Native.Nat.{ℕ, zero, suc, ◌+◌, ◌%◌, ◌<◌, ◌≤◌}
 use native.Mathlib.Omega.{arith}
 use native.Mathlib.Nat.{zero-add}
 use mathlib.Core.Path.{◌≡◌, refl, ap, ◌∙◌, subst}
-use mathlib.Core.List.{List, [], ◌∷◌, ◌++◌, append-nil}
+use mathlib.Core.List.{List, [], ◌∷◌, ◌++◌, append_assoc, append-nil}
 use mathlib.Core.Bool.{true, false, ◌&&◌}
 use lib.Dec.{eqb, leb}
 use lib.ListN.{length, get_or, take, drop, set, drop_of_length-le}
 use lib.Seq.{length-take-le, take_all, take_at, take-suc-set}
-use borrow.Rule.Slice.PartMut.{put_mid, post_of}
-use Rattle.std.proofs.Common.{length-drop}
 use borrow.Author.Tests.{eq-eqb, ne_eqb, leb-true, eqb-true}
 use Rattle.counts.specs.Outcome.{gives, refused, each}
 use Rattle.counts.proofs.Alike.{and_right, or_elim}
 use Rattle.record.specs.Prefix.{Version, version_of}
 use Rattle.dtype.specs.declared.Order.{Order}
 use Rattle.header.specs.Reads.{HeaderInfo}
-use Rattle.header_feed.specs.Feeds.{need_more, outcome}
+use Rattle.header_feed.specs.Feeds.{Progress, need_more, outcome}
 use Rattle.header_feed.proofs.Copies.{Copying, copying_length, copying_next, copying_end}
 use Rattle.npy_codes.specs.Codes.{order_for}
-use Rattle.npy_codes.specs.Feeders.{low_bytes, head_for, header_for, saying}
+use Rattle.npy_codes.specs.Feeders.{saying_numbers, low_bytes, head_for, header_for, saying}
 use Rattle.refusal.specs.Numbers.{is_refusal}
 
 -- ---- what the numbers say
@@ -61,6 +59,11 @@ refusal_small n e =
     or_elim (leb 1 n && leb n 32) (eqb n 36) e (λ a. omega (arith, leb-true n 32 (and_right (leb 1 n) (leb n 32) a))) (λ b. omega (arith, eqb-true n 36 b))
 
 -- ---- the loops
+pub saying_length : (p : Progress) → length (saying_numbers p) ≡ 7
+saying_length need_more = refl
+saying_length (outcome (gives h)) = refl
+saying_length (outcome (refused n)) = refl
+
 pub low_at : (ns : List ℕ) (i : ℕ) → get_or (low_bytes ns) i 0 ≡ get_or ns i 0 % 256
 low_at [] i = refl
 low_at (n ∷ ns) zero = refl
@@ -93,7 +96,7 @@ head_end d head taken i out e f c l =
     ∙ ap (λ (x : List ℕ). x ++ (taken ∷ [])) (take_at (take 12 head) (drop 12 d) 12 (length-take-le 12 head (omega (arith, f))) ∙ take_all 12 head (omega (arith, f)))
 
 -- .. then what is said
-pub saying_end : (d says out : List ℕ) → length d ≡ 20 → out ≡ says → put_mid 13 7 d out ≡ take 13 d ++ says
-saying_end d says out e is =
-    let none : post_of 13 7 d ≡ [] = drop_of_length-le (drop 13 d) {i = 7} (omega (arith, length-drop 13 d, e)) in
-    ap (λ (x : List ℕ). take 13 d ++ (x ++ post_of 13 7 d)) is ∙ ap (λ (x : List ℕ). take 13 d ++ (says ++ x)) none ∙ ap (λ (x : List ℕ). take 13 d ++ x) (append-nil says)
+pub saying_end : (d says : List ℕ) (i : ℕ) (out : List ℕ) → length d ≡ 20 → length says ≡ 7 → Copying d 13 says 7 i out → 7 ≤ i → out ≡ take 13 d ++ says
+saying_end d says i out e f c l =
+    copying_end d 13 says 7 i out c l ∙ append_assoc (take 13 d) (take 7 says) (drop 20 d) ∙ ap (λ (x : List ℕ). take 13 d ++ x)
+    (ap (λ (x : List ℕ). take 7 says ++ x) (drop_of_length-le d {i = 20} (omega (arith, e))) ∙ append-nil (take 7 says) ∙ take_all 7 says (omega (arith, f)))

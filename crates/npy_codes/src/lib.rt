@@ -369,8 +369,11 @@ fn with_head(head: [u8; HEAD], taken: usize) -> [u64; FEEDER]
 pub fn with_saying(numbers: [u64; FEEDER], said: Fed) -> [u64; FEEDER]
     ensures { result ≡ take 13 numbers ++ saying_numbers (progress said) }
 {
+    let says = saying_numbers(said);
     let mut all = numbers;
-    all[SAYS..].copy_from_slice(&saying_numbers(said));
+    for i in 0..SAYING {
+        all[SAYS + i] = says[i];
+    }
     all
 }
 

@@ -123,8 +123,8 @@ fn ask(rt: &impl Print, call: Call) {
         0..=2 => lend_record(rt, call),
         3..=5 | 18.. => lend_values(rt, call),
         // filling a large room for each case takes long
-        _ if call.given[4] <= FEW as u64 => lend_room(rt, call, &mut [5; FEW]),
-        _ => lend_room(rt, call, &mut [5; MANY]),
+        _ if call.given[4] <= FEW as u64 => lend_few(rt, call),
+        _ => lend_many(rt, call),
     }
 }
 
@@ -205,6 +205,15 @@ fn read_record(
     show(rt, table);
     show_bytes(rt, names);
     show(rt, shape);
+}
+
+// A function fills the rooms that it has, whether or not it comes to them: so each of the two has one of its own.
+fn lend_few(rt: &impl Print, call: Call) {
+    lend_room(rt, call, &mut [5; FEW]);
+}
+
+fn lend_many(rt: &impl Print, call: Call) {
+    lend_room(rt, call, &mut [5; MANY]);
 }
 
 fn lend_room(rt: &impl Print, call: Call, out: &mut [u8]) {

@@ -72,7 +72,8 @@ pub fn negative(n: Option<u64>) -> Result<u64, Refusal>
 {
     match n {
         Some(0) => Ok(0),
-        _ => Err(Refusal::NotShape),
+        Some(_) => Err(Refusal::NotShape),
+        None => Err(Refusal::NotShape),
     }
 }
 

@@ -3,6 +3,7 @@
 #![tactic(auto)]
 
 ghost use Rattle.std.specs.Prelude.{◌≡◌, [], ◌++◌, ◌≤◌, length, drop, take};
+ghost use Rattle.counts.specs.Lists.{at_front};
 ghost use Rattle.counts.specs.Outcome.{each, gives};
 ghost use Rattle.refusal.specs.Answers.{bytes_answer, points_answer};
 ghost use Rattle.emit.specs.Emits.{Emits};
@@ -39,8 +40,18 @@ fn copy(value: &[u8], out: &mut [u8]) -> Result<Bytes, Refusal>
     if out.len() < value.len() {
         return Err(Refusal::Room);
     }
-    emit::put_bytes(out, 0, value);
+    store(value, out);
     Ok(Bytes(value.len() as u64))
+}
+
+// Stores a value at the front of room that is long enough. (A loop: a copy of a slice would be a call of `memmove`, which the archive for C would then need from outside.)
+fn store(value: &[u8], out: &mut [u8])
+    requires { length value.now ≤ length out.old }
+    ensures { out.new ≡ at_front value.now out.old }
+{
+    for i in 0..value.len() {
+        out[i] = value[i];
+    }
 }
 
 // Reads an element of U, and returns how many code points were written; or the first of 27, 26, 29, 23 that applies. Every four bytes are judged before any is written.
@@ -138,16 +149,17 @@ fn place_bytes(size: Bytes, value: &[u8], out: &mut [u8]) -> Result<Bytes, Refus
     Ok(size)
 }
 
-// Writes a value filled up with zeros to the front of `out`, and returns where it ends.
-fn put_filled(out: &mut [u8], size: Bytes, value: &[u8]) -> usize
-    requires { length value.now ≤ size.0 }
-    ensures { Emits (λ x. zero_filled size.0 value.now ++ x) out.old 0 out.new result }
+// Writes a value filled up with zeros to the front of `out`.
+fn put_filled(out: &mut [u8], size: Bytes, value: &[u8])
+    requires { (length value.now ≤ size.0) × (size.0 ≤ length out.old) }
+    ensures { out.new ≡ at_front (zero_filled size.0 value.now) out.old }
 {
-    let mut p = 0;
-    for i in 0..size.0 as usize {
-        p = emit::put(out, p, value.get(i).copied().unwrap_or(0));
+    store(value, out);
+    // not `fill`, which would be a call of `memset`
+    let mut p = value.len();
+    for _ in value.len()..size.0 as usize {
+        p = emit::put(out, p, 0);
     }
-    p
 }
 
 // Writes an element of U, and returns how many bytes were written; or the first of 27, 26, 29, 30, 28 that applies.

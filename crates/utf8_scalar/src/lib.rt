@@ -2,7 +2,7 @@
 // Called by utf8 for decoding and by string_element for the code points of `U` elements.
 #![tactic(auto)]
 
-ghost use Rattle.std.specs.Prelude.{◌≡◌};
+ghost use Rattle.std.specs.Prelude.{◌≡◌, ◌≤◌, ◌++◌, length, drop};
 ghost use Rattle.utf8_scalar.specs.Scalar.{is_scalar};
 ghost use Rattle.utf8_scalar.specs.Answer.{Encodes};
 
@@ -25,6 +25,32 @@ pub fn encode(value: u32, room: &mut [u8]) -> Result<Bytes, Refusal>
     if room.len() < encoded.len() {
         return Err(Refusal::OutputRoom);
     }
-    room[..encoded.len()].copy_from_slice(encoded);
+    put(encoded, room);
     Ok(Bytes(encoded.len() as u64))
+}
+
+// Stores up to four bytes at the front of the room, one by one: for a copy of a length that is not known the compiler makes a call.
+fn put(bytes: &[u8], room: &mut [u8])
+    requires { (length bytes.now ≤ 4) × (length bytes.now ≤ length room.now) }
+    ensures { room.new ≡ bytes.now ++ drop (length bytes.now) room.old }
+{
+    match bytes {
+        [] => {}
+        [a] => room[0] = *a,
+        [a, b] => {
+            room[0] = *a;
+            room[1] = *b;
+        }
+        [a, b, c] => {
+            room[0] = *a;
+            room[1] = *b;
+            room[2] = *c;
+        }
+        [a, b, c, d, ..] => {
+            room[0] = *a;
+            room[1] = *b;
+            room[2] = *c;
+            room[3] = *d;
+        }
+    }
 }

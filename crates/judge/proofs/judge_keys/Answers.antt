@@ -18,18 +18,17 @@ returns-in_err-order c =
     rw (handed_on _ c.in_err-order.field-0.0 c.from_residual.ensures)
     (refused_by text at c.in_err-order.field-0.0 _ (no_order text at all _ _ h.of_order c.in_err-order.was))
 
-pub returns-in_err-shape : goal.returns-in_err-shape
-returns-in_err-shape c =
+pub returns-in-Err : goal.returns-in-Err
+returns-in-Err c =
     λ text at h.
     let all = sym h.of_strings ∙ not-false _ c.if-not-walked.false in
-    rw (handed_on _ c.in_err-shape.field-0.0 c.from_residual-in_err-shape.ensures)
-    (refused_by text at c.in_err-shape.field-0.0 _ (no_shape text at all _ _ h.of_order c.in_ok-order.was _ (shape_refused text at _ h.of_shape _ c.in_err-shape.was)))
+    refused_by text at _ _ (no_shape text at all _ _ h.of_order c.in_ok-order.was _ (shape_refused text at _ h.of_shape _ c.in-Err.is))
 
 pub returns-in_err-descr : goal.returns-in_err-descr
 returns-in_err-descr c =
     λ text at h.
     let all = sym h.of_strings ∙ not-false _ c.if-not-walked.false in
-    let s = shape_is text at _ h.of_shape _ c.in_ok-shape.was in
+    let s = shape_is text at _ h.of_shape _ c.in-Ok.is in
     rw (handed_on _ c.in_err-descr.field-0.0 c.from_residual-in_err-descr.ensures)
     (refused_by text at c.in_err-descr.field-0.0 _ (no_descr text at all _ _ h.of_order c.in_ok-order.was s.0 s.1 _ (descr_refused text at _ h.of_descr _ c.in_err-descr.was)))
 
@@ -37,7 +36,7 @@ pub returns : goal.returns
 returns c =
     λ text at h.
     let all = sym h.of_strings ∙ not-false _ c.if-not-walked.false in
-    let s = shape_is text at _ h.of_shape _ c.in_ok-shape.was in
+    let s = shape_is text at _ h.of_shape _ c.in-Ok.is in
     let d = descr_is text at _ h.of_descr _ c.in_ok-descr.was in
     limit_kept text at s.0 d.0 _ _ _ s.2 d.2 _ c.within.ensures _ (with_descr text at all _ _ h.of_order c.in_ok-order.was s.0 s.1 d.0 d.1) c.in_ok-within.was
 
@@ -45,7 +44,7 @@ pub returns-in_err-within : goal.returns-in_err-within
 returns-in_err-within c =
     λ text at h.
     let all = sym h.of_strings ∙ not-false _ c.if-not-walked.false in
-    let s = shape_is text at _ h.of_shape _ c.in_ok-shape.was in
+    let s = shape_is text at _ h.of_shape _ c.in-Ok.is in
     let d = descr_is text at _ h.of_descr _ c.in_ok-descr.was in
     rw (handed_on _ c.in_err-within.field-0.0 c.from_residual-in_err-within.ensures)
     (refused_by text at c.in_err-within.field-0.0 _ (with_descr text at all _ _ h.of_order c.in_ok-order.was s.0 s.1 d.0 d.1 ∙ limit_broken text at s.0 d.0 _ _ _ s.2 d.2 _ c.within.ensures _ c.in_err-within.was))

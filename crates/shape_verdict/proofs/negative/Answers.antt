@@ -6,8 +6,8 @@ use Rattle.shape_verdict.proofs.negative.Goals as goal
 pub returns-in-Some-eq0-clause-by_index : goal.returns-in-Some-eq0-clause-by_index
 returns-in-Some-eq0-clause-by_index c = λ m e. negative_zero _ _ m c.in-Some-eq0.is (sym c.in-Some-eq0.field-0-is ∙ c.in-Some-eq0.field-0-test) e
 
-pub returns-in_default-clause-by_index : goal.returns-in_default-clause-by_index
-returns-in_default-clause-by_index c = λ m e. negative_more _ _ m c.in_default.is (λ z. c.in_default.field-0-test.1 (c.in_default.field-0-is ∙ z)) e
+pub returns-in-Some-clause-by_index : goal.returns-in-Some-clause-by_index
+returns-in-Some-clause-by_index c = λ m e. negative_more _ _ m c.in-Some.is (λ z. c.in-Some.field-0-test.1 (c.in-Some.field-0-is ∙ z)) e
 
-pub returns-in_default-2-clause-by_index : goal.returns-in_default-2-clause-by_index
-returns-in_default-2-clause-by_index c = λ m e. negative_over _ m c.in_default.is e
+pub returns-in-None-clause-by_index : goal.returns-in-None-clause-by_index
+returns-in-None-clause-by_index c = λ m e. negative_over _ m c.in-None.is e

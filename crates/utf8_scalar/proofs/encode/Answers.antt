@@ -1,7 +1,7 @@
 -- `utf8_scalar::encode` meets its contract: the library's encoding is that of Table 3-6, and it is copied where the room has its length.
 use Rattle.std.specs.Prelude.{Option, Some, Err, is_some}
 use Prim.Native.Nat.{ℕ}
-use mathlib.Core.Path.{◌≡◌, sym, ap, ◌∙◌, subst}
+use mathlib.Core.Path.{◌≡◌, refl, sym, ap, ◌∙◌, subst}
 use mathlib.Core.Bool.{true}
 use mathlib.Core.List.{List}
 use native.Mathlib.Omega.{arith}
@@ -45,4 +45,4 @@ returns-then-room-encoded c =
 pub returns : goal.returns
 returns c =
     let d = (goal.at.returns c).After-as_bytes-encoded in
-    written _ _ _ _ (scalar d) (bytes d) c.if-room-encoded.false c.copy_from_slice.ensures.after
+    rw c.put.ensures (written _ _ _ _ (scalar d) (bytes d) c.if-room-encoded.false refl)
