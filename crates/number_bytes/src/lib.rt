@@ -20,8 +20,9 @@ pub fn read(run: &[u8], order: Endianness) -> Option<u64>
             return None;
         }
         let place = match order {
-            Endianness::Little | Endianness::Irrelevant => k,
+            Endianness::Little => k,
             Endianness::Big => run.len() - 1 - k,
+            Endianness::Irrelevant => k,
         };
         n = run[place] as u64 + 0x100 * n;
     }
@@ -35,8 +36,9 @@ pub fn put(out: &mut [u8], at: usize, order: Endianness, width: u8, n: u64) -> u
     let mut p = at;
     for i in 0..width {
         let k = match order {
-            Endianness::Little | Endianness::Irrelevant => i,
+            Endianness::Little => i,
             Endianness::Big => width - 1 - i,
+            Endianness::Irrelevant => i,
         };
         p = emit::put(out, p, byte_of(k, n));
     }

@@ -1,21 +1,27 @@
 -- `number_bytes::put` meets its contract: each turn writes one byte more.
 use Prim.Native.Nat.{ℕ}
-use mathlib.Core.Path.{◌≡◌, refl, sym, ap, ◌∙◌}
+use native.Mathlib.Omega.{arith}
+use mathlib.Core.Path.{◌≡◌, refl, ap, ◌∙◌}
+use mathlib.Core.Logic.{inl, inr}
 use mathlib.Core.List.{◌∷◌, ◌++◌}
 use Rattle.emit.proofs.Pieces.{left_start, left_more, left_end, emits_byte}
 use Rattle.number_bytes.specs.Numbers.{byte_of, out_order}
 use Rattle.number_bytes.proofs.Runs.{length_out, weight, weight_front, weight_back, out_at}
 use Rattle.number_bytes.proofs.put.Goals as goal
-use Rattle.number_bytes.proofs.put.Goals.{Joined-order, in-Little, in-Big}
+use Rattle.number_bytes.proofs.put.Goals.{Joined-order, in-Little, in-Big, in-Irrelevant}
 
 pub loop-i-init : goal.loop-i-init
 loop-i-init c = left_start ◌∷◌ ◌++◌ (λ x. refl) (λ b s x. refl) (out_order _ _ _) _ _
 
 which : (c : goal.Joined-order) → c.match-order.k ≡ weight c.args.order c.args.width c.loop-i.i
-which c = elim c.match-order.branch [
-  | in-Little w ↦ w.k-is ∙ sym (weight_front _ _ _ w.in-Little.is)
-  | in-Big w ↦ w.k-is ∙ sym (weight_back _ _ _ w.in-Big.is)
-]
+which c =
+    let w = c.args.width in
+    let i = c.loop-i.i in
+    elim c.match-order.branch [
+      | in-Little b ↦ omega (arith, b.k-is, weight_front c.args.order w i (inl b.in-Little.is))
+      | in-Big b ↦ omega (arith, b.k-is, weight_back c.args.order w i b.in-Big.is)
+      | in-Irrelevant b ↦ omega (arith, b.k-is, weight_front c.args.order w i (inr b.in-Irrelevant.is))
+    ]
 
 pub loop-i-preserved : goal.loop-i-preserved
 loop-i-preserved c =
