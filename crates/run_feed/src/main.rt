@@ -263,52 +263,36 @@ fn compare(rt: &impl Print, plan: Plan, file: &[u8], fed: &[u8], rooms: &mut Roo
 // What document 02 says of a file for which npy_read returned r: 1 and 2 at byte 8, 4 and 36 at the end of the length field, the others at the header's last byte; and of a file that ends before that,
 // what npy_feed_end returns.
 fn expect(r: u8, file: &[u8], buffer: usize) -> Want {
-    let want = Want {
-        number: r,
-        total: None,
-        from: 0,
-        to: 0,
-    };
     if file.len() < 8 {
-        return want;
+        return wanted(r, None, 0, 0);
     }
     if r == 1 || r == 2 {
-        return Want {
-            total: Some(8),
-            ..want
-        };
+        return wanted(r, Some(8), 0, 0);
     }
     let start = if file[6] == 1 { 10 } else { 12 };
     if file.len() < start {
-        return want;
+        return wanted(r, None, 0, 0);
     }
     if r == 4 {
-        return Want {
-            total: Some(start),
-            ..want
-        };
+        return wanted(r, Some(start), 0, 0);
     }
     let length = number(&file[8..start], Endianness::Little);
     if (buffer as u64) < length {
-        return Want {
-            number: BUFFER,
-            total: Some(start),
-            ..want
-        };
+        return wanted(BUFFER, Some(start), 0, 0);
     }
     if r == 3 {
-        return Want {
-            from: start,
-            to: file.len(),
-            ..want
-        };
+        return wanted(r, None, start, file.len());
     }
     let end = start + at_most(length, file.len() - start);
+    wanted(r, Some(end), start, end)
+}
+
+fn wanted(number: u8, total: Option<usize>, from: usize, to: usize) -> Want {
     Want {
-        total: Some(end),
-        from: start,
-        to: end,
-        ..want
+        number,
+        total,
+        from,
+        to,
     }
 }
 
